@@ -1,0 +1,151 @@
+-- 01's marked examples, as statements over the definitions: "on that column", the bills, the limits, and the main case.
+use Prim.Native.Nat.{ℕ}
+use Prim.Native.String.{String, _++_}
+use mathlib.Core.Path.{_≡_}
+use mathlib.Core.List.{List, [], _∷_}
+use lib.ListN.{replicate}
+use lib.IntN.{pos}
+use Rattle.model.specs.declared.Delivery.{Delivery}
+use Rattle.model.specs.declared.Totals.{Totals}
+use Rattle.model.specs.declared.Counts.{Counts}
+use Rattle.model.specs.Bounds.{blockLimit}
+use Rattle.model.specs.Prices.{factory, limits}
+use Rattle.model.specs.Deliveries.{delivery, noTotals}
+use Rattle.model.specs.Blocks.{Set, blocks}
+use Rattle.model.specs.Calls.{Call, find, range, insert, delete, move}
+use Rattle.model.specs.Layouts.{mostPartitions}
+use Rattle.model.specs.Cost.{costOf}
+use Rattle.model.specs.Moves.{inserted, deleted, moved}
+use Rattle.model.specs.Directory.{directoryNumbers}
+use Rattle.model.specs.Column.{Column}
+use Rattle.model.specs.Accesses.{counts}
+use Rattle.model.specs.Recorder.{recordedFromZeros}
+use Rattle.model.specs.Planner.{PlanResult, planCall}
+use Rattle.model.specs.ColumnCalls.{Called, laidColumn, columnCall}
+use Rattle.model.specs.Text.{bytesOf}
+use Rattle.model.specs.Program.{layplan}
+
+-- "B 2; growers 10, 20 up to 80, each 100 kg, yield 2000", and a free slot
+abbrev pub week : Set
+week = record {
+  block = 2;
+  used = 8;
+  growers = 10 ∷ 20 ∷ 30 ∷ 40 ∷ 50 ∷ 60 ∷ 70 ∷ 80 ∷ 0 ∷ [];
+  weights = 100 ∷ 100 ∷ 100 ∷ 100 ∷ 100 ∷ 100 ∷ 100 ∷ 100 ∷ 0 ∷ [];
+  yields = 2000 ∷ 2000 ∷ 2000 ∷ 2000 ∷ 2000 ∷ 2000 ∷ 2000 ∷ 2000 ∷ 0 ∷ [];
+}
+
+-- a delivery of that week
+abbrev pub of : ℕ → Delivery
+of g = delivery g 100 2000
+
+-- "five finds of 30, one insert of 15 (100, 2000)"
+abbrev pub calls : List Call
+calls = find 30 ∷ find 30 ∷ find 30 ∷ find 30 ∷ find 30 ∷ insert (of 15) ∷ []
+
+-- the planned layout: two partitions of two blocks
+abbrev pub halves : List ℕ
+halves = 1 ∷ 3 ∷ []
+
+-- that column, with these lengths and slices
+abbrev pub columnOf : List ℕ → List ℕ → List ℕ → List ℕ → Column
+columnOf ns gs ws ys = record { directory = directoryNumbers blockLimit (record { block = 2; lengths = ns; fences = 40 ∷ 80 ∷ [] }); growers = gs; weights = ws; yields = ys }
+
+abbrev pub thatColumn : Column
+thatColumn = columnOf (4 ∷ 4 ∷ []) (week .growers) (week .weights) (week .yields)
+
+-- an accepted call
+abbrev pub gives : Totals → Counts → Column → Called
+gives t n c = record { answer = record { refusal = 0; totals = t; counts = n }; column = c }
+
+abbrev pub totals : ℕ → ℕ → ℕ → Totals
+totals r w o = record { records = r; weight = w; oil = o }
+
+-- eight and nine records of the week, and the free slots behind eight and seven of them
+abbrev pub eight : ℕ → List ℕ
+eight n = n ∷ n ∷ n ∷ n ∷ n ∷ n ∷ n ∷ n ∷ 0 ∷ []
+
+abbrev pub nine : ℕ → List ℕ
+nine n = n ∷ n ∷ n ∷ n ∷ n ∷ n ∷ n ∷ n ∷ n ∷ []
+
+abbrev pub seven : ℕ → List ℕ
+seven n = n ∷ n ∷ n ∷ n ∷ n ∷ n ∷ n ∷ 0 ∷ 0 ∷ []
+
+-- "On that column (marked, to be shown of the rules as a group)"
+pub record OnThatColumn : Type 0 where
+  pub laid : laidColumn blockLimit week halves ≡ thatColumn
+  -- "find 30: 1 record, rr 1 sr 1"
+  pub find-30 : columnCall blockLimit thatColumn (find 30) ≡ gives (totals 1 100 200000) (counts 1 1 0) thatColumn
+  -- "find 99: 0 records, rr 1 sr 1"
+  pub find-99 : columnCall blockLimit thatColumn (find 99) ≡ gives noTotals (counts 1 1 0) thatColumn
+  -- "range 40 to 50: 2 records, rr 1 sr 3"
+  pub range-40-50 : columnCall blockLimit thatColumn (range 40 50) ≡ gives (totals 2 200 400000) (counts 1 3 0) thatColumn
+  -- "insert 15: rr 3 rw 3; growers 10 20 30 40 15 60 70 80 50"
+  pub insert-15 : columnCall blockLimit thatColumn (insert (of 15)) ≡ gives noTotals (counts 3 0 3) (columnOf (5 ∷ 4 ∷ []) (10 ∷ 20 ∷ 30 ∷ 40 ∷ 15 ∷ 60 ∷ 70 ∷ 80 ∷ 50 ∷ []) (nine 100) (nine 2000))
+  -- "delete 30: rr 3 sr 1 rw 3; 10 20 40 80 50 60 70"
+  pub delete-30 : columnCall blockLimit thatColumn (delete (of 30)) ≡ gives noTotals (counts 3 1 3) (columnOf (3 ∷ 4 ∷ []) (10 ∷ 20 ∷ 40 ∷ 80 ∷ 50 ∷ 60 ∷ 70 ∷ 0 ∷ 0 ∷ []) (seven 100) (seven 2000))
+  -- "move 20 to 70: rr 3 sr 1 rw 3; 10 40 30 70 50 60 70 80"
+  pub move-20-70 : columnCall blockLimit thatColumn (move (of 20) 70) ≡ gives noTotals (counts 3 1 3) (columnOf (3 ∷ 5 ∷ []) (10 ∷ 40 ∷ 30 ∷ 70 ∷ 50 ∷ 60 ∷ 70 ∷ 80 ∷ 0 ∷ []) (eight 100) (eight 2000))
+  -- "move 70 to 20: same counts; 10 20 30 40 20 60 50 80"
+  pub move-70-20 : columnCall blockLimit thatColumn (move (of 70) 20) ≡ gives noTotals (counts 3 1 3) (columnOf (5 ∷ 3 ∷ []) (10 ∷ 20 ∷ 30 ∷ 40 ∷ 20 ∷ 60 ∷ 50 ∷ 80 ∷ 0 ∷ []) (eight 100) (eight 2000))
+  -- "move 20 to 25: rr 2 sr 1 rw 2"
+  pub move-20-25 : columnCall blockLimit thatColumn (move (of 20) 25) ≡ gives noTotals (counts 2 1 2) (columnOf (4 ∷ 4 ∷ []) (10 ∷ 40 ∷ 30 ∷ 25 ∷ 50 ∷ 60 ∷ 70 ∷ 80 ∷ 0 ∷ []) (eight 100) (eight 2000))
+
+-- "Three partitions also cost 35; one costs 40."
+pub record Costs : Type 0 where
+  pub two : costOf blockLimit factory (blocks week) halves (recordedFromZeros blockLimit week calls) ≡ pos 35
+  pub three : costOf blockLimit factory (blocks week) (0 ∷ 1 ∷ 3 ∷ []) (recordedFromZeros blockLimit week calls) ≡ pos 35
+  pub one : costOf blockLimit factory (blocks week) (3 ∷ []) (recordedFromZeros blockLimit week calls) ≡ pos 40
+
+-- the planner on that week, under a read limit R and an insert limit U, with room for four ends
+abbrev pub planUnder : ℕ → ℕ → PlanResult
+planUnder r u = planCall blockLimit factory (limits r u) week (recordedFromZeros blockLimit week calls) (replicate 4 0)
+
+pub record UnderLimits : Type 0 where
+  pub main : planUnder 100 100 ≡ record { answer = record { refusal = 0; count = 2; cost = pos 35 }; ends = 1 ∷ 3 ∷ 0 ∷ 0 ∷ [] }
+  -- "U 15 permits two partitions, U 14 one"
+  pub insert-15 : mostPartitions factory (limits 100 15) ≡ 2
+  pub insert-14 : mostPartitions factory (limits 100 14) ≡ 1
+  pub plan-15 : planUnder 100 15 ≡ record { answer = record { refusal = 0; count = 2; cost = pos 35 }; ends = 1 ∷ 3 ∷ 0 ∷ 0 ∷ [] }
+  pub plan-14 : planUnder 100 14 ≡ record { answer = record { refusal = 0; count = 1; cost = pos 40 }; ends = 3 ∷ 0 ∷ 0 ∷ 0 ∷ [] }
+  -- "R 4 gives four partitions, bill 40; R 4 with U 20 gives 11"
+  pub read-4 : planUnder 4 100 ≡ record { answer = record { refusal = 0; count = 4; cost = pos 40 }; ends = 0 ∷ 1 ∷ 2 ∷ 3 ∷ [] }
+  pub read-4-insert-20 : planUnder 4 20 ≡ record { answer = record { refusal = 11; count = 0; cost = pos 0 }; ends = 0 ∷ 0 ∷ 0 ∷ 0 ∷ [] }
+
+-- "Main case: prices 3, 1, 2; R 100, U 100; B 2; ..", as layplan's input
+abbrev pub mainInput : String
+mainInput =
+    "          3          1          2\n"
+    ++ "        100        100\n"
+    ++ "          2          8          6\n"
+    ++ "         10        100       2000\n"
+    ++ "         20        100       2000\n"
+    ++ "         30        100       2000\n"
+    ++ "         40        100       2000\n"
+    ++ "         50        100       2000\n"
+    ++ "         60        100       2000\n"
+    ++ "         70        100       2000\n"
+    ++ "         80        100       2000\n"
+    ++ "          1         30          0          0          0\n"
+    ++ "          1         30          0          0          0\n"
+    ++ "          1         30          0          0          0\n"
+    ++ "          1         30          0          0          0\n"
+    ++ "          1         30          0          0          0\n"
+    ++ "          3         15        100       2000          0\n"
+
+-- "Output, whole"
+abbrev pub mainOutput : String
+mainOutput =
+    "          2                  35\n"
+    ++ "          0          1\n"
+    ++ "          2          3\n"
+
+pub record MainCase : Type 0 where
+  pub output : layplan (bytesOf mainInput) ≡ bytesOf mainOutput
+
+-- Partitions that are empty: on the way, first and last. "An empty one only shifts."
+pub record EmptyPartitions : Type 0 where
+  pub insert-past : inserted {A = ℕ} (1 ∷ 0 ∷ 2 ∷ []) 0 9 (1 ∷ 2 ∷ 3 ∷ 0 ∷ 7 ∷ []) ≡ 1 ∷ 9 ∷ 3 ∷ 2 ∷ 7 ∷ []
+  pub delete-past : deleted {A = ℕ} (2 ∷ 0 ∷ 1 ∷ []) 0 1 0 (1 ∷ 2 ∷ 3 ∷ 7 ∷ []) ≡ 1 ∷ 3 ∷ 0 ∷ 7 ∷ []
+  pub forward-past : moved {A = ℕ} (2 ∷ 0 ∷ 2 ∷ 0 ∷ []) 0 0 3 9 (1 ∷ 2 ∷ 3 ∷ 4 ∷ []) ≡ 2 ∷ 4 ∷ 3 ∷ 9 ∷ []
+  pub backward-past : moved {A = ℕ} (0 ∷ 2 ∷ 0 ∷ 2 ∷ []) 3 1 0 9 (1 ∷ 2 ∷ 3 ∷ 4 ∷ []) ≡ 9 ∷ 2 ∷ 1 ∷ 3 ∷ []
