@@ -1,2 +1,21 @@
 -- The laws of the definitions, for every crate above, and the marked examples.
+pub mod Tests
+pub mod ListLaws
+pub mod Places
+pub mod Integers
+pub mod Order
+pub mod Deliveries
+pub mod LayoutLaws
+pub mod SetLaws
+pub mod Parts
+pub mod Fresh
+pub mod CostLaws
+pub mod PlanLaws
+pub mod MoveCases
+pub mod MovesMap
+pub mod MovesBag
+pub mod MovesKeep
+pub mod MovesLengths
+pub mod MovesAgain
+pub mod MovesRows
 pub mod Marked

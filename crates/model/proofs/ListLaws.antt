@@ -1,0 +1,141 @@
+-- Lists and numbers: the lemmas that every other file shares. Assumes nothing.
+use Prim.Native.Nat.{ℕ, zero, suc, _+_, _-_, _*_, _/_, _%_, _≤_, _<_}
+use mathlib.Core.Path.{_≡_, refl, sym, ap, _∙_}
+use mathlib.Core.Bool.{Bool, true, false, _&&_}
+use mathlib.Core.List.{List, [], _∷_, _++_, append-assoc, map, flatten}
+use native.Mathlib.Omega.{arith}
+use native.Mathlib.Numerals.{add-one}
+use native.Mathlib.Nat.{div-add-mod', mod-lt, div-eq-of-lt-le}
+use lib.Dec.{T, leb, leb→le}
+use lib.ListN.{length, getD, take, drop, set, take-append-drop}
+use lib.Seq.{take-suc, take-add, split-at, set-split}
+use Rattle.model.specs.Lists.{sumOf, ceilDiv, upFrom, every, neverFalls}
+use Rattle.model.proofs.Tests.{and-fst, and-snd, and-mk}
+
+-- Sums.
+
+pub sum-append : (a b : List ℕ) → sumOf (a ++ b) ≡ sumOf a + sumOf b
+unfolding sumOf
+sum-append [] b = omega arith
+sum-append (n ∷ a) b = omega (arith, sum-append a b)
+
+-- a list's sum, cut at t
+pub sum-cut : (t : ℕ) (l : List ℕ) → sumOf l ≡ sumOf (take t l) + sumOf (drop t l)
+sum-cut t l = ap sumOf (sym (take-append-drop t l)) ∙ sum-append (take t l) (drop t l)
+
+pub sum-take-next : (l : List ℕ) (i : ℕ) → i < length l → sumOf (take (i + 1) l) ≡ sumOf (take i l) + getD l i 0
+unfolding sumOf
+sum-take-next l i h = rw (add-one, take-suc l i 0, sum-append) (omega arith)
+
+pub sum-take-le : (l : List ℕ) (i : ℕ) → sumOf (take i l) ≤ sumOf l
+sum-take-le l i = omega (arith, sum-cut i l)
+
+-- a part of a list is at most its sum
+pub elem-le : (l : List ℕ) (i : ℕ) → getD l i 0 ≤ sumOf l
+unfolding sumOf
+elem-le [] i = omega arith
+elem-le (n ∷ l) zero = omega arith
+elem-le (n ∷ l) (suc i) = omega (arith, elem-le l i)
+
+-- a sum in two
+pub sum-span : (l : List ℕ) (t k : ℕ) → t ≤ k → sumOf (take k l) ≡ sumOf (take t l) + sumOf (take (k - t) (drop t l))
+sum-span l t k h =
+    let e : k ≡ t + (k - t) = omega arith in
+    ap (λ (n : ℕ). sumOf (take n l)) e ∙ ap sumOf (take-add t (k - t) l) ∙ sum-append _ _
+
+-- Lists that were mapped, joined, or changed at one place.
+
+pub map-take : {A B : Type 0} (f : A → B) (n : ℕ) (l : List A) → map f (take n l) ≡ take n (map f l)
+map-take f zero l = refl
+map-take f (suc n) [] = refl
+map-take {B = B} f (suc n) (x ∷ l) = ap (λ (r : List B). f x ∷ r) (map-take f n l)
+
+pub map-drop : {A B : Type 0} (f : A → B) (n : ℕ) (l : List A) → map f (drop n l) ≡ drop n (map f l)
+map-drop f zero l = refl
+map-drop f (suc n) [] = refl
+map-drop f (suc n) (x ∷ l) = map-drop f n l
+
+module _ {A : Type 0} where
+  pub flatten-append : (a b : List (List A)) → flatten (a ++ b) ≡ flatten a ++ flatten b
+  unfolding flatten
+  flatten-append [] b = refl
+  flatten-append (p ∷ a) b = rw (flatten-append a b, append-assoc)
+
+  -- one partition among others, joined
+  pub flatten-at : (a : List (List A)) (p : List A) (b : List (List A)) → flatten (a ++ p ∷ b) ≡ flatten a ++ (p ++ flatten b)
+  unfolding flatten
+  flatten-at a p b = flatten-append a (p ∷ b)
+
+-- a list in which one element is new
+pub set-one : {A : Type 0} (t : ℕ) (a : A) (l : List A) → t < length l → set l t a ≡ take t l ++ a ∷ drop (t + 1) l
+set-one t a l h = rw add-one (set-split l t a h)
+
+-- Lists by their elements.
+
+pub at-map : (f : ℕ → ℕ) (l : List ℕ) (i : ℕ) → i < length l → getD (map f l) i 0 ≡ f (getD l i 0)
+at-map f [] i h = let z : ⊥ = omega arith in absurd z
+at-map f (x ∷ l) zero h = refl
+at-map f (x ∷ l) (suc i) h = at-map f l i (omega arith)
+
+pub at-upFrom : (a n i : ℕ) → i < n → getD (upFrom a n) i 0 ≡ a + i
+unfolding upFrom
+at-upFrom a zero i h = let z : ⊥ = omega arith in absurd z
+at-upFrom a (suc n) zero h = omega arith
+at-upFrom a (suc n) (suc i) h = omega (arith, at-upFrom (a + 1) n i (omega arith))
+
+pub length-upFrom : (a n : ℕ) → length (upFrom a n) ≡ n
+unfolding upFrom
+length-upFrom a zero = refl
+length-upFrom a (suc n) = ap suc (length-upFrom (a + 1) n)
+
+first-most : (a : ℕ) (l : List ℕ) (j : ℕ) → T (neverFalls (a ∷ l)) → j < length (a ∷ l) → a ≤ getD (a ∷ l) j 0
+unfolding neverFalls
+first-most a l zero h k = omega arith
+first-most a [] (suc j) h k = let z : ⊥ = omega arith in absurd z
+first-most a (b ∷ l) (suc j) h k = omega (arith, leb→le a b (and-fst (leb a b) (neverFalls (b ∷ l)) h), first-most b l j (and-snd (leb a b) (neverFalls (b ∷ l)) h) (omega arith))
+
+tail-sorted : (a : ℕ) (l : List ℕ) → T (neverFalls (a ∷ l)) → T (neverFalls l)
+unfolding neverFalls
+tail-sorted a [] h = tt
+tail-sorted a (b ∷ l) h = and-snd (leb a b) (neverFalls (b ∷ l)) h
+
+pub sorted : (l : List ℕ) (i j : ℕ) → T (neverFalls l) → i ≤ j → j < length l → getD l i 0 ≤ getD l j 0
+sorted [] i j h k m = let z : ⊥ = omega arith in absurd z
+sorted (a ∷ l) zero j h k m = first-most a l j h m
+sorted (a ∷ l) (suc i) zero h k m = let z : ⊥ = omega arith in absurd z
+sorted (a ∷ l) (suc i) (suc j) h k m = sorted l i j (tail-sorted a l h) (omega arith) (omega arith)
+
+pub every-at : (f : ℕ → Bool) (l : List ℕ) (p : ℕ) → T (every f l) → p < length l → T (f (getD l p 0))
+unfolding every
+every-at f [] p h k = let z : ⊥ = omega arith in absurd z
+every-at f (x ∷ l) zero h k = and-fst (f x) (every f l) h
+every-at f (x ∷ l) (suc p) h k = every-at f l p (and-snd (f x) (every f l) h) (omega arith)
+
+pub every-take : {A : Type 0} (f : A → Bool) (n m : ℕ) (l : List A) → n ≤ m → T (every f (take m l)) → T (every f (take n l))
+unfolding every
+every-take f zero m l h t = tt
+every-take f (suc n) zero l h t = let z : ⊥ = omega arith in absurd z
+every-take f (suc n) (suc m) [] h t = tt
+every-take f (suc n) (suc m) (x ∷ l) h t = and-mk (f x) (every f (take n l)) (and-fst (f x) (every f (take m l)) t) (every-take f n m l (omega arith) (and-snd (f x) (every f (take m l)) t))
+
+pub every-part : {A : Type 0} (f : A → Bool) (a n m : ℕ) (l : List A) → a + n ≤ m → T (every f (take m l)) → T (every f (take n (drop a l)))
+unfolding every
+every-part f zero n m l h t = every-take f n m l (omega arith) t
+every-part f (suc a) n zero l h t = let z : ⊥ = omega arith in absurd z
+every-part f (suc a) zero (suc m) [] h t = tt
+every-part f (suc a) (suc n) (suc m) [] h t = tt
+every-part f (suc a) n (suc m) (x ∷ l) h t = every-part f a n m l (omega arith) (and-snd (f x) (every f (take m l)) t)
+
+-- Division rounded up.
+
+pub ceil-least : (n b : ℕ) → 1 ≤ b → n ≤ ceilDiv n b * b
+unfolding ceilDiv
+ceil-least n b h = omega (arith, div-add-mod' (n + (b - 1)) b, mod-lt (n + (b - 1)) h)
+
+pub ceil-most : (n b : ℕ) → 1 ≤ b → ceilDiv n b * b < n + b
+unfolding ceilDiv
+ceil-most n b h = omega (arith, div-add-mod' (n + (b - 1)) b)
+
+pub ceil-only : (n b q : ℕ) → 1 ≤ b → n ≤ q * b → q * b < n + b → ceilDiv n b ≡ q
+unfolding ceilDiv
+ceil-only n b q h l m = div-eq-of-lt-le b (omega arith) (omega arith)

@@ -1,0 +1,179 @@
+-- An unpartitioned set that passes its checks: its blocks, its slots, and that a grower's block lies in its partition. Assumes nothing.
+use Prim.Native.Nat.{ℕ, zero, suc, _+_, _-_, _*_, _≤_, _<_, min, max}
+use mathlib.Core.Path.{_≡_, refl, sym, ap, _∙_, subst}
+use mathlib.Core.Bool.{Bool, true, false, _&&_}
+use mathlib.Core.List.{List, [], _∷_, _++_, map}
+use native.Mathlib.Omega.{arith}
+use native.Mathlib.Decide.{ℕ-discrete, decLe}
+use native.Mathlib.Nat.{mul-le-mul-right}
+use lib.Dec.{T, leb, eqb, leb→le, eqb→eq}
+use lib.ListN.{length, getD, take, length-map}
+use lib.Seq.{length-take-le, getD-take}
+use Rattle.model.specs.Lists.{upFrom, every, neverFalls}
+use Rattle.model.specs.Checks.{ask, firstFailed}
+use Rattle.model.specs.Place.{place}
+use Rattle.model.specs.Deliveries.{inRange}
+use Rattle.model.specs.Blocks.{Set, held, blocks, blockStop, lastGrower, blockOf, blockLengthOk, slotsOk, slicesOk, usedOk, growersOk, valuesOk}
+use Rattle.model.specs.Layouts.{endOf, firstOf}
+use Rattle.model.specs.Questions.{setChecks}
+use Rattle.model.proofs.Tests.{and-fst, and-snd, yes-first}
+use Rattle.model.proofs.ListLaws.{at-map, at-upFrom, length-upFrom, sorted, ceil-least, ceil-most}
+use Rattle.model.proofs.Places.{Placed, placed, placed-only, placed-mono}
+use Rattle.model.proofs.LayoutLaws.{Cut, cut-count, cut-last, cut-early, Laid}
+
+-- Checks 2 to 5 and 8 of the set, taken apart.
+
+module _ (L : ℕ) where
+  pub record Good (s : Set) : Type 0 where
+    pub block-ok : T (blockLengthOk (s .block))
+    pub slices-ok : T (slicesOk (s .growers) (s .weights) (s .yields))
+    pub values-ok : T (every inRange (held s))
+    pub falls-not : T (neverFalls (take (s .used) (s .growers)))
+    pub b-least : 1 ≤ s .block
+    pub m-least : 1 ≤ s .used
+    pub m-fits : s .used ≤ length (s .growers)
+    pub m-most : s .used ≤ L * s .block
+    pub same-weights : length (s .weights) ≡ length (s .growers)
+    pub same-yields : length (s .yields) ≡ length (s .growers)
+
+  pub good : (s : Set) → firstFailed (setChecks L s ++ ask 8 (valuesOk s) ∷ []) ≡ 0 → Good s
+  unfolding blockLengthOk slotsOk slicesOk usedOk growersOk valuesOk
+  good s h =
+      let c = length (s .growers) in
+      let c2 = yes-first 1 (blockLengthOk (s .block)) _ h in
+      let c3 = yes-first 2 (slicesOk (s .growers) (s .weights) (s .yields)) _ (c2 .1) in
+      let c4 = yes-first 3 (usedOk L s) _ (c3 .1) in
+      let c5 = yes-first 4 (growersOk s) _ (c4 .1) in
+      let c8 = yes-first 7 (valuesOk s) _ (c5 .1) in
+      let u = and-fst (leb 1 (s .used) && leb (s .used) c) (leb (s .used) (L * s .block)) (c4 .0) in
+      let v = and-fst (eqb (length (s .weights)) c && eqb (length (s .yields)) c) (slotsOk c) (c3 .0) in
+      record {
+        block-ok = c2 .0;
+        slices-ok = c3 .0;
+        values-ok = c8 .0;
+        falls-not = c5 .0;
+        b-least = leb→le 1 (s .block) (and-fst (leb 1 (s .block)) (leb (s .block) 4096) (c2 .0));
+        m-least = leb→le 1 (s .used) (and-fst (leb 1 (s .used)) (leb (s .used) c) u);
+        m-fits = leb→le (s .used) c (and-snd (leb 1 (s .used)) (leb (s .used) c) u);
+        m-most = leb→le (s .used) (L * s .block) (and-snd (leb 1 (s .used) && leb (s .used) c) (leb (s .used) (L * s .block)) (c4 .0));
+        same-weights = eqb→eq (length (s .weights)) c (and-fst (eqb (length (s .weights)) c) (eqb (length (s .yields)) c) v);
+        same-yields = eqb→eq (length (s .yields)) c (and-snd (eqb (length (s .weights)) c) (eqb (length (s .yields)) c) v);
+      }
+
+module _ (L : ℕ) (s : Set) (o : Good L s) where
+  -- N
+  pub n-least : 1 ≤ blocks s
+  n-least = go (blocks s) (ceil-least (s .used) (s .block) (o .b-least))
+    where
+      go : (n : ℕ) → s .used ≤ n * s .block → 1 ≤ n
+      go zero h = let z : ⊥ = omega (arith, o .m-least) in absurd z
+      go (suc n) h = omega arith
+
+  pub n-most : blocks s ≤ L
+  n-most = go (decLe (blocks s) L)
+    where
+      go : Dec (blocks s ≤ L) → blocks s ≤ L
+      go (yes h) = h
+      go (no h) =
+          let k : (L + 1) * s .block ≤ blocks s * s .block = mul-le-mul-right (s .block) (omega arith) in
+          let z : ⊥ = omega (arith, k, ceil-most (s .used) (s .block) (o .b-least), o .m-most) in absurd z
+
+  -- slots past a block
+  pub past-early : (i : ℕ) → i + 1 < blocks s → blockStop s i ≡ (i + 1) * s .block
+  past-early i h =
+      let k : (i + 2) * s .block ≤ blocks s * s .block = mul-le-mul-right (s .block) (omega arith) in
+      omega (arith, k, ceil-most (s .used) (s .block) (o .b-least))
+
+  pub past-last : (i : ℕ) → i + 1 ≡ blocks s → blockStop s i ≡ s .used
+  past-last i h =
+      let k : s .used ≤ (i + 1) * s .block = subst (λ (n : ℕ). s .used ≤ n * s .block) (sym h) (ceil-least (s .used) (s .block) (o .b-least)) in
+      omega arith
+
+  pub past-mono : (i j : ℕ) → i ≤ j → blockStop s i ≤ blockStop s j
+  past-mono i j h =
+      let k : i * s .block ≤ j * s .block = mul-le-mul-right (s .block) h in
+      omega arith
+
+  pub past-least : (i : ℕ) → 1 ≤ blockStop s i
+  past-least i = omega (arith, o .b-least, o .m-least)
+
+  -- growers never fall
+  pub growers-rise : (i j : ℕ) → i ≤ j → j < s .used → getD (s .growers) i 0 ≤ getD (s .growers) j 0
+  growers-rise i j h k =
+      let r = sorted (take (s .used) (s .growers)) i j (o .falls-not) h (rw (length-take-le (s .used) (s .growers) (o .m-fits)) k) in
+      rw (← getD-take (s .used) (s .growers) i 0 (omega arith), ← getD-take (s .used) (s .growers) j 0 k) r
+
+  pub lasts-rise : (i j : ℕ) → i ≤ j → lastGrower s i ≤ lastGrower s j
+  lasts-rise i j h = growers-rise (blockStop s i - 1) (blockStop s j - 1) (omega (arith, past-mono i j h)) (omega (arith, o .m-least))
+
+  -- a grower's block
+  pub record Spot (g i : ℕ) : Type 0 where
+    pub within : i < blocks s
+    pub before : (j : ℕ) → j < i → lastGrower s j < g
+    pub here : i + 1 < blocks s → g ≤ lastGrower s i
+
+  lasts-length : length (map (lastGrower s) (upFrom 0 (blocks s))) ≡ blocks s
+  lasts-length = length-map (upFrom 0 (blocks s)) (lastGrower s) ∙ length-upFrom 0 (blocks s)
+
+  lasts-at : (i : ℕ) → i < blocks s → getD (map (lastGrower s) (upFrom 0 (blocks s))) i 0 ≡ lastGrower s i
+  lasts-at i h = at-map (lastGrower s) (upFrom 0 (blocks s)) i (rw length-upFrom h) ∙ ap (lastGrower s) (at-upFrom 0 (blocks s) i h ∙ omega arith)
+
+  block-placed : (g : ℕ) → Placed (map (lastGrower s) (upFrom 0 (blocks s))) g (blockOf s g)
+  unfolding blockOf
+  block-placed g = placed (map (lastGrower s) (upFrom 0 (blocks s))) g (rw lasts-length n-least)
+
+  pub spot : (g : ℕ) → Spot g (blockOf s g)
+  spot g =
+      let p = block-placed g in
+      let w : blockOf s g < blocks s = rw lasts-length at (p .within) in
+      record {
+        within = w;
+        before = λ j h. subst (λ (x : ℕ). x < g) (lasts-at j (omega arith)) (p .before j h);
+        here = λ h. subst (λ (x : ℕ). g ≤ x) (lasts-at (blockOf s g) w) (p .here (rw lasts-length h));
+      }
+
+  pub block-mono : (g h : ℕ) → g ≤ h → blockOf s g ≤ blockOf s h
+  block-mono g h l = placed-mono _ g h _ _ l (block-placed g) (block-placed h)
+
+  module _ (ends : List ℕ) (l : Laid s ends) where
+    pub few : length ends ≤ L
+    few = omega (arith, cut-count 0 ends (blocks s) (l .cut), n-most)
+
+    pub part-placed : (i : ℕ) → Placed ends i (place ends i)
+    part-placed i = placed ends i (l .some)
+
+    -- the partition of a block that there is ends no earlier
+    pub part-end : (i : ℕ) → i < blocks s → i ≤ endOf ends (place ends i)
+    part-end i h = go (ℕ-discrete (place ends i + 1) (length ends))
+      where
+        go : Dec (place ends i + 1 ≡ length ends) → i ≤ endOf ends (place ends i)
+        go (yes e) = omega (arith, cut-last 0 ends (blocks s) (place ends i) (l .cut) e)
+        go (no e) = part-placed i .here (omega (arith, part-placed i .within))
+
+    -- and starts no later
+    pub part-first : (i : ℕ) → firstOf ends (place ends i) ≤ i
+    part-first i = go (place ends i) (part-placed i)
+      where
+        go : (p : ℕ) → Placed ends i p → firstOf ends p ≤ i
+        go zero q = omega arith
+        go (suc p) q = rw (at-map (λ (e : ℕ). e + 1) ends p (omega (arith, q .within))) (omega (arith, q .before p (omega arith)))
+
+    -- a grower's partition is the partition of its block
+    pub target : (g : ℕ) → place (map (lastGrower s) ends) g ≡ place ends (blockOf s g)
+    target g = placed-only (map (lastGrower s) ends) g _ _ (placed (map (lastGrower s) ends) g (rw length-map (l .some))) (record { within = rw length-map (p .within); before = early; here = late })
+      where
+        p : Placed ends (blockOf s g) (place ends (blockOf s g))
+        p = part-placed (blockOf s g)
+
+        q : Spot g (blockOf s g)
+        q = spot g
+
+        early : (j : ℕ) → j < place ends (blockOf s g) → getD (map (lastGrower s) ends) j 0 < g
+        early j h = rw (at-map (lastGrower s) ends j (omega (arith, p .within))) (q .before (endOf ends j) (p .before j h))
+
+        late : place ends (blockOf s g) + 1 < length (map (lastGrower s) ends) → g ≤ getD (map (lastGrower s) ends) (place ends (blockOf s g)) 0
+        late h =
+            let k : place ends (blockOf s g) + 1 < length ends = rw length-map at h in
+            let m : blockOf s g ≤ endOf ends (place ends (blockOf s g)) = p .here k in
+            let n = cut-early 0 ends (blocks s) (place ends (blockOf s g)) (l .cut) k in
+            rw (at-map (lastGrower s) ends (place ends (blockOf s g)) (p .within)) (omega (arith, q .here (omega arith), lasts-rise (blockOf s g) (endOf ends (place ends (blockOf s g))) m))
