@@ -8,13 +8,8 @@ use lib.IntN.{ℤ, pos, _+ℤ_, _*ℤ_}
 use Rattle.model.specs.declared.PriceCard.{PriceCard}
 use Rattle.model.specs.Histograms.{Histogram, histograms, at, count, slot}
 use Rattle.model.specs.Cost.{price, sumBlocks, sumHistograms, costOf}
+use Rattle.model.specs.Laws.{addCounts}
 use Rattle.model.proofs.Integers.{Is, is-pos, is-exists, is-add, is-mul, eq-is}
-
--- two slices of counts, added count by count
-unfoldable pub addCounts : List ℕ → List ℕ → List ℕ
-addCounts [] hs = []
-addCounts (n ∷ ns) [] = []
-addCounts (n ∷ ns) (h ∷ hs) = (n + h) ∷ addCounts ns hs
 
 count-added : (a b : List ℕ) (i : ℕ) → length a ≡ length b → getD (addCounts a b) i 0 ≡ getD a i 0 + getD b i 0
 unfolding addCounts

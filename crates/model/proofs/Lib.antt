@@ -8,6 +8,7 @@ pub mod Deliveries
 pub mod LayoutLaws
 pub mod SetLaws
 pub mod Parts
+pub mod DirectoryLaws
 pub mod Fresh
 pub mod CostLaws
 pub mod PlanLaws
@@ -15,7 +16,10 @@ pub mod MoveCases
 pub mod MovesMap
 pub mod MovesBag
 pub mod MovesKeep
+pub mod SoundLaws
 pub mod MovesLengths
 pub mod MovesAgain
 pub mod MovesRows
+pub mod SliceLaws
+pub mod Laws
 pub mod Marked

@@ -11,7 +11,6 @@ use Rattle.model.specs.Partitions.{parts, free, startOf, between}
 use Rattle.model.specs.Partitions.{part}
 use Rattle.model.proofs.ListLaws.{sum-cut, flatten-append}
 
-
 module _ {A : Type 0} where
   pub flatten-parts : (ns : List ℕ) (s : List A) → flatten (parts ns s) ≡ take (sumOf ns) s
   unfolding flatten parts sumOf

@@ -16,6 +16,7 @@ use Rattle.model.specs.Blocks.{Set, blocks}
 use Rattle.model.specs.Layouts.{isLayout, separatesNone, layoutOk, blockCounts, mostPartitions, longestPartition, permitted, everyLayout}
 use Rattle.model.specs.Cost.{costOf}
 use Rattle.model.specs.Plan.{comesBefore, permittedLayouts, cheapest}
+use Rattle.model.specs.Laws.{IsCheapest}
 use Rattle.model.proofs.Tests.{and-fst, of-true}
 use Rattle.model.proofs.LayoutLaws.{every-layout}
 use Rattle.model.proofs.Order.{comesBefore-antisym, least-in, least-low, least-is, least-none, least-some}
@@ -68,17 +69,12 @@ module _ (p : PriceCard) (l : Limits) (s : Set) where
     abbrev cost : List ℕ → ℤ
     cost ends = costOf L p (blocks s) ends hs
 
-    -- a cheapest layout: permitted, and ahead of each permitted one by cost, count and ends
-    pub record IsCheapest (ends : List ℕ) : Type 0 where
-      pub allowed : T (permitted p l s ends)
-      pub first : (other : List ℕ) → T (permitted p l s other) → T (comesBefore cost ends other)
-
     -- there is one at most
-    pub cheapest-unique : (x y : List ℕ) → IsCheapest x → IsCheapest y → x ≡ y
+    pub cheapest-unique : (x y : List ℕ) → IsCheapest L p l s hs x → IsCheapest L p l s hs y → x ≡ y
     cheapest-unique x y h k = comesBefore-antisym cost x y (h .first y (k .allowed)) (k .first x (h .allowed))
 
     -- what the definition chooses is one
-    pub cheapest-chosen : (ends : List ℕ) → 1 ≤ blocks s → cheapest L p l s hs ≡ some ends → IsCheapest ends
+    pub cheapest-chosen : (ends : List ℕ) → 1 ≤ blocks s → cheapest L p l s hs ≡ some ends → IsCheapest L p l s hs ends
     unfolding cheapest
     cheapest-chosen ends h e = record {
       allowed = listed-permitted ends (least-in cost (permittedLayouts p l s) ends e);
@@ -86,7 +82,7 @@ module _ (p : PriceCard) (l : Limits) (s : Set) where
     }
 
     -- and what is one is chosen
-    pub chosen-cheapest : (ends : List ℕ) → 1 ≤ blocks s → IsCheapest ends → cheapest L p l s hs ≡ some ends
+    pub chosen-cheapest : (ends : List ℕ) → 1 ≤ blocks s → IsCheapest L p l s hs ends → cheapest L p l s hs ≡ some ends
     unfolding cheapest
     chosen-cheapest ends h c = least-is cost (permittedLayouts p l s) ends (permitted-listed h ends (c .allowed)) (λ other m. c .first other (listed-permitted other m))
 

@@ -1,6 +1,6 @@
 -- The laid column (01): the lent directory and slices, laying, and soundness.
 use Prim.Native.Nat.{ℕ, _+_, _-_}
-use mathlib.Core.Bool.{Bool, true, _&&_}
+use mathlib.Core.Bool.{Bool}
 use mathlib.Core.List.{List, [], _∷_, map}
 use lib.ListN.{length}
 use lib.Dec.{ltb, eqb}
@@ -9,7 +9,7 @@ use Rattle.model.specs.Lists.{sumOf, every}
 use Rattle.model.specs.Place.{place}
 use Rattle.model.specs.Deliveries.{rows, inRange, among}
 use Rattle.model.specs.Blocks.{Set, blockStop, lastGrower}
-use Rattle.model.specs.Partitions.{parts, between}
+use Rattle.model.specs.Partitions.{parts, between, everyAt}
 use Rattle.model.specs.Directory.{Directory, directoryOf}
 
 -- what is lent to a call: the directory's numbers and the three slices
@@ -23,10 +23,13 @@ pub record Column : Type 0 where
 abbrev pub slots : Column → List Delivery
 slots c = rows (c .growers) (c .weights) (c .yields)
 
--- "a column is sound if every record is in its grower's partition": partitions p onward, of growers
-unfoldable pub soundFrom : List ℕ → ℕ → List (List ℕ) → Bool
-soundFrom fences p [] = true
-soundFrom fences p (gs ∷ rest) = every (λ (g : ℕ). eqb (place fences g) p) gs && soundFrom fences (p + 1) rest
+-- partition p is grower g's: "the first partition whose fence is at least g, else .. the last"
+abbrev pub inPlace : List ℕ → ℕ → ℕ → Bool
+inPlace fences p g = eqb (place fences g) p
+
+-- "a column is sound if every record is in its grower's partition": growers with these lengths and fences
+unfoldable pub soundGrowers : List ℕ → List ℕ → List ℕ → Bool
+soundGrowers ns fences gs = everyAt (inPlace fences) 0 (parts ns gs)
 
 -- L is the block limit
 module _ (L : ℕ) where
@@ -50,7 +53,7 @@ module _ (L : ℕ) where
 
   -- check 6 of writing: "and sound?"
   unfoldable pub sound : Column → Bool
-  sound c = soundFrom (fencesOf c) 0 (parts (lengthsOf c) (c .growers))
+  sound c = soundGrowers (lengthsOf c) (fencesOf c) (c .growers)
 
   -- check 8: "in each partition scanned"
   unfoldable pub scannedOk : Column → ℕ → ℕ → Bool

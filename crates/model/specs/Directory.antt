@@ -22,14 +22,14 @@ module _ (L : ℕ) where
 
   -- the directory read off its numbers
   unfoldable pub directoryOf : List ℕ → Directory
-  directoryOf ns = record { block = getD ns 0 0; lengths = take (partitionCount ns) (drop 2 ns); fences = take (partitionCount ns) (drop (2 + L) ns) }
+  directoryOf ns = record { block = getD ns 0 0; lengths = take (partitionCount ns) (drop 2 ns); fences = take (partitionCount ns) (drop L (drop 2 ns)) }
 
   -- the numbers that belong to no partition
   unfoldable pub unusedNumbers : List ℕ → List ℕ
-  unusedNumbers ns = drop (partitionCount ns) (take L (drop 2 ns)) ++ drop (partitionCount ns) (drop (2 + L) ns)
+  unusedNumbers ns = drop (partitionCount ns) (take L (drop 2 ns)) ++ drop (partitionCount ns) (drop L (drop 2 ns))
 
   -- the numbers of a directory
-  abbrev padded : List ℕ → List ℕ
+  abbrev pub padded : List ℕ → List ℕ
   padded l = l ++ replicate (L - length l) 0
 
   unfoldable pub directoryNumbers : Directory → List ℕ
@@ -55,4 +55,4 @@ module _ (L : ℕ) where
 
 -- the numbers of a directory whose lengths have changed
 unfoldable pub withLengths : List ℕ → List ℕ → List ℕ
-withLengths ls ns = take 2 ns ++ (ls ++ drop (2 + length ls) ns)
+withLengths ls ns = take 2 ns ++ (ls ++ drop (length ls) (drop 2 ns))

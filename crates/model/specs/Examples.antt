@@ -2,15 +2,18 @@
 use Prim.Native.Nat.{ℕ}
 use Prim.Native.String.{String, _++_}
 use mathlib.Core.Path.{_≡_}
-use mathlib.Core.List.{List, [], _∷_}
+use mathlib.Core.List.{List, [], _∷_, map}
 use lib.ListN.{replicate}
 use lib.IntN.{pos}
 use Rattle.model.specs.declared.Delivery.{Delivery}
 use Rattle.model.specs.declared.Totals.{Totals}
 use Rattle.model.specs.declared.Counts.{Counts}
+use Rattle.model.specs.declared.PriceCard.{PriceCard}
+use Rattle.model.specs.declared.Limits.{Limits}
 use Rattle.model.specs.Bounds.{blockLimit}
+use Rattle.model.specs.Checks.{Check}
 use Rattle.model.specs.Prices.{factory, limits}
-use Rattle.model.specs.Deliveries.{delivery, noTotals}
+use Rattle.model.specs.Deliveries.{delivery, noTotals, firstMatch}
 use Rattle.model.specs.Blocks.{Set, blocks}
 use Rattle.model.specs.Calls.{Call, find, range, insert, delete, move}
 use Rattle.model.specs.Layouts.{mostPartitions}
@@ -19,6 +22,7 @@ use Rattle.model.specs.Moves.{inserted, deleted, moved}
 use Rattle.model.specs.Directory.{directoryNumbers}
 use Rattle.model.specs.Column.{Column}
 use Rattle.model.specs.Accesses.{counts}
+use Rattle.model.specs.Questions.{recorderChecks, costChecks, plannerChecks, applyChecks, columnChecks, partitionChecks, writeChecks, readChecks}
 use Rattle.model.specs.Recorder.{recordedFromZeros}
 use Rattle.model.specs.Planner.{PlanResult, planCall}
 use Rattle.model.specs.ColumnCalls.{Called, laidColumn, columnCall}
@@ -149,3 +153,41 @@ pub record EmptyPartitions : Type 0 where
   pub delete-past : deleted {A = ℕ} (2 ∷ 0 ∷ 1 ∷ []) 0 1 0 (1 ∷ 2 ∷ 3 ∷ 7 ∷ []) ≡ 1 ∷ 3 ∷ 0 ∷ 7 ∷ []
   pub forward-past : moved {A = ℕ} (2 ∷ 0 ∷ 2 ∷ 0 ∷ []) 0 0 3 9 (1 ∷ 2 ∷ 3 ∷ 4 ∷ []) ≡ 2 ∷ 4 ∷ 3 ∷ 9 ∷ []
   pub backward-past : moved {A = ℕ} (0 ∷ 2 ∷ 0 ∷ 2 ∷ []) 3 1 0 9 (1 ∷ 2 ∷ 3 ∷ 4 ∷ []) ≡ 9 ∷ 2 ∷ 1 ∷ 3 ∷ []
+
+-- Refused calls on that column: the first "no" answers, and nothing changes.
+abbrev pub refuses : ℕ → Counts → Called
+refuses n k = record { answer = record { refusal = n; totals = noTotals; counts = k }; column = thatColumn }
+
+abbrev pub fullColumn : Column
+fullColumn = columnOf (4 ∷ 5 ∷ []) (nine 50) (nine 100) (nine 2000)
+
+pub record Refusals : Type 0 where
+  -- "13 reports its scan"
+  pub missing : columnCall blockLimit thatColumn (delete (of 31)) ≡ refuses 13 (counts 1 1 0)
+  pub nowhere : columnCall blockLimit thatColumn (move (of 31) 20) ≡ refuses 13 (counts 1 1 0)
+  pub backwards : columnCall blockLimit thatColumn (range 5 4) ≡ refuses 7 (counts 0 0 0)
+  pub heavy : columnCall blockLimit thatColumn (insert (delivery 15 100001 2000)) ≡ refuses 8 (counts 0 0 0)
+  pub full : columnCall blockLimit fullColumn (insert (of 15)) .answer .refusal ≡ 12
+  -- 8 goes ahead of 12 and of 13
+  pub heavy-and-full : columnCall blockLimit fullColumn (insert (delivery 15 100001 2000)) .answer .refusal ≡ 8
+  pub rich-and-missing : columnCall blockLimit thatColumn (delete (delivery 31 100 10001)) ≡ refuses 8 (counts 0 0 0)
+  -- of two equal deliveries the lower slot goes
+  pub lowest : firstMatch (of 20) (of 10 ∷ of 20 ∷ of 20 ∷ []) ≡ 1
+
+abbrev pub number : Check → ℕ
+number c = c .number
+
+-- The numbers of the checks that each call puts, in order.
+pub record QuestionsInOrder (L : ℕ) : Type 0 where
+  pub recorder : (s : Set) (hs : List ℕ) (c : Call) → map number (recorderChecks L s hs c) ≡ 2 ∷ 3 ∷ 4 ∷ 5 ∷ 7 ∷ 8 ∷ 9 ∷ 10 ∷ []
+  pub cost : (p : PriceCard) (s : Set) (ends hs : List ℕ) → map number (costChecks L p s ends hs) ≡ 1 ∷ 2 ∷ 3 ∷ 4 ∷ 5 ∷ 6 ∷ 8 ∷ 9 ∷ []
+  pub planner : (p : PriceCard) (l : Limits) (s : Set) (hs : List ℕ) (needed room : ℕ) → map number (plannerChecks L p l s hs needed room) ≡ 1 ∷ 2 ∷ 3 ∷ 4 ∷ 5 ∷ 8 ∷ 9 ∷ 11 ∷ 15 ∷ []
+  pub applying : (s : Set) (ends : List ℕ) → map number (applyChecks L s ends) ≡ 2 ∷ 3 ∷ 4 ∷ 5 ∷ 6 ∷ 8 ∷ []
+  pub finding : (c : Column) (g : ℕ) → map number (columnChecks L c (find g)) ≡ 2 ∷ 3 ∷ 6 ∷ 8 ∷ []
+  pub ranging : (c : Column) (lo hi : ℕ) → map number (columnChecks L c (range lo hi)) ≡ 2 ∷ 3 ∷ 6 ∷ 7 ∷ 8 ∷ []
+  pub inserting : (c : Column) (d : Delivery) → map number (columnChecks L c (insert d)) ≡ 2 ∷ 3 ∷ 6 ∷ 8 ∷ 12 ∷ []
+  pub deleting : (c : Column) (d : Delivery) → map number (columnChecks L c (delete d)) ≡ 2 ∷ 3 ∷ 6 ∷ 8 ∷ 13 ∷ []
+  pub moving : (c : Column) (d : Delivery) (g : ℕ) → map number (columnChecks L c (move d g)) ≡ 2 ∷ 3 ∷ 6 ∷ 8 ∷ 13 ∷ []
+  pub partition : (ns gs : List ℕ) → map number (partitionChecks L ns gs) ≡ 2 ∷ 3 ∷ 6 ∷ []
+  pub writing : (c : Column) (room : ℕ) → map number (writeChecks L c room) ≡ 2 ∷ 3 ∷ 6 ∷ 6 ∷ 8 ∷ 15 ∷ []
+  pub reading : (text gs ws ys : List ℕ) → map number (readChecks L text gs ws ys) ≡ 3 ∷ 12 ∷ 14 ∷ []

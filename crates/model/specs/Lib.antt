@@ -26,5 +26,6 @@ pub mod Ledger
 pub mod SnapshotCalls
 pub mod Tallies
 pub mod Program
+pub mod Laws
 pub mod Text
 pub mod Examples

@@ -10,9 +10,8 @@ use Rattle.model.specs.Bounds.{mostSlots}
 use Rattle.model.specs.Lists.{sumOf, every, rising, onlyIf, andThen, valueOr, isSome}
 use Rattle.model.specs.Deliveries.{delivery, inRange}
 use Rattle.model.specs.Blocks.{blockLengthOk}
-use Rattle.model.specs.Partitions.{parts}
 use Rattle.model.specs.Directory.{Directory, directoryOf}
-use Rattle.model.specs.Column.{Column, slots, lengthsOf, soundFrom}
+use Rattle.model.specs.Column.{Column, slots, lengthsOf, soundGrowers}
 use Rattle.model.specs.Fields.{Taken, taken, line, takeLine, takeLines, nth}
 
 -- "K lines: length, fence"
@@ -63,7 +62,7 @@ bookOk h b =
     eqb (sumOf (b .directory .lengths)) (h .used)
     && rising (b .directory .fences)
     && every inRange (b .deliveries)
-    && soundFrom (b .directory .fences) 0 (parts (b .directory .lengths) (map (λ (d : Delivery). d .grower) (b .deliveries)))
+    && soundGrowers (b .directory .lengths) (b .directory .fences) (map (λ (d : Delivery). d .grower) (b .deliveries))
 
 -- the book of a header, its partition lines and its delivery lines
 abbrev pub bookOf : Header → List (List ℕ) → List (List ℕ) → Book
