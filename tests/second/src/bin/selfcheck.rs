@@ -1,0 +1,121 @@
+//! Checks the library against the paper's examples, against plain models on
+//! random cases, and the checks themselves against wrong variants.
+//!
+//! The first argument, if any, multiplies the number of random cases.
+
+#[path = "selfcheck/checks.rs"]
+mod checks;
+#[path = "selfcheck/groups.rs"]
+mod groups;
+#[path = "selfcheck/model.rs"]
+mod model;
+#[path = "selfcheck/mutants.rs"]
+mod mutants;
+#[path = "selfcheck/random.rs"]
+mod random;
+#[path = "selfcheck/subject.rs"]
+mod subject;
+
+use groups::Outcome;
+use subject::{Library, Subject};
+
+type Group = fn(&dyn Subject, u64) -> Outcome;
+
+/// Name, function, number of random cases at scale 1.
+const GROUPS: &[(&str, Group, u64)] = &[
+    ("example: find and range", groups::example_reads, 1),
+    (
+        "example: insert, delete and move",
+        groups::example_writes,
+        1,
+    ),
+    ("example: plans, limits and costs", groups::example_plans, 1),
+    ("example: layplan output", groups::example_layplan, 1),
+    ("recorder against its rules", groups::recorder_model, 20_000),
+    (
+        "cost against equations 16 and 17",
+        groups::cost_equation,
+        10_000,
+    ),
+    (
+        "cost and planner against priced reports",
+        groups::cost_reports,
+        4_000,
+    ),
+    (
+        "planner by listing and by table, recorded lists",
+        groups::planner_recorded,
+        6_000,
+    ),
+    (
+        "planner by listing and by table, raw histograms",
+        groups::planner_raw,
+        6_000,
+    ),
+    (
+        "planner by table, up to 64 blocks",
+        groups::planner_large,
+        2_000,
+    ),
+    (
+        "column against ledger, any sound column",
+        groups::column_ledger,
+        20_000,
+    ),
+    (
+        "column against ledger, laid column",
+        groups::laid_ledger,
+        20_000,
+    ),
+    ("column against slot model", groups::column_slots, 20_000),
+    ("column at edges of shape", groups::column_edges, 300),
+    ("column of largest size", groups::column_largest, 1),
+    ("partition slice", groups::partition_slices, 10_000),
+    (
+        "snapshot there and back",
+        groups::snapshot_round_trip,
+        20_000,
+    ),
+    ("snapshot damaged", groups::snapshot_damaged, 60_000),
+    ("layplan against its pieces", groups::layplan_pieces, 60_000),
+    ("tally", groups::tally_sums, 100_000),
+];
+
+fn main() {
+    let scale: f64 = match std::env::args().nth(1) {
+        None => 1.0,
+        Some(text) => match text.parse() {
+            Ok(n) if n > 0.0 => n,
+            _ => {
+                eprintln!("usage: selfcheck [scale above 0]");
+                std::process::exit(2);
+            }
+        },
+    };
+    let mut passed = 0u64;
+    let mut failed = 0u64;
+    let mut report = |name: &str, outcome: Outcome| match outcome {
+        Ok(()) => {
+            passed += 1;
+            println!("ok    {name}");
+        }
+        Err(why) => {
+            failed += 1;
+            println!("FAIL  {name}: {why}");
+        }
+    };
+    for (name, group, cases) in GROUPS {
+        let cases = ((*cases as f64 * scale) as u64).max(1);
+        report(name, groups::guarded(|| group(&Library, cases)));
+    }
+    for (name, outcome) in checks::all() {
+        report(&name, outcome);
+    }
+    for (name, outcome) in mutants::all() {
+        report(&name, outcome);
+    }
+    println!("{passed} passed, {failed} failed");
+    if failed > 0 {
+        std::process::exit(1);
+    }
+}

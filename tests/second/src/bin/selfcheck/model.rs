@@ -1,0 +1,356 @@
+//! Plain models of the rules, written apart from the library.
+
+use crate::subject::{Answer, Call, Column, Set};
+use second::*;
+
+/// The column as a list of lists: the slots follow by joining them.
+#[derive(Clone, Debug)]
+pub struct SlotModel {
+    b: usize,
+    fences: Vec<u32>,
+    parts: Vec<Vec<Delivery>>,
+    free: Vec<Delivery>,
+}
+
+impl SlotModel {
+    pub fn new(c: &Column) -> SlotModel {
+        let mut s = 0;
+        let mut parts = Vec::new();
+        for n in c.lengths() {
+            parts.push((s..s + n).map(|i| c.slot(i)).collect());
+            s += n;
+        }
+        SlotModel {
+            b: c.directory[0] as usize,
+            fences: c.directory[FENCES..FENCES + c.k()].to_vec(),
+            parts,
+            free: (s..c.growers.len()).map(|i| c.slot(i)).collect(),
+        }
+    }
+
+    pub fn column(&self) -> Column {
+        let mut c = Column {
+            growers: Vec::new(),
+            weights: Vec::new(),
+            yields: Vec::new(),
+            directory: vec![0; DIRECTORY_LEN],
+        };
+        c.directory[0] = self.b as u32;
+        c.directory[1] = self.parts.len() as u32;
+        for (p, part) in self.parts.iter().enumerate() {
+            c.directory[LENGTHS + p] = part.len() as u32;
+            c.directory[FENCES + p] = self.fences[p];
+            part.iter().for_each(|d| c.push(*d));
+        }
+        self.free.iter().for_each(|d| c.push(*d));
+        c
+    }
+
+    fn partition_of(&self, g: u32) -> usize {
+        let before = self.fences.iter().filter(|&&f| f < g).count();
+        before.min(self.fences.len() - 1)
+    }
+
+    /// Blocks of the partitions scanned, or `None` if check 8 refuses one.
+    fn scan(&self, first: usize, last: usize) -> Option<Counts> {
+        let mut blocks = 0;
+        for part in &self.parts[first..=last] {
+            if part
+                .iter()
+                .any(|d| d.weight > 100_000 || d.oil_yield > 10_000)
+            {
+                return None;
+            }
+            let mut n = part.len() / self.b;
+            if part.len() % self.b != 0 {
+                n += 1;
+            }
+            blocks += if n == 0 { 1 } else { n as u64 };
+        }
+        Some(Counts {
+            rr: 1,
+            sr: blocks - 1,
+            rw: 0,
+        })
+    }
+
+    fn read(&self, lo: u32, hi: u32) -> Answer {
+        if lo > hi {
+            return Answer::refused(7);
+        }
+        let (first, last) = (self.partition_of(lo), self.partition_of(hi));
+        let Some(counts) = self.scan(first, last) else {
+            return Answer::refused(8);
+        };
+        let mut totals = Totals::ZERO;
+        for d in self.parts[first..=last].iter().flatten() {
+            if d.grower >= lo && d.grower <= hi {
+                totals.records += 1;
+                totals.weight += u64::from(d.weight);
+                totals.oil += u64::from(d.weight) * u64::from(d.oil_yield);
+            }
+        }
+        Answer {
+            refusal: 0,
+            totals,
+            counts,
+        }
+    }
+
+    fn insert(&mut self, d: Delivery) -> Answer {
+        if d.weight > 100_000 || d.oil_yield > 10_000 {
+            return Answer::refused(8);
+        }
+        if self.free.is_empty() {
+            return Answer::refused(12);
+        }
+        let target = self.partition_of(d.grower);
+        let mut counts = Counts::new(1, 0, 1);
+        for p in target..self.parts.len() {
+            counts.rr += 1;
+            counts.rw += 1;
+            if p > target && !self.parts[p].is_empty() {
+                self.parts[p].rotate_left(1);
+            }
+        }
+        self.parts[target].push(d);
+        self.free.remove(0);
+        Answer {
+            refusal: 0,
+            totals: Totals::ZERO,
+            counts,
+        }
+    }
+
+    fn locate(&self, d: &Delivery) -> Result<(usize, usize, Counts), Answer> {
+        if d.weight > 100_000 || d.oil_yield > 10_000 {
+            return Err(Answer::refused(8));
+        }
+        let p = self.partition_of(d.grower);
+        let Some(counts) = self.scan(p, p) else {
+            return Err(Answer::refused(8));
+        };
+        match self.parts[p].iter().position(|held| held == d) {
+            Some(at) => Ok((p, at, counts)),
+            None => Err(Answer {
+                refusal: 13,
+                totals: Totals::ZERO,
+                counts,
+            }),
+        }
+    }
+
+    fn delete(&mut self, d: Delivery) -> Answer {
+        let (p, at, mut counts) = match self.locate(&d) {
+            Ok(found) => found,
+            Err(answer) => return answer,
+        };
+        self.parts[p].swap_remove(at);
+        counts.rw += 1;
+        for q in p..self.parts.len() {
+            counts.rr += 1;
+            counts.rw += 1;
+            if q > p && !self.parts[q].is_empty() {
+                self.parts[q].rotate_right(1);
+            }
+        }
+        self.free.insert(0, Delivery::default());
+        Answer {
+            refusal: 0,
+            totals: Totals::ZERO,
+            counts,
+        }
+    }
+
+    fn move_delivery(&mut self, d: Delivery, g: u32) -> Answer {
+        let (from, at, mut counts) = match self.locate(&d) {
+            Ok(found) => found,
+            Err(answer) => return answer,
+        };
+        let to = self.partition_of(g);
+        let moved = Delivery { grower: g, ..d };
+        counts.rr += 1;
+        counts.rw += 2;
+        if to >= from {
+            self.parts[from].swap_remove(at);
+            for part in self.parts[from..to].iter_mut().skip(1) {
+                if !part.is_empty() {
+                    part.rotate_right(1);
+                }
+            }
+            if to == from {
+                self.parts[to].push(moved);
+            } else {
+                self.parts[to].insert(0, moved);
+            }
+        } else {
+            self.parts[from].swap(0, at);
+            self.parts[from].remove(0);
+            for part in &mut self.parts[to + 1..from] {
+                if !part.is_empty() {
+                    part.rotate_left(1);
+                }
+            }
+            self.parts[to].push(moved);
+        }
+        let passed = from.abs_diff(to) as u64;
+        counts.rr += passed;
+        counts.rw += passed;
+        Answer {
+            refusal: 0,
+            totals: Totals::ZERO,
+            counts,
+        }
+    }
+
+    pub fn call(&mut self, call: &Call) -> Answer {
+        match *call {
+            Call::Find(g) => self.read(g, g),
+            Call::Range(lo, hi) => self.read(lo, hi),
+            Call::Insert(d) => self.insert(d),
+            Call::Delete(d) => self.delete(d),
+            Call::Move(d, g) => self.move_delivery(d, g),
+        }
+    }
+}
+
+/// The five calls on the ledger.
+pub fn ledger_call(ledger: &mut Ledger, call: &Call) -> (u32, Totals) {
+    match *call {
+        Call::Find(g) => ledger.find(g),
+        Call::Range(lo, hi) => ledger.range(lo, hi),
+        Call::Insert(d) => (ledger.insert(d), Totals::ZERO),
+        Call::Delete(d) => (ledger.delete(d), Totals::ZERO),
+        Call::Move(d, g) => (ledger.move_delivery(d, g), Totals::ZERO),
+    }
+}
+
+/// The counts a call raises on a proper set, as (histogram name, block).
+pub fn raised(set: &Set, call: &Call) -> Vec<(&'static str, usize)> {
+    let records = set.records();
+    let blocks: Vec<&[Delivery]> = records.chunks(set.b as usize).collect();
+    let block = |g: u32| {
+        let short = blocks.iter().filter(|b| b[b.len() - 1].grower < g).count();
+        short.min(blocks.len() - 1)
+    };
+    match *call {
+        Call::Find(g) => vec![("pq", block(g))],
+        Call::Range(lo, hi) => {
+            let (a, z) = (block(lo), block(hi));
+            if a == z {
+                return vec![("pq", a)];
+            }
+            let mut all = vec![("rs", a), ("re", z)];
+            all.extend((a + 1..z).map(|i| ("sc", i)));
+            all
+        }
+        Call::Insert(d) => vec![("in", block(d.grower))],
+        Call::Delete(d) if records.contains(&d) => vec![("de", block(d.grower))],
+        Call::Move(d, g) if records.contains(&d) => {
+            if g < d.grower {
+                vec![("udb", block(d.grower)), ("utb", block(g))]
+            } else {
+                vec![("udf", block(d.grower)), ("utf", block(g))]
+            }
+        }
+        Call::Delete(d) | Call::Move(d, _) => vec![("pq", block(d.grower))],
+    }
+}
+
+/// Index of a named histogram's count.
+pub fn named(name: &str, block: usize) -> usize {
+    let order = [
+        "pq", "rs", "re", "sc", "de", "in", "udf", "utf", "udb", "utb",
+    ];
+    order
+        .iter()
+        .position(|n| *n == name)
+        .expect("a known histogram")
+        * 64
+        + block
+}
+
+/// The bill by 002's equations 16 and 17 over the boundary bits.
+pub fn equation_cost(card: &PriceCard, n: usize, histograms: &[u32], ends: &[u32]) -> i128 {
+    let bit = |i: usize| i128::from(ends.contains(&(i as u32)));
+    let open = |from: usize, to: usize| (from..=to).map(|k| 1 - bit(k)).product::<i128>();
+    let (rr, sr, rw) = (
+        i128::from(card.rr),
+        i128::from(card.sr),
+        i128::from(card.rw),
+    );
+    let mut total = 0;
+    for i in 0..n {
+        let c = |name: &str| i128::from(histograms[named(name, i)]);
+        let back: i128 = (0..i).map(|j| open(j, i - 1)).sum();
+        let front: i128 = (i..n).map(|z| open(i, z)).sum();
+        let trail: i128 = (i..n).map(bit).sum();
+        let fixed = rr * (c("rs") + c("pq") + c("in") + c("de") + 2 * c("udf") + 2 * c("udb"))
+            + sr * (c("re") + c("sc"))
+            + rw * (c("in") + c("de") + 2 * c("udf") + 2 * c("udb"));
+        let found = c("pq") + c("de") + c("udf") + c("udb");
+        let parts = c("in") + c("de") + c("udf") - c("utf") - c("udb") + c("utb");
+        total += fixed
+            + sr * (c("rs") + found) * back
+            + sr * (c("re") + found) * front
+            + (rr + rw) * parts * trail;
+    }
+    total
+}
+
+/// Text of lines of numbers in 11 columns.
+pub fn text_of(lines: &[Vec<u64>]) -> Vec<u8> {
+    let mut text = String::new();
+    for line in lines {
+        for n in line {
+            text.push_str(&format!("{n:>11}"));
+        }
+        text.push('\n');
+    }
+    text.into_bytes()
+}
+
+/// Lines of numbers, if the text is exactly what `text_of` prints for them.
+/// `fields` answers how many numbers the next line has, given the lines so
+/// far, or `None` if there must be no further line.
+pub fn lines_of(
+    text: &[u8],
+    fields: &dyn Fn(usize, &[Vec<u64>]) -> Option<usize>,
+) -> Option<Vec<Vec<u64>>> {
+    let text = std::str::from_utf8(text).ok()?;
+    let mut lines: Vec<Vec<u64>> = Vec::new();
+    for line in text.lines() {
+        let count = fields(lines.len(), &lines)?;
+        if !line.is_ascii() || line.len() != 11 * count {
+            return None;
+        }
+        let numbers: Option<Vec<u64>> = (0..count)
+            .map(|i| line[11 * i..11 * i + 11].trim().parse().ok())
+            .collect();
+        lines.push(numbers?);
+    }
+    (text_of(&lines) == text.as_bytes()).then_some(lines)
+}
+
+/// The snapshot text of a sound column, printed plainly.
+pub fn snapshot_text(c: &Column) -> Vec<u8> {
+    let mut lines = vec![vec![
+        u64::from(c.directory[0]),
+        c.used() as u64,
+        u64::from(c.directory[1]),
+    ]];
+    for p in 0..c.k() {
+        lines.push(vec![
+            u64::from(c.directory[LENGTHS + p]),
+            u64::from(c.directory[FENCES + p]),
+        ]);
+    }
+    for d in c.records() {
+        lines.push(vec![
+            u64::from(d.grower),
+            u64::from(d.weight),
+            u64::from(d.oil_yield),
+        ]);
+    }
+    text_of(&lines)
+}

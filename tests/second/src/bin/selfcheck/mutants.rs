@@ -1,0 +1,982 @@
+//! Deliberately wrong variants. Each must be detected by the comparison that
+//! is named for it; otherwise that comparison proves nothing.
+
+use crate::groups::{self, Outcome};
+use crate::subject::*;
+use second::planner::layout_of_bits;
+use second::recorder::*;
+use second::*;
+
+type Group = fn(&dyn Subject, u64) -> Outcome;
+
+/// Number of random cases that must suffice.
+const CASES: u64 = 2_000;
+
+/// A subject in which some calls are replaced.
+#[derive(Default)]
+struct Mutant {
+    call: Option<fn(&mut Column, &Call) -> Answer>,
+    record: Option<fn(&UnlaidSet, &mut [u32], &Call) -> u32>,
+    cost: Option<fn(&PriceCard, &UnlaidSet, &[u32], &[u32]) -> CostAnswer>,
+    plan: Option<fn(&PriceCard, &Limits, &UnlaidSet, &[u32], &mut [u32]) -> PlanAnswer>,
+    apply: Option<fn(&UnlaidSet, &[u32]) -> DirectoryAnswer>,
+    read: Option<fn(&[u8], &mut Column) -> DirectoryAnswer>,
+    write: Option<fn(&Column, &mut [u8]) -> SnapshotAnswer>,
+    tally: Option<fn(&mut Tally, &Counts) -> u32>,
+    layplan: Option<fn(&[u8]) -> Vec<u8>>,
+}
+
+impl Subject for Mutant {
+    fn call(&self, c: &mut Column, call: &Call) -> Answer {
+        match self.call {
+            Some(f) => f(c, call),
+            None => Library.call(c, call),
+        }
+    }
+
+    fn record(&self, set: &UnlaidSet, h: &mut [u32], call: &Call) -> u32 {
+        match self.record {
+            Some(f) => f(set, h, call),
+            None => Library.record(set, h, call),
+        }
+    }
+
+    fn cost(&self, card: &PriceCard, set: &UnlaidSet, h: &[u32], ends: &[u32]) -> CostAnswer {
+        self.cost.map_or_else(
+            || Library.cost(card, set, h, ends),
+            |f| f(card, set, h, ends),
+        )
+    }
+
+    fn plan(
+        &self,
+        card: &PriceCard,
+        limits: &Limits,
+        set: &UnlaidSet,
+        h: &[u32],
+        out: &mut [u32],
+    ) -> PlanAnswer {
+        match self.plan {
+            Some(f) => f(card, limits, set, h, out),
+            None => Library.plan(card, limits, set, h, out),
+        }
+    }
+
+    fn apply(&self, set: &UnlaidSet, ends: &[u32]) -> DirectoryAnswer {
+        self.apply
+            .map_or_else(|| Library.apply(set, ends), |f| f(set, ends))
+    }
+
+    fn snapshot_read(&self, text: &[u8], c: &mut Column) -> DirectoryAnswer {
+        match self.read {
+            Some(f) => f(text, c),
+            None => Library.snapshot_read(text, c),
+        }
+    }
+
+    fn snapshot_write(&self, c: &Column, out: &mut [u8]) -> SnapshotAnswer {
+        match self.write {
+            Some(f) => f(c, out),
+            None => Library.snapshot_write(c, out),
+        }
+    }
+
+    fn tally_add(&self, tally: &mut Tally, counts: &Counts) -> u32 {
+        match self.tally {
+            Some(f) => f(tally, counts),
+            None => Library.tally_add(tally, counts),
+        }
+    }
+
+    fn layplan(&self, text: &[u8]) -> Vec<u8> {
+        self.layplan.unwrap_or(layplan)(text)
+    }
+}
+
+/// t without the block's own partition.
+fn t_without_own(card: &PriceCard, set: &UnlaidSet, h: &[u32], ends: &[u32]) -> CostAnswer {
+    let mut a = cost(card, set, h, ends);
+    if a.refusal == 0 {
+        for i in 0..set.blocks() {
+            let c = |n: usize| i64::from(h[count_index(n, i)]);
+            let parts = c(IN) + c(DE) + c(UDF) - c(UTF) - c(UDB) + c(UTB);
+            a.bill -= i64::from(card.rr + card.rw) * parts;
+        }
+    }
+    a
+}
+
+/// The last range block costs a random read too.
+fn range_end_random(card: &PriceCard, set: &UnlaidSet, h: &[u32], ends: &[u32]) -> CostAnswer {
+    let mut a = cost(card, set, h, ends);
+    if a.refusal == 0 {
+        for i in 0..set.blocks() {
+            a.bill += i64::from(card.rr) * i64::from(h[count_index(RE, i)]);
+        }
+    }
+    a
+}
+
+/// A planner by listing with another rule for limits or order.
+fn variant_plan(
+    input: (&PriceCard, &Limits, &UnlaidSet, &[u32], &mut [u32]),
+    most: i64,
+    longest: i64,
+    ahead: fn(&(i64, Vec<u32>), &(i64, Vec<u32>)) -> bool,
+) -> PlanAnswer {
+    let (card, limits, set, h, out) = input;
+    let right = plan_by_table(card, limits, set, h, &mut [0; 64]);
+    if right.refusal != 0 && right.refusal != 11 {
+        return right;
+    }
+    let n = set.blocks();
+    let mut best: Option<(i64, Vec<u32>)> = None;
+    for inner in 0..1u32 << (n - 1) {
+        let ends = layout_of_bits(inner, n);
+        let mut first = 0;
+        let mut fits = ends.len() as i64 <= most;
+        for &end in &ends {
+            fits &= i64::from(end) + 1 - first <= longest;
+            first = i64::from(end) + 1;
+        }
+        let a = cost(card, set, h, &ends);
+        if !fits || a.refusal != 0 {
+            continue;
+        }
+        let candidate = (a.bill, ends);
+        if best.as_ref().is_none_or(|held| ahead(&candidate, held)) {
+            best = Some(candidate);
+        }
+    }
+    match best {
+        None => PlanAnswer {
+            refusal: 11,
+            count: 0,
+            bill: 0,
+        },
+        Some((_, ends)) if ends.len() > out.len() => PlanAnswer {
+            refusal: 15,
+            count: 0,
+            bill: 0,
+        },
+        Some((bill, ends)) => {
+            out[..ends.len()].copy_from_slice(&ends);
+            PlanAnswer {
+                refusal: 0,
+                count: ends.len(),
+                bill,
+            }
+        }
+    }
+}
+
+fn most_of(card: &PriceCard, limits: &Limits) -> i64 {
+    i64::from(limits.insert / (card.rr + card.rw)) - 1
+}
+
+fn longest_of(card: &PriceCard, limits: &Limits) -> i64 {
+    if limits.read < card.rr {
+        0
+    } else {
+        i64::from((limits.read - card.rr) / card.sr)
+    }
+}
+
+fn right_order(x: &(i64, Vec<u32>), y: &(i64, Vec<u32>)) -> bool {
+    (x.0, x.1.len(), &x.1) < (y.0, y.1.len(), &y.1)
+}
+
+fn tie_most_partitions(
+    c: &PriceCard,
+    l: &Limits,
+    s: &UnlaidSet,
+    h: &[u32],
+    o: &mut [u32],
+) -> PlanAnswer {
+    variant_plan((c, l, s, h, o), most_of(c, l), longest_of(c, l), |x, y| {
+        (x.0, y.1.len(), &x.1) < (y.0, x.1.len(), &y.1)
+    })
+}
+
+fn tie_larger_end(
+    c: &PriceCard,
+    l: &Limits,
+    s: &UnlaidSet,
+    h: &[u32],
+    o: &mut [u32],
+) -> PlanAnswer {
+    variant_plan((c, l, s, h, o), most_of(c, l), longest_of(c, l), |x, y| {
+        (x.0, x.1.len(), &y.1) < (y.0, y.1.len(), &x.1)
+    })
+}
+
+fn one_partition_more(
+    c: &PriceCard,
+    l: &Limits,
+    s: &UnlaidSet,
+    h: &[u32],
+    o: &mut [u32],
+) -> PlanAnswer {
+    variant_plan(
+        (c, l, s, h, o),
+        most_of(c, l) + 1,
+        longest_of(c, l),
+        right_order,
+    )
+}
+
+fn one_block_more(
+    c: &PriceCard,
+    l: &Limits,
+    s: &UnlaidSet,
+    h: &[u32],
+    o: &mut [u32],
+) -> PlanAnswer {
+    variant_plan(
+        (c, l, s, h, o),
+        most_of(c, l),
+        longest_of(c, l) + 1,
+        right_order,
+    )
+}
+
+fn always_one_partition(
+    c: &PriceCard,
+    l: &Limits,
+    s: &UnlaidSet,
+    h: &[u32],
+    o: &mut [u32],
+) -> PlanAnswer {
+    variant_plan(
+        (c, l, s, h, o),
+        most_of(c, l).min(1),
+        longest_of(c, l),
+        right_order,
+    )
+}
+
+fn always_11(_: &PriceCard, _: &Limits, _: &UnlaidSet, _: &[u32], _: &mut [u32]) -> PlanAnswer {
+    PlanAnswer {
+        refusal: 11,
+        count: 0,
+        bill: 0,
+    }
+}
+
+/// Only the first call of a list is entered.
+fn only_first_call(set: &UnlaidSet, h: &mut [u32], call: &Call) -> u32 {
+    if h.iter().any(|&n| n > 0) {
+        let mut scratch = h.to_vec();
+        return library_record(set, &mut scratch, call);
+    }
+    library_record(set, h, call)
+}
+
+/// A range within one block enters rs and re.
+fn range_never_pq(set: &UnlaidSet, h: &mut [u32], call: &Call) -> u32 {
+    if let Call::Range(lo, hi) = *call {
+        let mut scratch = h.to_vec();
+        let number = library_record(set, &mut scratch, call);
+        if number == 0 && set.block_of(lo) == set.block_of(hi) {
+            h[count_index(RS, set.block_of(lo))] += 1;
+            h[count_index(RE, set.block_of(hi))] += 1;
+            return 0;
+        }
+    }
+    library_record(set, h, call)
+}
+
+/// An absent delivery is entered as if it were there.
+fn absent_as_delete(set: &UnlaidSet, h: &mut [u32], call: &Call) -> u32 {
+    if let Call::Delete(d) = *call {
+        let mut scratch = h.to_vec();
+        let number = library_record(set, &mut scratch, call);
+        if number == 0 {
+            h[count_index(DE, set.block_of(d.grower))] += 1;
+        }
+        return number;
+    }
+    library_record(set, h, call)
+}
+
+/// Equal growers and a new grower that is not smaller go backward.
+fn equal_move_backward(set: &UnlaidSet, h: &mut [u32], call: &Call) -> u32 {
+    if let Call::Move(d, g) = *call {
+        let mut scratch = h.to_vec();
+        let number = library_record(set, &mut scratch, call);
+        if number == 0 && g == d.grower && set.contains(&d) {
+            h[count_index(UDB, set.block_of(g))] += 1;
+            h[count_index(UTB, set.block_of(g))] += 1;
+            return 0;
+        }
+    }
+    library_record(set, h, call)
+}
+
+/// The steps of an accepted insert done by hand; `step` moves one record of
+/// a partition that holds `n`.
+fn insert_by_hand(
+    c: &mut Column,
+    d: Delivery,
+    step: &mut dyn FnMut(&mut Column, usize, usize, usize),
+) {
+    let lengths = c.lengths();
+    let target = c.partition_of(d.grower);
+    let mut hole = c.used();
+    for p in (target + 1..lengths.len()).rev() {
+        let n = lengths[p];
+        step(c, hole - n, hole, n);
+        hole -= n;
+    }
+    c.store(hole, d);
+    c.directory[LENGTHS + target] += 1;
+}
+
+/// Insert as `steps` does it; every refusal and other call as the library.
+fn with_insert(c: &mut Column, call: &Call, steps: fn(&mut Column, Delivery)) -> Answer {
+    let Call::Insert(d) = *call else {
+        return library_call(c, call);
+    };
+    let before = c.clone();
+    let a = library_call(c, call);
+    if a.refusal == 0 {
+        *c = before;
+        steps(c, d);
+    }
+    a
+}
+
+/// Two of the three columns move.
+fn two_columns(c: &mut Column, call: &Call) -> Answer {
+    with_insert(c, call, |c, d| {
+        insert_by_hand(c, d, &mut |c, from, to, n| {
+            if n > 0 {
+                c.growers[to] = c.growers[from];
+                c.weights[to] = c.weights[from];
+            }
+        })
+    })
+}
+
+/// The yield stays behind once an empty partition has been passed.
+fn yield_behind_after_empty(c: &mut Column, call: &Call) -> Answer {
+    with_insert(c, call, |c, d| {
+        let mut passed_empty = false;
+        insert_by_hand(c, d, &mut |c, from, to, n| {
+            if n == 0 {
+                passed_empty = true;
+                return;
+            }
+            c.growers[to] = c.growers[from];
+            c.weights[to] = c.weights[from];
+            if !passed_empty {
+                c.yields[to] = c.yields[from];
+            }
+        })
+    })
+}
+
+/// The new record goes to the column's end and the partitions are relabelled.
+fn relabel(c: &mut Column, call: &Call) -> Answer {
+    with_insert(c, call, |c, d| {
+        let end = c.used();
+        c.store(end, d);
+        let p = c.partition_of(d.grower);
+        c.directory[LENGTHS + p] += 1;
+    })
+}
+
+/// Only the last partition's record moves; the others are relabelled.
+fn relabel_all_but_last(c: &mut Column, call: &Call) -> Answer {
+    with_insert(c, call, |c, d| {
+        let (end, k) = (c.used(), c.k());
+        let last = c.lengths()[k - 1];
+        let p = c.partition_of(d.grower);
+        let mut at = end;
+        if p < k - 1 && last > 0 {
+            let moved = c.slot(end - last);
+            c.store(end, moved);
+            at = end - last;
+        }
+        c.store(at, d);
+        c.directory[LENGTHS + p] += 1;
+    })
+}
+
+/// Only the length is kept.
+fn length_only(c: &mut Column, call: &Call) -> Answer {
+    with_insert(c, call, |c, d| {
+        let p = c.partition_of(d.grower);
+        c.directory[LENGTHS + p] += 1;
+    })
+}
+
+/// Fences follow the inserted growers.
+fn fence_follows(c: &mut Column, call: &Call) -> Answer {
+    let a = library_call(c, call);
+    if let (Call::Insert(d), 0) = (call, a.refusal) {
+        let p = c.partition_of(d.grower);
+        c.directory[FENCES + p] = c.directory[FENCES + p].max(d.grower);
+    }
+    a
+}
+
+/// 12 with one slot still free.
+fn full_too_early(c: &mut Column, call: &Call) -> Answer {
+    if matches!(call, Call::Insert(d) if d.in_range()) && c.used() + 1 == c.growers.len() {
+        return Answer::refused(12);
+    }
+    library_call(c, call)
+}
+
+/// 13 without the counts of its scan.
+fn absent_unscanned(c: &mut Column, call: &Call) -> Answer {
+    let mut a = library_call(c, call);
+    if a.refusal == 13 {
+        a.counts = Counts::ZERO;
+    }
+    a
+}
+
+/// Counts always zero.
+fn no_counts(c: &mut Column, call: &Call) -> Answer {
+    let mut a = library_call(c, call);
+    a.counts = Counts::ZERO;
+    a
+}
+
+/// An empty partition counts no block.
+fn empty_unread(c: &mut Column, call: &Call) -> Answer {
+    let mut a = library_call(c, call);
+    if let (Call::Find(g), 0) = (call, a.refusal) {
+        if c.lengths()[c.partition_of(*g)] == 0 {
+            a.counts = Counts::ZERO;
+        }
+    }
+    a
+}
+
+/// Each partition of a range begins with a random read.
+fn random_read_each(c: &mut Column, call: &Call) -> Answer {
+    let mut a = library_call(c, call);
+    if let (Call::Range(lo, hi), 0) = (call, a.refusal) {
+        let more = (c.partition_of(*hi) - c.partition_of(*lo)) as u64;
+        a.counts.rr += more;
+        a.counts.sr -= more;
+    }
+    a
+}
+
+/// Delete by hand: `pick` chooses among the matching slots; an empty
+/// partition gives up a record if `out_of_empty`.
+fn delete_by_hand(c: &mut Column, d: Delivery, highest: bool, out_of_empty: bool) {
+    let lengths = c.lengths();
+    let p = c.partition_of(d.grower);
+    let start: usize = lengths[..p].iter().sum();
+    let mut matches = (start..start + lengths[p]).filter(|&s| c.slot(s) == d);
+    let slot = if highest {
+        matches.next_back()
+    } else {
+        matches.next()
+    }
+    .expect("a match");
+    let mut hole = start + lengths[p] - 1;
+    let last = c.slot(hole);
+    c.store(slot, last);
+    for &n in &lengths[p + 1..] {
+        let n = if out_of_empty { n.max(1) } else { n };
+        if n > 0 && hole + n < c.growers.len() {
+            let moved = c.slot(hole + n);
+            c.store(hole, moved);
+            hole += n;
+        }
+    }
+    c.store(hole, Delivery::default());
+    c.directory[LENGTHS + p] -= 1;
+}
+
+fn with_delete(c: &mut Column, call: &Call, steps: fn(&mut Column, Delivery)) -> Answer {
+    let Call::Delete(d) = *call else {
+        return library_call(c, call);
+    };
+    let before = c.clone();
+    let a = library_call(c, call);
+    if a.refusal == 0 {
+        *c = before;
+        steps(c, d);
+    }
+    a
+}
+
+/// The highest matching slot instead of the lowest.
+fn highest_match(c: &mut Column, call: &Call) -> Answer {
+    with_delete(c, call, |c, d| delete_by_hand(c, d, true, false))
+}
+
+/// A record is moved out of an empty partition.
+fn out_of_empty(c: &mut Column, call: &Call) -> Answer {
+    with_delete(c, call, |c, d| delete_by_hand(c, d, false, true))
+}
+
+/// The freed slot keeps its old record.
+fn freed_not_zero(c: &mut Column, call: &Call) -> Answer {
+    let used = c.used();
+    let old = if used > 0 {
+        c.slot(used - 1)
+    } else {
+        Delivery::default()
+    };
+    let a = library_call(c, call);
+    if let (Call::Delete(_), 0) = (call, a.refusal) {
+        c.store(used - 1, old);
+    }
+    a
+}
+
+/// Equal growers suffice; weight and yield are not compared.
+fn grower_alone(c: &mut Column, call: &Call) -> Answer {
+    let a = library_call(c, call);
+    if let (Call::Delete(d), 13) = (call, a.refusal) {
+        let p = c.partition_of(d.grower);
+        let start: usize = c.lengths()[..p].iter().sum();
+        for s in start..start + c.lengths()[p] {
+            if c.growers[s] == d.grower {
+                let held = c.slot(s);
+                return library_call(c, &Call::Delete(held));
+            }
+        }
+    }
+    a
+}
+
+/// A move leaves the grower as it was.
+fn move_keeps_grower(c: &mut Column, call: &Call) -> Answer {
+    if let Call::Move(d, g) = *call {
+        if c.partition_of(d.grower) == c.partition_of(g) {
+            return library_call(c, &Call::Move(d, d.grower));
+        }
+    }
+    library_call(c, call)
+}
+
+/// A move within a partition to a smaller grower works as a backward one.
+fn within_backward(c: &mut Column, call: &Call) -> Answer {
+    let before = c.clone();
+    let a = library_call(c, call);
+    if let (Call::Move(d, g), 0) = (*call, a.refusal) {
+        let p = before.partition_of(d.grower);
+        if g < d.grower && before.partition_of(g) == p {
+            *c = before;
+            let start: usize = c.lengths()[..p].iter().sum();
+            let slot = (start..).find(|&s| c.slot(s) == d).expect("a match");
+            let first = c.slot(start);
+            c.store(slot, first);
+            c.store(start, Delivery { grower: g, ..d });
+        }
+    }
+    a
+}
+
+/// The old partition counts as passed.
+fn move_counts_old(c: &mut Column, call: &Call) -> Answer {
+    let mut a = library_call(c, call);
+    if let (Call::Move(..), 0) = (call, a.refusal) {
+        a.counts.rr += 1;
+        a.counts.rw += 1;
+    }
+    a
+}
+
+/// hi itself is left out of a range.
+fn hi_excluded(c: &mut Column, call: &Call) -> Answer {
+    if let Call::Range(lo, hi) = *call {
+        if lo < hi && c.partition_of(hi - 1) == c.partition_of(hi) {
+            return library_call(c, &Call::Range(lo, hi - 1));
+        }
+    }
+    library_call(c, call)
+}
+
+/// A layout may part equal growers.
+fn parts_equal_growers(set: &UnlaidSet, ends: &[u32]) -> DirectoryAnswer {
+    let mut a = apply_layout(set, ends);
+    if a.refusal == 6 {
+        a = apply_layout(set, &ends[ends.len() - 1..]);
+    }
+    a
+}
+
+/// A trailing LF is taken.
+fn trailing_lf(text: &[u8], c: &mut Column) -> DirectoryAnswer {
+    let a = Library.snapshot_read(text, c);
+    match text.strip_suffix(b"\n") {
+        Some(shorter) if a.refusal == 14 => Library.snapshot_read(shorter, c),
+        _ => a,
+    }
+}
+
+/// A leading zero is taken.
+fn leading_zero(text: &[u8], c: &mut Column) -> DirectoryAnswer {
+    let mut plain = text.to_vec();
+    for i in 0..plain.len().saturating_sub(1) {
+        let after_space = i == 0 || plain[i - 1] == b' ';
+        if after_space && plain[i] == b'0' && plain[i + 1].is_ascii_digit() {
+            plain[i] = b' ';
+        }
+    }
+    Library.snapshot_read(&plain, c)
+}
+
+/// 14 always goes ahead of 12.
+fn text_ahead_of_full(text: &[u8], c: &mut Column) -> DirectoryAnswer {
+    let a = Library.snapshot_read(text, c);
+    if a.refusal == 12 {
+        let mut large = Column {
+            growers: vec![0; SLOT_LIMIT],
+            weights: vec![0; SLOT_LIMIT],
+            yields: vec![0; SLOT_LIMIT],
+            directory: Vec::new(),
+        };
+        let b = Library.snapshot_read(text, &mut large);
+        if b.refusal == 14 {
+            return b;
+        }
+    }
+    a
+}
+
+/// Slots past M are cleared.
+fn later_slots_cleared(text: &[u8], c: &mut Column) -> DirectoryAnswer {
+    let a = Library.snapshot_read(text, c);
+    if a.refusal == 0 {
+        let m: u32 = a.directory[LENGTHS..FENCES].iter().sum();
+        for s in m as usize..c.growers.len() {
+            c.store(s, Delivery::default());
+        }
+    }
+    a
+}
+
+/// Bytes past the text are blanked.
+fn blanked_tail(c: &Column, out: &mut [u8]) -> SnapshotAnswer {
+    let a = Library.snapshot_write(c, out);
+    if a.refusal == 0 {
+        out[a.written..].fill(b' ');
+    }
+    a
+}
+
+/// A sum that wraps.
+fn wrapping_tally(t: &mut Tally, c: &Counts) -> u32 {
+    let next = Tally {
+        rr: t.rr.wrapping_add(c.rr),
+        sr: t.sr.wrapping_add(c.sr),
+        rw: t.rw.wrapping_add(c.rw),
+    };
+    if [next.rr, next.sr, next.rw].iter().any(|&n| n > TALLY_LIMIT) {
+        return 10;
+    }
+    *t = next;
+    0
+}
+
+/// A byte after the last line is ignored.
+fn input_tail_ignored(text: &[u8]) -> Vec<u8> {
+    let out = layplan(text);
+    match text.split_last() {
+        Some((_, shorter)) if out == b"         14\n" => layplan(shorter),
+        _ => out,
+    }
+}
+
+/// Prices are refused ahead of the recorder.
+fn prices_first(text: &[u8]) -> Vec<u8> {
+    let out = layplan(text);
+    if out.len() == 12 && out != b"         14\n" {
+        let prices = second::field::read_line_u32::<3>(text, 0);
+        if prices.is_some_and(|(p, _)| p.iter().any(|n| !(1..=PRICE_LIMIT).contains(n))) {
+            return b"          1\n".to_vec();
+        }
+    }
+    out
+}
+
+/// The bill stands in 21 columns.
+fn wide_bill(text: &[u8]) -> Vec<u8> {
+    let mut out = layplan(text);
+    if out.len() > 12 {
+        out.insert(11, b' ');
+    }
+    out
+}
+
+fn program(f: fn(&[u8]) -> Vec<u8>) -> Mutant {
+    Mutant {
+        layplan: Some(f),
+        ..Mutant::default()
+    }
+}
+
+fn call(f: fn(&mut Column, &Call) -> Answer) -> Mutant {
+    Mutant {
+        call: Some(f),
+        ..Mutant::default()
+    }
+}
+
+fn record(f: fn(&UnlaidSet, &mut [u32], &Call) -> u32) -> Mutant {
+    Mutant {
+        record: Some(f),
+        ..Mutant::default()
+    }
+}
+
+fn plan(f: fn(&PriceCard, &Limits, &UnlaidSet, &[u32], &mut [u32]) -> PlanAnswer) -> Mutant {
+    Mutant {
+        plan: Some(f),
+        ..Mutant::default()
+    }
+}
+
+fn priced(f: fn(&PriceCard, &UnlaidSet, &[u32], &[u32]) -> CostAnswer) -> Mutant {
+    Mutant {
+        cost: Some(f),
+        ..Mutant::default()
+    }
+}
+
+fn read(f: fn(&[u8], &mut Column) -> DirectoryAnswer) -> Mutant {
+    Mutant {
+        read: Some(f),
+        ..Mutant::default()
+    }
+}
+
+pub fn all() -> Vec<(String, Outcome)> {
+    use groups::*;
+    let list: Vec<(&str, Mutant, &[Group])> = vec![
+        (
+            "t without its own partition",
+            priced(t_without_own),
+            &[cost_equation, cost_reports],
+        ),
+        (
+            "random read at a range's end",
+            priced(range_end_random),
+            &[cost_equation, cost_reports],
+        ),
+        (
+            "tie to the most partitions",
+            plan(tie_most_partitions),
+            &[planner_recorded, planner_raw, cost_reports],
+        ),
+        (
+            "tie to the larger end",
+            plan(tie_larger_end),
+            &[planner_recorded, planner_raw, cost_reports],
+        ),
+        (
+            "one partition more",
+            plan(one_partition_more),
+            &[planner_recorded, planner_raw, cost_reports],
+        ),
+        (
+            "one block more",
+            plan(one_block_more),
+            &[planner_recorded, planner_raw, cost_reports],
+        ),
+        (
+            "always one partition",
+            plan(always_one_partition),
+            &[planner_recorded, planner_raw, cost_reports],
+        ),
+        (
+            "always 11",
+            plan(always_11),
+            &[planner_recorded, planner_raw, planner_large, cost_reports],
+        ),
+        (
+            "only the first call entered",
+            record(only_first_call),
+            &[recorder_model, cost_reports],
+        ),
+        ("range never pq", record(range_never_pq), &[recorder_model]),
+        (
+            "absent delivery entered as delete",
+            record(absent_as_delete),
+            &[recorder_model, cost_reports],
+        ),
+        (
+            "equal move entered backward",
+            record(equal_move_backward),
+            &[recorder_model],
+        ),
+        (
+            "two of three columns moved",
+            call(two_columns),
+            &[column_ledger, laid_ledger, column_slots, column_edges],
+        ),
+        (
+            "yield left behind after an empty partition",
+            call(yield_behind_after_empty),
+            &[column_ledger, column_slots, column_edges],
+        ),
+        (
+            "relabelled without a ripple",
+            call(relabel),
+            &[column_ledger, laid_ledger, column_slots],
+        ),
+        (
+            "one partition moved, others relabelled",
+            call(relabel_all_but_last),
+            &[column_ledger, laid_ledger, column_slots],
+        ),
+        (
+            "insert keeps only the length",
+            call(length_only),
+            &[column_ledger, laid_ledger, column_slots],
+        ),
+        (
+            "fence follows an insert",
+            call(fence_follows),
+            &[column_slots],
+        ),
+        (
+            "12 with a free slot",
+            call(full_too_early),
+            &[column_ledger, laid_ledger, column_slots],
+        ),
+        (
+            "13 without its scan",
+            call(absent_unscanned),
+            &[column_slots, cost_reports],
+        ),
+        (
+            "counts always zero",
+            call(no_counts),
+            &[column_slots, cost_reports],
+        ),
+        (
+            "empty partition counts no block",
+            call(empty_unread),
+            &[column_slots],
+        ),
+        (
+            "random read for each partition",
+            call(random_read_each),
+            &[column_slots, cost_reports],
+        ),
+        (
+            "highest matching slot",
+            call(highest_match),
+            &[column_slots],
+        ),
+        (
+            "record moved out of an empty partition",
+            call(out_of_empty),
+            &[column_ledger, column_slots, column_edges],
+        ),
+        ("freed slot not zero", call(freed_not_zero), &[column_slots]),
+        (
+            "match on the grower alone",
+            call(grower_alone),
+            &[column_ledger, laid_ledger, column_slots],
+        ),
+        (
+            "move keeps the grower",
+            call(move_keeps_grower),
+            &[column_ledger, laid_ledger, column_slots],
+        ),
+        (
+            "move within done backward",
+            call(within_backward),
+            &[column_slots],
+        ),
+        (
+            "move counts the old partition",
+            call(move_counts_old),
+            &[column_slots, cost_reports],
+        ),
+        (
+            "hi left out of a range",
+            call(hi_excluded),
+            &[column_ledger, laid_ledger, column_slots],
+        ),
+        (
+            "equal growers parted",
+            Mutant {
+                apply: Some(parts_equal_growers),
+                ..Mutant::default()
+            },
+            &[cost_reports],
+        ),
+        (
+            "snapshot with a trailing LF",
+            read(trailing_lf),
+            &[snapshot_damaged],
+        ),
+        (
+            "snapshot with a leading zero",
+            read(leading_zero),
+            &[snapshot_damaged],
+        ),
+        (
+            "14 ahead of 12",
+            read(text_ahead_of_full),
+            &[snapshot_damaged],
+        ),
+        (
+            "later slots cleared",
+            read(later_slots_cleared),
+            &[snapshot_round_trip],
+        ),
+        (
+            "bytes past the snapshot blanked",
+            Mutant {
+                write: Some(blanked_tail),
+                ..Mutant::default()
+            },
+            &[snapshot_round_trip],
+        ),
+        (
+            "tally wraps",
+            Mutant {
+                tally: Some(wrapping_tally),
+                ..Mutant::default()
+            },
+            &[tally_sums],
+        ),
+        (
+            "program input with a byte left over",
+            program(input_tail_ignored),
+            &[layplan_pieces],
+        ),
+        (
+            "prices refused ahead of the recorder",
+            program(prices_first),
+            &[layplan_pieces],
+        ),
+        (
+            "bill a column too wide",
+            program(wide_bill),
+            &[example_layplan, layplan_pieces],
+        ),
+    ];
+    list.into_iter()
+        .map(|(name, mutant, detectors)| {
+            let missed = detectors
+                .iter()
+                .filter(|group| groups::guarded(|| group(&mutant, CASES)).is_ok())
+                .count();
+            let outcome = if missed == 0 {
+                Ok(())
+            } else {
+                Err(format!(
+                    "{missed} of {} comparisons did not detect it",
+                    detectors.len()
+                ))
+            };
+            (format!("mutant: {name}"), outcome)
+        })
+        .collect()
+}

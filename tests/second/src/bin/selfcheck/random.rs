@@ -1,0 +1,270 @@
+//! Fixed-seed generator (splitmix64) and random inputs.
+
+use crate::subject::{Call, Column, Set};
+use second::*;
+
+pub struct Random(u64);
+
+impl Random {
+    pub fn new(seed: u64) -> Random {
+        Random(seed)
+    }
+
+    pub fn next(&mut self) -> u64 {
+        self.0 = self.0.wrapping_add(0x9E37_79B9_7F4A_7C15);
+        let mut z = self.0;
+        z = (z ^ (z >> 30)).wrapping_mul(0xBF58_476D_1CE4_E5B9);
+        z = (z ^ (z >> 27)).wrapping_mul(0x94D0_49BB_1331_11EB);
+        z ^ (z >> 31)
+    }
+
+    /// 0 to n - 1.
+    pub fn below(&mut self, n: usize) -> usize {
+        (self.next() % n as u64) as usize
+    }
+
+    /// lo to hi, both included.
+    pub fn within(&mut self, lo: usize, hi: usize) -> usize {
+        lo + self.below(hi - lo + 1)
+    }
+
+    /// True once in n.
+    pub fn one_in(&mut self, n: usize) -> bool {
+        self.below(n) == 0
+    }
+
+    pub fn pick<T: Copy>(&mut self, from: &[T]) -> T {
+        from[self.below(from.len())]
+    }
+}
+
+/// Few values, so that equal deliveries are common; the range's ends too.
+pub fn weight(r: &mut Random) -> u32 {
+    r.pick(&[0, 1, 7, 100, 100, 100_000])
+}
+
+pub fn oil_yield(r: &mut Random) -> u32 {
+    r.pick(&[0, 1, 2_000, 2_000, 10_000])
+}
+
+/// A grower from a small domain, at its ends too.
+pub fn grower(r: &mut Random, domain: u32) -> u32 {
+    match r.below(12) {
+        0 => 0,
+        1 => u32::MAX,
+        2 => u32::MAX - 1,
+        _ => r.below(domain as usize) as u32,
+    }
+}
+
+/// Arbitrary contents of free slots; values out of range are allowed there.
+fn stale(r: &mut Random) -> u32 {
+    if r.one_in(2) {
+        r.next() as u32
+    } else {
+        0
+    }
+}
+
+/// A proper unlaid set of at most `most_blocks` blocks; `free` more slots.
+pub fn set(r: &mut Random, most_blocks: usize, free: usize) -> Set {
+    let b = r.pick(&[1, 1, 2, 2, 3, 5]);
+    let n = r.within(1, most_blocks);
+    let m = r.within((n - 1) * b + 1, n * b);
+    let domain = r.pick(&[3, m as u32 + 1, 4 * m as u32 + 4]);
+    let mut growers: Vec<u32> = (0..m).map(|_| grower(r, domain)).collect();
+    growers.sort_unstable();
+    let mut weights: Vec<u32> = (0..m).map(|_| weight(r)).collect();
+    let mut yields: Vec<u32> = (0..m).map(|_| oil_yield(r)).collect();
+    for _ in 0..free {
+        growers.push(stale(r));
+        weights.push(stale(r));
+        yields.push(stale(r));
+    }
+    Set {
+        b: b as u32,
+        m,
+        growers,
+        weights,
+        yields,
+    }
+}
+
+/// A random layout of a proper set that parts no equal growers.
+pub fn layout(r: &mut Random, set: &Set) -> Vec<u32> {
+    let view = set.view();
+    let n = view.blocks();
+    let often = r.within(1, 4);
+    let mut ends: Vec<u32> = (0..n as u32 - 1)
+        .filter(|&e| !view.separates_equal(e as usize) && r.one_in(often))
+        .collect();
+    ends.push(n as u32 - 1);
+    ends
+}
+
+/// A grower near those held, or one of the domain's ends.
+fn near(r: &mut Random, held: &[Delivery]) -> u32 {
+    if held.is_empty() || r.one_in(8) {
+        return grower(r, 12);
+    }
+    let g = held[r.below(held.len())].grower;
+    match r.below(4) {
+        0 => g.wrapping_add(1),
+        1 => g.wrapping_sub(1),
+        _ => g,
+    }
+}
+
+/// A delivery that is mostly among those held.
+fn mostly_held(r: &mut Random, held: &[Delivery]) -> Delivery {
+    let mut d = if held.is_empty() || r.one_in(6) {
+        Delivery::new(near(r, held), weight(r), oil_yield(r))
+    } else {
+        held[r.below(held.len())]
+    };
+    match r.below(30) {
+        0 => d.weight = 100_001,
+        1 => d.oil_yield = 10_001,
+        2 => d.grower = near(r, held),
+        3 => d.weight = weight(r),
+        4 => d.oil_yield = oil_yield(r),
+        _ => {}
+    }
+    d
+}
+
+/// A random call over the deliveries held.
+pub fn call(r: &mut Random, held: &[Delivery]) -> Call {
+    match r.below(6) {
+        0 => Call::Find(near(r, held)),
+        1 => {
+            let (x, y) = (near(r, held), near(r, held));
+            if r.one_in(12) {
+                Call::Range(x.max(y), x.min(y))
+            } else {
+                Call::Range(x.min(y), x.max(y))
+            }
+        }
+        2 => {
+            let mut d = mostly_held(r, held);
+            if r.one_in(2) {
+                d.grower = near(r, held);
+            }
+            Call::Insert(d)
+        }
+        3 => Call::Delete(mostly_held(r, held)),
+        _ => Call::Move(mostly_held(r, held), near(r, held)),
+    }
+}
+
+/// A sound column with arbitrary fences, lengths (empty ones too) and free
+/// slots.
+pub fn column(r: &mut Random) -> Column {
+    let k = match r.below(10) {
+        0 => 1,
+        1 => 64,
+        n => n.min(6),
+    };
+    let mut fences: Vec<u32> = Vec::new();
+    let wide = if r.one_in(2) { 3 * k as u32 + 2 } else { 200 };
+    while fences.len() < k {
+        let fence = grower(r, wide);
+        if !fences.contains(&fence) {
+            fences.push(fence);
+        }
+    }
+    fences.sort_unstable();
+    let records = match r.below(8) {
+        0 => 0,
+        1 => r.within(0, 3),
+        _ => r.within(1, 3 * k.min(8)),
+    };
+    // Few chosen growers leave partitions empty; all lie by fences or past.
+    let mut parts: Vec<Vec<Delivery>> = vec![Vec::new(); k];
+    for _ in 0..records {
+        let g = match r.below(4) {
+            0 => grower(r, wide),
+            1 => r.pick(&fences).saturating_add(1),
+            _ => r.pick(&fences),
+        };
+        let p = fences.iter().position(|&f| f >= g).unwrap_or(k - 1);
+        parts[p].push(Delivery::new(g, weight(r), oil_yield(r)));
+    }
+    let free = if r.one_in(4) {
+        usize::from(records == 0)
+    } else {
+        r.within(1, 5)
+    };
+    let mut c = Column {
+        growers: Vec::new(),
+        weights: Vec::new(),
+        yields: Vec::new(),
+        directory: vec![0; DIRECTORY_LEN],
+    };
+    c.directory[0] = r.pick(&[1, 2, 3, 4_096]);
+    c.directory[1] = k as u32;
+    for (p, part) in parts.iter().enumerate() {
+        c.directory[LENGTHS + p] = part.len() as u32;
+        c.directory[FENCES + p] = fences[p];
+        for d in part {
+            c.push(*d);
+        }
+    }
+    for _ in 0..free {
+        let d = Delivery::new(stale(r), stale(r), stale(r));
+        c.push(d);
+    }
+    c
+}
+
+/// A column laid over a random set.
+pub fn laid_column(r: &mut Random) -> Column {
+    let free = r.below(4);
+    let set = set(r, 10, free);
+    let ends = layout(r, &set);
+    let laid = apply_layout(&set.view(), &ends);
+    assert_eq!(laid.refusal, 0);
+    set.column(laid.directory.to_vec())
+}
+
+/// Histograms that no list made: any counts, small ones so that bills tie.
+pub fn raw_histograms(r: &mut Random) -> Vec<u32> {
+    let most = r.pick(&[0, 1, 1, 3, 1_000_000]);
+    let rare = r.within(1, 6);
+    (0..HISTOGRAM_LEN)
+        .map(|_| {
+            if r.one_in(rare) {
+                r.within(0, most) as u32
+            } else {
+                0
+            }
+        })
+        .collect()
+}
+
+pub fn card(r: &mut Random) -> PriceCard {
+    match r.below(4) {
+        0 => PriceCard::FACTORY,
+        1 => PriceCard::new(1, 1, 1),
+        2 => PriceCard::new(1_000, 1_000, 1_000),
+        _ => PriceCard::new(
+            r.within(1, 12) as u32,
+            r.within(1, 6) as u32,
+            r.within(1, 12) as u32,
+        ),
+    }
+}
+
+/// Limits around the point where they begin to bind.
+pub fn limits(r: &mut Random, card: &PriceCard, blocks: usize) -> Limits {
+    let read = match r.below(4) {
+        0 => 1_000_000,
+        1 => r.below(card.rr as usize + 2) as u32,
+        _ => card.rr + r.below(card.sr as usize * (blocks + 2)) as u32,
+    };
+    let insert = match r.below(4) {
+        0 => 1_000_000,
+        _ => r.below((card.rr + card.rw) as usize * (blocks + 3)) as u32,
+    };
+    Limits::new(read.min(1_000_000), insert.min(1_000_000))
+}

@@ -1,0 +1,232 @@
+//! What is checked: the library behind a trait, so that deliberately wrong
+//! variants can stand in for single calls.
+
+use second::*;
+
+/// An unlaid set that owns its slices.
+#[derive(Clone, Debug)]
+pub struct Set {
+    pub b: u32,
+    pub m: usize,
+    pub growers: Vec<u32>,
+    pub weights: Vec<u32>,
+    pub yields: Vec<u32>,
+}
+
+impl Set {
+    pub fn view(&self) -> UnlaidSet<'_> {
+        UnlaidSet {
+            b: self.b,
+            m: self.m,
+            growers: &self.growers,
+            weights: &self.weights,
+            yields: &self.yields,
+        }
+    }
+
+    pub fn column(&self, directory: Vec<u32>) -> Column {
+        Column {
+            growers: self.growers.clone(),
+            weights: self.weights.clone(),
+            yields: self.yields.clone(),
+            directory,
+        }
+    }
+
+    pub fn records(&self) -> Vec<Delivery> {
+        (0..self.m)
+            .map(|s| Delivery::new(self.growers[s], self.weights[s], self.yields[s]))
+            .collect()
+    }
+}
+
+/// A column that owns its slices.
+#[derive(Clone, Debug, PartialEq, Eq)]
+pub struct Column {
+    pub growers: Vec<u32>,
+    pub weights: Vec<u32>,
+    pub yields: Vec<u32>,
+    pub directory: Vec<u32>,
+}
+
+impl Column {
+    pub fn push(&mut self, d: Delivery) {
+        self.growers.push(d.grower);
+        self.weights.push(d.weight);
+        self.yields.push(d.oil_yield);
+    }
+
+    pub fn k(&self) -> usize {
+        self.directory[1] as usize
+    }
+
+    pub fn lengths(&self) -> Vec<usize> {
+        (0..self.k())
+            .map(|p| self.directory[LENGTHS + p] as usize)
+            .collect()
+    }
+
+    pub fn used(&self) -> usize {
+        self.lengths().iter().sum()
+    }
+
+    pub fn slot(&self, s: usize) -> Delivery {
+        Delivery::new(self.growers[s], self.weights[s], self.yields[s])
+    }
+
+    pub fn records(&self) -> Vec<Delivery> {
+        (0..self.used()).map(|s| self.slot(s)).collect()
+    }
+
+    pub fn store(&mut self, s: usize, d: Delivery) {
+        self.growers[s] = d.grower;
+        self.weights[s] = d.weight;
+        self.yields[s] = d.oil_yield;
+    }
+
+    /// Partition of a grower by the paper's sentence, read one by one.
+    pub fn partition_of(&self, g: u32) -> usize {
+        (0..self.k())
+            .find(|&p| self.directory[FENCES + p] >= g)
+            .unwrap_or(self.k() - 1)
+    }
+
+    pub fn is_sound(&self) -> bool {
+        let mut s = 0;
+        for (p, n) in self.lengths().into_iter().enumerate() {
+            for _ in 0..n {
+                if self.partition_of(self.growers[s]) != p {
+                    return false;
+                }
+                s += 1;
+            }
+        }
+        true
+    }
+}
+
+#[derive(Clone, Copy, Debug)]
+pub enum Call {
+    Find(u32),
+    Range(u32, u32),
+    Insert(Delivery),
+    Delete(Delivery),
+    Move(Delivery, u32),
+}
+
+/// Answer of any of the five calls.
+#[derive(Clone, Copy, Debug, PartialEq, Eq)]
+pub struct Answer {
+    pub refusal: u32,
+    pub totals: Totals,
+    pub counts: Counts,
+}
+
+impl Answer {
+    pub fn refused(refusal: u32) -> Answer {
+        Answer {
+            refusal,
+            totals: Totals::ZERO,
+            counts: Counts::ZERO,
+        }
+    }
+
+    pub fn write(a: WriteAnswer) -> Answer {
+        Answer {
+            refusal: a.refusal,
+            totals: Totals::ZERO,
+            counts: a.counts,
+        }
+    }
+
+    pub fn read(a: ReadAnswer) -> Answer {
+        Answer {
+            refusal: a.refusal,
+            totals: a.totals,
+            counts: a.counts,
+        }
+    }
+}
+
+/// The five calls of the library on an owned column.
+pub fn library_call(c: &mut Column, call: &Call) -> Answer {
+    let Column {
+        growers,
+        weights,
+        yields,
+        directory,
+    } = c;
+    match *call {
+        Call::Find(g) => Answer::read(find(growers, weights, yields, directory, g)),
+        Call::Range(lo, hi) => Answer::read(range(growers, weights, yields, directory, lo, hi)),
+        Call::Insert(d) => Answer::write(insert(growers, weights, yields, directory, d)),
+        Call::Delete(d) => Answer::write(delete(growers, weights, yields, directory, d)),
+        Call::Move(d, g) => Answer::write(move_delivery(growers, weights, yields, directory, d, g)),
+    }
+}
+
+pub fn library_record(set: &UnlaidSet, histograms: &mut [u32], call: &Call) -> u32 {
+    match *call {
+        Call::Find(g) => record_find(set, histograms, g),
+        Call::Range(lo, hi) => record_range(set, histograms, lo, hi),
+        Call::Insert(d) => record_insert(set, histograms, d),
+        Call::Delete(d) => record_delete(set, histograms, d),
+        Call::Move(d, g) => record_move(set, histograms, d, g),
+    }
+}
+
+/// The calls that a wrong variant may replace.
+pub trait Subject {
+    fn call(&self, c: &mut Column, call: &Call) -> Answer {
+        library_call(c, call)
+    }
+
+    fn record(&self, set: &UnlaidSet, histograms: &mut [u32], call: &Call) -> u32 {
+        library_record(set, histograms, call)
+    }
+
+    fn cost(
+        &self,
+        card: &PriceCard,
+        set: &UnlaidSet,
+        histograms: &[u32],
+        ends: &[u32],
+    ) -> CostAnswer {
+        cost(card, set, histograms, ends)
+    }
+
+    fn plan(
+        &self,
+        card: &PriceCard,
+        limits: &Limits,
+        set: &UnlaidSet,
+        histograms: &[u32],
+        out: &mut [u32],
+    ) -> PlanAnswer {
+        plan_by_table(card, limits, set, histograms, out)
+    }
+
+    fn apply(&self, set: &UnlaidSet, ends: &[u32]) -> DirectoryAnswer {
+        apply_layout(set, ends)
+    }
+
+    fn snapshot_read(&self, text: &[u8], c: &mut Column) -> DirectoryAnswer {
+        snapshot_read(text, &mut c.growers, &mut c.weights, &mut c.yields)
+    }
+
+    fn snapshot_write(&self, c: &Column, out: &mut [u8]) -> SnapshotAnswer {
+        snapshot_write(&c.growers, &c.weights, &c.yields, &c.directory, out)
+    }
+
+    fn tally_add(&self, tally: &mut Tally, counts: &Counts) -> u32 {
+        tally_add(tally, counts)
+    }
+
+    fn layplan(&self, text: &[u8]) -> Vec<u8> {
+        layplan(text)
+    }
+}
+
+/// The library itself.
+pub struct Library;
+impl Subject for Library {}

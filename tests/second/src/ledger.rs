@@ -1,0 +1,95 @@
+//! The ledger: a bag of at most C deliveries, with the same five calls.
+
+use crate::check;
+use crate::types::*;
+
+#[derive(Clone, Debug, PartialEq, Eq)]
+pub struct Ledger {
+    capacity: usize,
+    records: Vec<Delivery>,
+}
+
+impl Ledger {
+    pub fn new(capacity: usize) -> Ledger {
+        Ledger {
+            capacity,
+            records: Vec::new(),
+        }
+    }
+
+    /// A ledger that holds the given deliveries, at most `capacity` of them.
+    pub fn holding(capacity: usize, records: Vec<Delivery>) -> Ledger {
+        assert!(records.len() <= capacity);
+        Ledger { capacity, records }
+    }
+
+    pub fn records(&self) -> &[Delivery] {
+        &self.records
+    }
+
+    /// The bag in a fixed order, for comparison.
+    pub fn sorted(&self) -> Vec<Delivery> {
+        let mut bag = self.records.clone();
+        bag.sort_unstable();
+        bag
+    }
+
+    /// Check 7, then the totals of the growers lo to hi.
+    pub fn range(&self, lo: u32, hi: u32) -> (u32, Totals) {
+        if lo > hi {
+            return (check::RANGE, Totals::ZERO);
+        }
+        let mut totals = Totals::ZERO;
+        for d in self
+            .records
+            .iter()
+            .filter(|d| lo <= d.grower && d.grower <= hi)
+        {
+            totals.records += 1;
+            totals.weight += u64::from(d.weight);
+            totals.oil += u64::from(d.weight) * u64::from(d.oil_yield);
+        }
+        (check::ACCEPTED, totals)
+    }
+
+    /// A find is a range from g to g.
+    pub fn find(&self, g: u32) -> (u32, Totals) {
+        self.range(g, g)
+    }
+
+    /// Checks 8 and 12.
+    pub fn insert(&mut self, d: Delivery) -> u32 {
+        if !d.in_range() {
+            return check::VALUES;
+        }
+        if self.records.len() >= self.capacity {
+            return check::FULL;
+        }
+        self.records.push(d);
+        check::ACCEPTED
+    }
+
+    /// Checks 8 and 13.
+    pub fn delete(&mut self, d: Delivery) -> u32 {
+        if !d.in_range() {
+            return check::VALUES;
+        }
+        let Some(at) = self.records.iter().position(|held| *held == d) else {
+            return check::ABSENT;
+        };
+        self.records.swap_remove(at);
+        check::ACCEPTED
+    }
+
+    /// Checks 8 and 13; one equal delivery gets the new grower.
+    pub fn move_delivery(&mut self, d: Delivery, new_grower: u32) -> u32 {
+        if !d.in_range() {
+            return check::VALUES;
+        }
+        let Some(at) = self.records.iter().position(|held| *held == d) else {
+            return check::ABSENT;
+        };
+        self.records[at].grower = new_grower;
+        check::ACCEPTED
+    }
+}

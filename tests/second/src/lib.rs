@@ -1,0 +1,35 @@
+//! Second implementation of the delivery column and its planner.
+//!
+//! It is written from paper 01 alone and serves as the comparison partner of
+//! the product. Standard library only.
+//!
+//! Each call answers the number of the first check that fails, or 0. The
+//! checks of each call are put in the order of the paper's list of questions.
+
+#![forbid(unsafe_code)]
+
+pub mod check;
+pub mod column;
+pub mod cost;
+pub mod field;
+pub mod layplan;
+pub mod ledger;
+pub mod planner;
+pub mod recorder;
+pub mod snapshot;
+pub mod tally;
+pub mod types;
+pub mod unlaid;
+
+pub use column::{
+    apply_layout, delete, find, insert, move_delivery, partition_slice, partition_span, range,
+};
+pub use cost::cost;
+pub use layplan::layplan;
+pub use ledger::Ledger;
+pub use planner::{plan_by_listing, plan_by_table};
+pub use recorder::{record_delete, record_find, record_insert, record_move, record_range};
+pub use snapshot::{snapshot_read, snapshot_size, snapshot_write};
+pub use tally::tally_add;
+pub use types::*;
+pub use unlaid::UnlaidSet;

@@ -1,0 +1,161 @@
+//! The snapshot text (the paper's book): writing and reading.
+
+use crate::check::{self, ensure, Checked};
+use crate::column::{check_column, partition_of, Shape};
+use crate::field::{line_size, read_line, read_line_u32, write_line};
+use crate::types::*;
+
+/// Bytes of a snapshot of `m` records in `k` partitions.
+pub const fn snapshot_size(m: usize, k: usize) -> usize {
+    line_size(3) + k * line_size(2) + m * line_size(3)
+}
+
+/// Whether every record is in its grower's partition.
+pub(crate) fn is_sound(growers: &[u32], directory: &[u32], shape: &Shape) -> bool {
+    let mut at = 0;
+    for p in 0..shape.k {
+        let past = at + directory[LENGTHS + p] as usize;
+        if !growers[at..past]
+            .iter()
+            .all(|&g| partition_of(directory, shape.k, g) == p)
+        {
+            return false;
+        }
+        at = past;
+    }
+    true
+}
+
+fn try_write(
+    growers: &[u32],
+    weights: &[u32],
+    yields: &[u32],
+    directory: &[u32],
+    out: &mut [u8],
+) -> Checked<usize> {
+    let shape = check_column(growers, weights, yields, directory)?;
+    ensure(is_sound(growers, directory, &shape), check::SHAPE)?;
+    let m = shape.used;
+    check::values(&weights[..m], &yields[..m])?;
+    ensure(snapshot_size(m, shape.k) <= out.len(), check::ROOM)?;
+    let mut at = write_line(out, 0, &[directory[0], m as u32, directory[1]]);
+    for p in 0..shape.k {
+        at = write_line(out, at, &[directory[LENGTHS + p], directory[FENCES + p]]);
+    }
+    for s in 0..m {
+        at = write_line(out, at, &[growers[s], weights[s], yields[s]]);
+    }
+    Ok(at)
+}
+
+/// Checks 2 3 6 (shape, then soundness) 8 15, then the text. Bytes past it
+/// stay as they were.
+pub fn snapshot_write(
+    growers: &[u32],
+    weights: &[u32],
+    yields: &[u32],
+    directory: &[u32],
+    out: &mut [u8],
+) -> SnapshotAnswer {
+    match try_write(growers, weights, yields, directory, out) {
+        Ok(written) => SnapshotAnswer {
+            refusal: check::ACCEPTED,
+            written,
+        },
+        Err(refusal) => SnapshotAnswer {
+            refusal,
+            written: 0,
+        },
+    }
+}
+
+/// Line 1 if it is three numbers in range, its LF included: B, M, K and the
+/// position after it.
+fn read_head(text: &[u8]) -> Option<(u32, usize, usize, usize)> {
+    let ([b, m, k], at) = read_line::<3>(text, 0)?;
+    let good = (1..=u64::from(BLOCK_LENGTH_LIMIT)).contains(&b)
+        && m <= SLOT_LIMIT as u64
+        && (1..=BLOCK_LIMIT as u64).contains(&k);
+    good.then_some((b as u32, m as usize, k as usize, at))
+}
+
+/// The lines after line 1, checked without a write: the directory and the
+/// position of the first record. M is at most C.
+fn read_body(
+    text: &[u8],
+    (b, m, k, mut at): (u32, usize, usize, usize),
+) -> Option<([u32; DIRECTORY_LEN], usize)> {
+    if text.len() != snapshot_size(m, k) {
+        return None;
+    }
+    let mut directory = [0; DIRECTORY_LEN];
+    directory[0] = b;
+    directory[1] = k as u32;
+    let mut total = 0u64;
+    for p in 0..k {
+        let ([length, fence], next) = read_line_u32::<2>(text, at)?;
+        if p > 0 && fence <= directory[FENCES + p - 1] {
+            return None;
+        }
+        directory[LENGTHS + p] = length;
+        directory[FENCES + p] = fence;
+        total += u64::from(length);
+        at = next;
+    }
+    if total != m as u64 {
+        return None;
+    }
+    let records = at;
+    for p in 0..k {
+        for _ in 0..directory[LENGTHS + p] {
+            let ([grower, weight, oil_yield], next) = read_line_u32::<3>(text, at)?;
+            let d = Delivery {
+                grower,
+                weight,
+                oil_yield,
+            };
+            if !d.in_range() || partition_of(&directory, k, grower) != p {
+                return None;
+            }
+            at = next;
+        }
+    }
+    Some((directory, records))
+}
+
+fn try_read(
+    text: &[u8],
+    growers: &mut [u32],
+    weights: &mut [u32],
+    yields: &mut [u32],
+) -> Checked<[u32; DIRECTORY_LEN]> {
+    check::slices(growers, weights, yields)?;
+    let head = read_head(text).ok_or(check::TEXT)?;
+    let m = head.1;
+    ensure(m <= growers.len(), check::FULL)?;
+    let (directory, records) = read_body(text, head).ok_or(check::TEXT)?;
+    let mut at = records;
+    for s in 0..m {
+        let (record, next) = read_line_u32::<3>(text, at).ok_or(check::TEXT)?;
+        [growers[s], weights[s], yields[s]] = record;
+        at = next;
+    }
+    Ok(directory)
+}
+
+/// Checks 3, then 12 if line 1 is three numbers in range, then 14. Fills the
+/// first M slots; later slots stay as they were.
+pub fn snapshot_read(
+    text: &[u8],
+    growers: &mut [u32],
+    weights: &mut [u32],
+    yields: &mut [u32],
+) -> DirectoryAnswer {
+    match try_read(text, growers, weights, yields) {
+        Ok(directory) => DirectoryAnswer {
+            refusal: check::ACCEPTED,
+            directory,
+        },
+        Err(refusal) => DirectoryAnswer::refused(refusal),
+    }
+}
