@@ -117,7 +117,7 @@ module _ (L : ℕ) (s : Set) (o : Good L s) where
         let a : sumOf (take (q + 1) (lengthsFrom s 0 ends)) + 0 ≡ blockStop s (endOf ends q) = rw (add-one q) (stops 0 0 ends q (omega arith) (l .cut) k) in
         omega (arith, sum-span (lengthsFrom s 0 ends) p (q + 1) (omega arith))
 
-    start-next : (p : ℕ) → p < length ends → startOf (lengthsFrom s 0 ends) (suc p) ≡ blockStop s (endOf ends p)
+    pub start-next : (p : ℕ) → p < length ends → startOf (lengthsFrom s 0 ends) (suc p) ≡ blockStop s (endOf ends p)
     unfolding startOf
     start-next p h = omega (arith, stops 0 0 ends p (omega arith) (l .cut) h)
 
@@ -138,7 +138,7 @@ module _ (L : ℕ) (s : Set) (o : Good L s) where
     all-in-range p q h k = rw (between-is (lengthsFrom s 0 ends) p q (rows (s .growers) (s .weights) (s .yields))) (every-part inRange (startOf (lengthsFrom s 0 ends) p) (sumOf (take (q + 1 - p) (drop p (lengthsFrom s 0 ends)))) (s .used) (rows (s .growers) (s .weights) (s .yields)) (omega (arith, stop-of p q h k)) (o .values-ok))
 
     -- the slot of a grower lies in the grower's partition
-    lower : (g i p : ℕ) → i < s .used → getD (s .growers) i 0 ≡ g → Placed ends (blockOf s g) p → startOf (lengthsFrom s 0 ends) p ≤ i
+    pub lower : (g i p : ℕ) → i < s .used → getD (s .growers) i 0 ≡ g → Placed ends (blockOf s g) p → startOf (lengthsFrom s 0 ends) p ≤ i
     lower g i zero h e c = rw start-zero (omega arith)
     lower g i (suc p) h e c = rw (start-next p (omega (arith, c .within))) (go (decLt i (blockStop s (endOf ends p))))
       where
@@ -149,7 +149,7 @@ module _ (L : ℕ) (s : Set) (o : Good L s) where
             let b = growers-rise L s o i (blockStop s (endOf ends p) - 1) (omega arith) (omega (arith, o .m-least)) in
             let z : ⊥ = omega arith in absurd z
 
-    upper : (g i p : ℕ) → i < s .used → getD (s .growers) i 0 ≡ g → Placed ends (blockOf s g) p → i < blockStop s (endOf ends p)
+    pub upper : (g i p : ℕ) → i < s .used → getD (s .growers) i 0 ≡ g → Placed ends (blockOf s g) p → i < blockStop s (endOf ends p)
     upper g i p h e c = go (ℕ-discrete (p + 1) (length ends)) (decLt i (blockStop s (endOf ends p)))
       where
         go : Dec (p + 1 ≡ length ends) → Dec (i < blockStop s (endOf ends p)) → i < blockStop s (endOf ends p)

@@ -1,15 +1,16 @@
 -- Lists and numbers: the lemmas that every other file shares. Assumes nothing.
-use Prim.Native.Nat.{ℕ, zero, suc, _+_, _-_, _*_, _/_, _%_, _≤_, _<_}
+use Prim.Native.Nat.{ℕ, zero, suc, _+_, _-_, _*_, _≤_, _<_}
 use mathlib.Core.Path.{_≡_, refl, sym, ap, _∙_}
-use mathlib.Core.Bool.{Bool, true, false, _&&_}
+use mathlib.Core.Bool.{Bool, true, false, cond, _&&_}
 use mathlib.Core.List.{List, [], _∷_, _++_, append-assoc, map, flatten}
 use native.Mathlib.Omega.{arith}
 use native.Mathlib.Numerals.{add-one}
-use native.Mathlib.Nat.{div-add-mod', mod-lt, div-eq-of-lt-le}
+use native.Mathlib.Nat.{div-add-mod', mod-lt, div-eq-of-lt-le, mul-le-mul-right}
+use native.Mathlib.Decide.{decLe}
 use lib.Dec.{T, leb, leb→le}
 use lib.ListN.{length, getD, take, drop, set, take-append-drop}
-use lib.Seq.{take-suc, take-add, split-at, set-split}
-use Rattle.model.specs.Lists.{sumOf, ceilDiv, upFrom, every, neverFalls}
+use lib.Seq.{take-suc, take-nil, take-add, set-split}
+use Rattle.model.specs.Lists.{sumOf, ceilDiv, upFrom, every, keep, neverFalls}
 use Rattle.model.proofs.Tests.{and-fst, and-snd, and-mk}
 
 -- Sums.
@@ -65,6 +66,16 @@ module _ {A : Type 0} where
   pub flatten-at : (a : List (List A)) (p : List A) (b : List (List A)) → flatten (a ++ p ∷ b) ≡ flatten a ++ (p ++ flatten b)
   unfolding flatten
   flatten-at a p b = flatten-append a (p ∷ b)
+
+-- what is left of the first a + b elements after the first a
+pub drop-take : {A : Type 0} (a b : ℕ) (l : List A) → drop a (take (a + b) l) ≡ take b (drop a l)
+drop-take zero b l =
+    let e : 0 + b ≡ b = omega arith in
+    rw e
+drop-take (suc a) b [] = rw (take-nil (suc a + b), take-nil b)
+drop-take (suc a) b (x ∷ l) =
+    let e : suc a + b ≡ suc (a + b) = omega arith in
+    rw e (drop-take a b l)
 
 -- a list in which one element is new
 pub set-one : {A : Type 0} (t : ℕ) (a : A) (l : List A) → t < length l → set l t a ≡ take t l ++ a ∷ drop (t + 1) l
@@ -139,3 +150,49 @@ ceil-most n b h = omega (arith, div-add-mod' (n + (b - 1)) b)
 pub ceil-only : (n b q : ℕ) → 1 ≤ b → n ≤ q * b → q * b < n + b → ceilDiv n b ≡ q
 unfolding ceilDiv
 ceil-only n b q h l m = div-eq-of-lt-le b (omega arith) (omega arith)
+
+pub ceil-some : (n b : ℕ) → 1 ≤ b → 1 ≤ n → 1 ≤ ceilDiv n b
+ceil-some n b h k = go (ceilDiv n b) (ceil-least n b h)
+  where
+    go : (q : ℕ) → n ≤ q * b → 1 ≤ q
+    go zero l = absurd (omega arith)
+    go (suc q) l = omega arith
+
+pub ceil-within : (q n b : ℕ) → 1 ≤ b → n ≤ q * b → ceilDiv n b ≤ q
+ceil-within q n b h k = go (decLe (ceilDiv n b) q)
+  where
+    go : Dec (ceilDiv n b ≤ q) → ceilDiv n b ≤ q
+    go (yes l) = l
+    go (no l) =
+        let m : (q + 1) * b ≤ ceilDiv n b * b = mul-le-mul-right b (omega arith) in
+        absurd (omega (arith, m, ceil-most n b h))
+
+-- Tests of lists that were joined.
+
+module _ {A : Type 0} (f : A → Bool) where
+  pub keep-append : (a b : List A) → keep f (a ++ b) ≡ keep f a ++ keep f b
+  unfolding keep
+  keep-append [] b = refl
+  keep-append (x ∷ a) b = rw (keep-append a b) (go (f x))
+    where
+      go : (t : Bool) → cond t (x ∷ (keep f a ++ keep f b)) (keep f a ++ keep f b) ≡ cond t (x ∷ keep f a) (keep f a) ++ keep f b
+      go true = refl
+      go false = refl
+
+  pub every-joined : (a b : List A) → every f (a ++ b) ≡ every f a && every f b
+  unfolding every
+  every-joined [] b = refl
+  every-joined (x ∷ a) b = rw (every-joined a b) (go (f x))
+    where
+      go : (t : Bool) → t && (every f a && every f b) ≡ t && every f a && every f b
+      go true = refl
+      go false = refl
+
+  pub keep-fewer : (l : List A) → length (keep f l) ≤ length l
+  unfolding keep
+  keep-fewer [] = omega arith
+  keep-fewer (x ∷ l) = go (f x) (keep-fewer l)
+    where
+      go : (t : Bool) → length (keep f l) ≤ length l → length (cond t (x ∷ keep f l) (keep f l)) ≤ length (x ∷ l)
+      go true h = omega arith
+      go false h = omega arith

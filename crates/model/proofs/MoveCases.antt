@@ -22,11 +22,11 @@ by-cases t i u x ps C f b w =
     (λ h. test u t (λ (k : Bool). C (cond k (moveBackward t i u x ps) (moveWithin t i x ps))) b (λ k. w (omega arith)))
 
 module _ {A : Type 0} (t i u : ℕ) (x : A) (ps : List (List A)) where
-  pub move-moveForward : t < u → moveAt t i u x ps ≡ moveForward t i u x ps
-  move-moveForward h = by-cases t i u x ps (λ (r : List (List A)). r ≡ moveForward t i u x ps) (λ k. refl) (λ k. absurd (omega arith)) (λ k. absurd (omega arith))
+  pub moveAt-forward : t < u → moveAt t i u x ps ≡ moveForward t i u x ps
+  moveAt-forward h = by-cases t i u x ps (λ (r : List (List A)). r ≡ moveForward t i u x ps) (λ k. refl) (λ k. absurd (omega arith)) (λ k. absurd (omega arith))
 
-  pub move-moveBackward : u < t → moveAt t i u x ps ≡ moveBackward t i u x ps
-  move-moveBackward h = by-cases t i u x ps (λ (r : List (List A)). r ≡ moveBackward t i u x ps) (λ k. absurd (omega arith)) (λ k. refl) (λ k. absurd (omega arith))
+  pub moveAt-backward : u < t → moveAt t i u x ps ≡ moveBackward t i u x ps
+  moveAt-backward h = by-cases t i u x ps (λ (r : List (List A)). r ≡ moveBackward t i u x ps) (λ k. absurd (omega arith)) (λ k. refl) (λ k. absurd (omega arith))
 
-  pub move-moveWithin : t ≡ u → moveAt t i u x ps ≡ moveWithin t i x ps
-  move-moveWithin h = by-cases t i u x ps (λ (r : List (List A)). r ≡ moveWithin t i x ps) (λ k. absurd (omega arith)) (λ k. absurd (omega arith)) (λ k. refl)
+  pub moveAt-within : t ≡ u → moveAt t i u x ps ≡ moveWithin t i x ps
+  moveAt-within h = by-cases t i u x ps (λ (r : List (List A)). r ≡ moveWithin t i x ps) (λ k. absurd (omega arith)) (λ k. absurd (omega arith)) (λ k. refl)

@@ -43,7 +43,7 @@ module _ {A B : Type 0} (f : A → B) where
   map-flatten [] = refl
   map-flatten (p ∷ ps) = rw (map-append, map-flatten ps)
 
-  map-parts : (ns : List ℕ) (s : List A) → map (map f) (parts ns s) ≡ parts ns (map f s)
+  pub map-parts : (ns : List ℕ) (s : List A) → map (map f) (parts ns s) ≡ parts ns (map f s)
   unfolding parts
   map-parts [] s = refl
   map-parts (n ∷ ns) s = rw (map-take, map-parts ns (drop n s), map-drop)

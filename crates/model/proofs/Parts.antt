@@ -9,7 +9,7 @@ use lib.Seq.{take-suc, drop-cons, take-add, drop-drop, split-at, length-take-le,
 use Rattle.model.specs.Lists.{sumOf}
 use Rattle.model.specs.Partitions.{parts, free, startOf, between}
 use Rattle.model.specs.Partitions.{part}
-use Rattle.model.proofs.ListLaws.{sum-cut, flatten-append}
+use Rattle.model.proofs.ListLaws.{sum-cut, sum-span, sum-take-le, sum-take-next, flatten-append}
 
 module _ {A : Type 0} where
   pub flatten-parts : (ns : List ℕ) (s : List A) → flatten (parts ns s) ≡ take (sumOf ns) s
@@ -74,3 +74,55 @@ module _ {A : Type 0} where
   -- a list of partitions, taken apart at t
   pub one : (t : ℕ) (ps : List (List A)) → t < length ps → ps ≡ take t ps ++ part t ps ∷ drop (t + 1) ps
   one t ps h = rw (add-one) (split-at ps t [] h)
+
+-- Where partitions start.
+
+pub start-is : (ns : List ℕ) (t : ℕ) → sumOf (take t ns) ≡ startOf ns t
+unfolding startOf
+start-is ns t = refl
+
+pub start-le : (ns : List ℕ) (t : ℕ) → startOf ns t ≤ sumOf ns
+unfolding startOf
+start-le ns t = sum-take-le ns t
+
+pub start-next : (ns : List ℕ) (t : ℕ) → t < length ns → startOf ns (t + 1) ≡ startOf ns t + getD ns t 0
+unfolding startOf
+start-next ns t h = sum-take-next ns t h
+
+-- what follows a start
+pub start-rest : (ns : List ℕ) (t : ℕ) → sumOf ns ≡ startOf ns t + sumOf (drop t ns)
+unfolding startOf
+start-rest ns t = sum-cut t ns
+
+-- the slot just past partition t
+pub stop-le : (ns : List ℕ) (t : ℕ) → t < length ns → startOf ns t + getD ns t 0 ≤ sumOf ns
+stop-le ns t h = omega (arith, start-next ns t h, start-le ns (t + 1))
+
+-- a later partition starts no earlier
+pub start-mono : (ns : List ℕ) (t u : ℕ) → t ≤ u → startOf ns t ≤ startOf ns u
+unfolding startOf
+start-mono ns t u h = omega (arith, sum-span ns t u h)
+
+-- the partitions ahead of u start where they did
+pub start-take : (ns : List ℕ) (t u : ℕ) → t ≤ u → startOf (take u ns) t ≡ startOf ns t
+unfolding startOf
+start-take ns t u h = ap sumOf (take-take t u ns h)
+
+-- partition t as a part of the slots
+pub part-parts : {A : Type 0} (t : ℕ) (ns : List ℕ) (s : List A) → part t (parts ns s) ≡ take (getD ns t 0) (drop (startOf ns t) s)
+unfolding parts sumOf startOf
+part-parts zero [] s = refl
+part-parts (suc t) [] s = refl
+part-parts zero (n ∷ ns) s = refl
+part-parts (suc t) (n ∷ ns) s = part-parts t ns (drop n s) ∙ rw drop-drop
+
+pub length-part : {A : Type 0} (t : ℕ) (ns : List ℕ) (s : List A) → t < length ns → sumOf ns ≤ length s → length (part t (parts ns s)) ≡ getD ns t 0
+length-part t ns s h room = ap length (part-parts t ns s) ∙ length-take-le (getD ns t 0) (drop (startOf ns t) s) (omega (arith, stop-le ns t h, length-drop (startOf ns t) s))
+
+-- one partition alone
+pub between-one : {A : Type 0} (t : ℕ) (ns : List ℕ) (s : List A) → t < length ns → between ns t t s ≡ part t (parts ns s)
+unfolding between flatten
+between-one t ns s h =
+    let ps = parts ns s in
+    let e : t + 1 - t ≡ 1 = omega arith in
+    rw (e, drop-cons ps t [] (rw length-parts h)) (append-nil (part t ps))

@@ -1,10 +1,10 @@
 -- An unpartitioned set that passes its checks: its blocks, its slots, and that a grower's block lies in its partition. Assumes nothing.
-use Prim.Native.Nat.{ℕ, zero, suc, _+_, _-_, _*_, _≤_, _<_, min, max}
-use mathlib.Core.Path.{_≡_, refl, sym, ap, _∙_, subst}
-use mathlib.Core.Bool.{Bool, true, false, _&&_}
+use Prim.Native.Nat.{ℕ, zero, suc, _+_, _-_, _*_, _≤_, _<_}
+use mathlib.Core.Path.{_≡_, sym, ap, _∙_, subst}
+use mathlib.Core.Bool.{_&&_}
 use mathlib.Core.List.{List, [], _∷_, _++_, map}
 use native.Mathlib.Omega.{arith}
-use native.Mathlib.Decide.{ℕ-discrete, decLe}
+use native.Mathlib.Decide.{ℕ-discrete}
 use native.Mathlib.Nat.{mul-le-mul-right}
 use lib.Dec.{T, leb, eqb, leb→le, eqb→eq}
 use lib.ListN.{length, getD, take, length-map}
@@ -17,9 +17,9 @@ use Rattle.model.specs.Blocks.{Set, held, blocks, blockStop, lastGrower,
 use Rattle.model.specs.Layouts.{endOf, firstOf}
 use Rattle.model.specs.Questions.{setChecks}
 use Rattle.model.proofs.Tests.{and-fst, and-snd, yes-first}
-use Rattle.model.proofs.ListLaws.{at-map, at-upFrom, length-upFrom, sorted, ceil-least, ceil-most}
+use Rattle.model.proofs.ListLaws.{at-map, at-upFrom, length-upFrom, sorted, ceil-least, ceil-most, ceil-some, ceil-within}
 use Rattle.model.proofs.Places.{Placed, placed, placed-only, placed-mono}
-use Rattle.model.proofs.LayoutLaws.{Cut, cut-count, cut-last, cut-early, Laid}
+use Rattle.model.proofs.LayoutLaws.{cut-count, cut-last, cut-early, Laid}
 
 -- Checks 2 to 5 and 8 of the set, taken apart.
 
@@ -60,23 +60,66 @@ module _ (L : ℕ) where
         same-yields = eqb→eq (length (s .yields)) c (and-snd (eqb (length (s .weights)) c) (eqb (length (s .yields)) c) v);
       }
 
+-- The blocks of any set.
+
+module _ (s : Set) where
+  -- the slot past a block
+  pub stop-mono : (i j : ℕ) → i ≤ j → blockStop s i ≤ blockStop s j
+  stop-mono i j h =
+      let k : i * s .block ≤ j * s .block = mul-le-mul-right (s .block) h in
+      omega arith
+
+  abbrev lasts : List ℕ
+  lasts = map (lastGrower s) (upFrom 0 (blocks s))
+
+  lasts-length : length lasts ≡ blocks s
+  lasts-length = length-map (upFrom 0 (blocks s)) (lastGrower s) ∙ length-upFrom 0 (blocks s)
+
+  lasts-at : (i : ℕ) → i < blocks s → getD lasts i 0 ≡ lastGrower s i
+  lasts-at i h = at-map (lastGrower s) (upFrom 0 (blocks s)) i (rw length-upFrom h) ∙ ap (lastGrower s) (at-upFrom 0 (blocks s) i h ∙ omega arith)
+
+  block-placed : 1 ≤ blocks s → (g : ℕ) → Placed lasts g (blockOf s g)
+  unfolding blockOf
+  block-placed n g = placed lasts g (rw lasts-length n)
+
+  -- a grower's block
+  pub record Spot (g i : ℕ) : Type 0 where
+    pub within : i < blocks s
+    pub before : (j : ℕ) → j < i → lastGrower s j < g
+    pub here : i + 1 < blocks s → g ≤ lastGrower s i
+
+  pub spot-of : 1 ≤ blocks s → (g : ℕ) → Spot g (blockOf s g)
+  spot-of n g =
+      let p = block-placed n g in
+      let w : blockOf s g < blocks s = rw lasts-length at (p .within) in
+      record {
+        within = w;
+        before = λ j h. subst (λ (x : ℕ). x < g) (lasts-at j (omega arith)) (p .before j h);
+        here = λ h. subst (λ (x : ℕ). g ≤ x) (lasts-at (blockOf s g) w) (p .here (rw lasts-length h));
+      }
+
+  -- there is no other
+  pub spot-only : (g i : ℕ) → Spot g i → i ≡ blockOf s g
+  spot-only g i p = placed-only lasts g i (blockOf s g) q (block-placed (omega (arith, p .within)) g)
+    where
+      q : Placed lasts g i
+      q = record {
+        within = rw lasts-length (p .within);
+        before = λ j h. subst (λ (x : ℕ). x < g) (sym (lasts-at j (omega (arith, p .within)))) (p .before j h);
+        here = λ h. subst (λ (x : ℕ). g ≤ x) (sym (lasts-at i (p .within))) (p .here (rw lasts-length at h));
+      }
+
+  -- a greater grower has no earlier block
+  pub block-rises : 1 ≤ blocks s → (g h : ℕ) → g ≤ h → blockOf s g ≤ blockOf s h
+  block-rises n g h l = placed-mono lasts g h (blockOf s g) (blockOf s h) l (block-placed n g) (block-placed n h)
+
 module _ (L : ℕ) (s : Set) (o : Good L s) where
   -- N
   pub n-least : 1 ≤ blocks s
-  n-least = go (blocks s) (ceil-least (s .used) (s .block) (o .b-least))
-    where
-      go : (n : ℕ) → s .used ≤ n * s .block → 1 ≤ n
-      go zero h = let z : ⊥ = omega (arith, o .m-least) in absurd z
-      go (suc n) h = omega arith
+  n-least = ceil-some (s .used) (s .block) (o .b-least) (o .m-least)
 
   pub n-most : blocks s ≤ L
-  n-most = go (decLe (blocks s) L)
-    where
-      go : Dec (blocks s ≤ L) → blocks s ≤ L
-      go (yes h) = h
-      go (no h) =
-          let k : (L + 1) * s .block ≤ blocks s * s .block = mul-le-mul-right (s .block) (omega arith) in
-          let z : ⊥ = omega (arith, k, ceil-most (s .used) (s .block) (o .b-least), o .m-most) in absurd z
+  n-most = ceil-within L (s .used) (s .block) (o .b-least) (o .m-most)
 
   -- slots past a block
   pub past-early : (i : ℕ) → i + 1 < blocks s → blockStop s i ≡ (i + 1) * s .block
@@ -90,9 +133,7 @@ module _ (L : ℕ) (s : Set) (o : Good L s) where
       omega arith
 
   pub past-mono : (i j : ℕ) → i ≤ j → blockStop s i ≤ blockStop s j
-  past-mono i j h =
-      let k : i * s .block ≤ j * s .block = mul-le-mul-right (s .block) h in
-      omega arith
+  past-mono = stop-mono s
 
   pub past-least : (i : ℕ) → 1 ≤ blockStop s i
   past-least i = omega (arith, o .b-least, o .m-least)
@@ -107,33 +148,11 @@ module _ (L : ℕ) (s : Set) (o : Good L s) where
   lasts-rise i j h = growers-rise (blockStop s i - 1) (blockStop s j - 1) (omega (arith, past-mono i j h)) (omega (arith, o .m-least))
 
   -- a grower's block
-  pub record Spot (g i : ℕ) : Type 0 where
-    pub within : i < blocks s
-    pub before : (j : ℕ) → j < i → lastGrower s j < g
-    pub here : i + 1 < blocks s → g ≤ lastGrower s i
-
-  lasts-length : length (map (lastGrower s) (upFrom 0 (blocks s))) ≡ blocks s
-  lasts-length = length-map (upFrom 0 (blocks s)) (lastGrower s) ∙ length-upFrom 0 (blocks s)
-
-  lasts-at : (i : ℕ) → i < blocks s → getD (map (lastGrower s) (upFrom 0 (blocks s))) i 0 ≡ lastGrower s i
-  lasts-at i h = at-map (lastGrower s) (upFrom 0 (blocks s)) i (rw length-upFrom h) ∙ ap (lastGrower s) (at-upFrom 0 (blocks s) i h ∙ omega arith)
-
-  block-placed : (g : ℕ) → Placed (map (lastGrower s) (upFrom 0 (blocks s))) g (blockOf s g)
-  unfolding blockOf
-  block-placed g = placed (map (lastGrower s) (upFrom 0 (blocks s))) g (rw lasts-length n-least)
-
-  pub spot : (g : ℕ) → Spot g (blockOf s g)
-  spot g =
-      let p = block-placed g in
-      let w : blockOf s g < blocks s = rw lasts-length at (p .within) in
-      record {
-        within = w;
-        before = λ j h. subst (λ (x : ℕ). x < g) (lasts-at j (omega arith)) (p .before j h);
-        here = λ h. subst (λ (x : ℕ). g ≤ x) (lasts-at (blockOf s g) w) (p .here (rw lasts-length h));
-      }
+  pub spot : (g : ℕ) → Spot s g (blockOf s g)
+  spot = spot-of s n-least
 
   pub block-mono : (g h : ℕ) → g ≤ h → blockOf s g ≤ blockOf s h
-  block-mono g h l = placed-mono _ g h _ _ l (block-placed g) (block-placed h)
+  block-mono = block-rises s n-least
 
   module _ (ends : List ℕ) (l : Laid s ends) where
     pub few : length ends ≤ L
@@ -165,7 +184,7 @@ module _ (L : ℕ) (s : Set) (o : Good L s) where
         p : Placed ends (blockOf s g) (place ends (blockOf s g))
         p = part-placed (blockOf s g)
 
-        q : Spot g (blockOf s g)
+        q : Spot s g (blockOf s g)
         q = spot g
 
         early : (j : ℕ) → j < place ends (blockOf s g) → getD (map (lastGrower s) ends) j 0 < g

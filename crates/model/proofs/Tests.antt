@@ -62,3 +62,7 @@ or-fst false b h = absurd h
 pub or-snd : (a b : Bool) → T b → T (a || b)
 or-snd true b h = tt
 or-snd false b h = h
+
+-- a test cannot come out both ways
+pub no-such : {b : Bool} → T b → b ≡ false → ⊥
+no-such t e = subst T e t

@@ -1,0 +1,24 @@
+-- The theorems' proofs.
+-- The ledger: bags, one delivery, scans of a valid column, each call, the list of calls.
+pub mod Bags
+pub mod OneDelivery
+pub mod Scans
+pub mod ValidColumn
+pub mod Refusals
+pub mod Changes
+pub mod AfterCalls
+pub mod LaidColumn
+pub mod Ledger
+-- Demand 3: what is recorded, what it costs, what the fresh column reports, what the planner answers.
+pub mod RecordingSums
+pub mod RecordingEntries
+pub mod RecordingCounts
+pub mod RecordingCosts
+pub mod PlanChecks
+pub mod RecordingCalls
+pub mod PlanFresh
+pub mod PlanReports
+pub mod PlanSums
+pub mod PlanAnswers
+pub mod Demand3
+pub mod PlanExample

@@ -1,0 +1,190 @@
+-- The planner's answer: 11 exactly where nothing is permitted, otherwise the least of what is. Assumes nothing.
+use Prim.Native.Nat.{ℕ, suc, _≤_}
+use mathlib.Core.Path.{_≡_, refl, sym, ap, _∙_}
+use mathlib.Core.Logic.{_≢_, _↔_, ⊎-elim}
+use mathlib.Core.Bool.{Bool, true, false, not, cond, _&&_}
+use mathlib.Core.Option.{Option, none, some}
+use mathlib.Core.List.{List, [], _∷_, _++_, List·Memᴰ, List·Memᴰ·head, List·Memᴰ·not-nil}
+use native.Mathlib.Omega.{arith}
+use lib.Dec.{T, leb, eqb, le→leb, eqb→eq, not-T}
+use lib.ListN.{length, drop}
+use lib.Seq.{take-at}
+use lib.IntN.{ℤ}
+use lib.Signed.{_≤ℤ_}
+use Rattle.model.specs.declared.PriceCard.{PriceCard}
+use Rattle.model.specs.declared.Limits.{Limits}
+use Rattle.model.specs.Lists.{every, valueOr}
+use Rattle.model.specs.Checks.{ask, firstFailed}
+use Rattle.model.specs.Blocks.{Set, blocks}
+use Rattle.model.specs.Histograms.{countsOk}
+use Rattle.model.specs.Prices.{pricesOk, limitsOk}
+use Rattle.model.specs.Layouts.{layoutOk, blockCounts, mostPartitions, longestPartition, permitted}
+use Rattle.model.specs.Cost.{costOf}
+use Rattle.model.specs.Plan.{comesBefore, permittedLayouts, cheapest}
+use Rattle.model.specs.Questions.{costChecks, plannerChecks}
+use Rattle.model.specs.Planner.{PlanResult, costCall, plannedEnds, plannerRefusal, planCall}
+use Rattle.model.specs.Laws.{IsCheapest}
+use Rattle.model.proofs.Tests.{and-fst, is-true, of-true, first-passed}
+use Rattle.model.proofs.Integers.{is-exists, le-is}
+use Rattle.model.proofs.Order.{comesBefore-elim}
+use Rattle.model.proofs.LayoutLaws.{laid, cut-count}
+use Rattle.model.proofs.SetLaws.{good, n-least}
+use Rattle.model.proofs.PlanLaws.{permitted-listed, listed-permitted, cheapest-chosen, none-permitted}
+use Rattle.theorems.specs.Plan.{Admitted, layoutOf}
+use Rattle.theorems.proofs.PlanChecks.{nothing-failed, prices-pass, set-passes}
+
+-- what comes before another costs no more
+before-costs : (cost : List ℕ → ℤ) (x y : List ℕ) → T (comesBefore cost x y) → cost x ≤ℤ cost y
+before-costs cost x y h =
+    let i = is-exists (cost x) in
+    let j = is-exists (cost y) in
+    ⊎-elim
+    (λ u. le-is (cost x) (cost y) (i .0) (i .1) (j .0) (j .1) (i .2) (j .2) (omega arith))
+    (λ u. le-is (cost x) (cost y) (i .0) (i .1) (j .0) (j .1) (i .2) (j .2) (omega (arith, u .0)))
+    (comesBefore-elim cost x y (i .0) (i .1) (j .0) (j .1) (i .2) (j .2) h)
+
+-- a permitted layout passes 6
+pub permitted-ok : (p : PriceCard) (l : Limits) (s : Set) (ends : List ℕ) → T (permitted p l s ends) → T (layoutOk s ends)
+unfolding permitted
+permitted-ok p l s ends t =
+    let a = layoutOk s ends in
+    let b = leb (length ends) (mostPartitions p l) in
+    and-fst a b (and-fst (a && b) (every (λ (n : ℕ). leb n (longestPartition p l)) (blockCounts 0 ends)) t)
+
+-- a list that is not empty has an element, and one with an element is not empty
+any-listed : (xs : List (List ℕ)) → T (not (eqb (length xs) 0)) → (x : List ℕ) × List·Memᴰ x xs
+any-listed [] t = absurd t
+any-listed (x ∷ xs) t = (x, List·Memᴰ·head refl)
+
+listed-any : (x : List ℕ) (xs : List (List ℕ)) → List·Memᴰ x xs → T (not (eqb (length xs) 0))
+listed-any x [] m = absurd (List·Memᴰ·not-nil m)
+listed-any x (y ∷ xs) m = not-T (eqb (suc (length xs)) 0) (λ t. let e = eqb→eq (suc (length xs)) 0 t in omega arith)
+
+-- 11 and 15, and which of them is answered
+abbrev lastTwo : Bool → Bool → ℕ
+lastTwo b c = cond b (cond c 0 15) 11
+
+last-two : (b c : Bool) → firstFailed (ask 11 b ∷ ask 15 c ∷ []) ≡ lastTwo b c
+unfolding firstFailed
+last-two true true = refl
+last-two true false = refl
+last-two false c = refl
+
+not-eleven : (b c : Bool) → T b → lastTwo b c ≡ 11 → ⊥
+not-eleven true true t e = omega arith
+not-eleven true false t e = omega arith
+not-eleven false c t e = t
+
+eleven : (b c : Bool) → (T b → ⊥) → lastTwo b c ≡ 11
+eleven true c f = absurd (f tt)
+eleven false c f = refl
+
+zero-passed : (b c : Bool) → lastTwo b c ≡ 0 → T b
+zero-passed true c e = tt
+zero-passed false c e = let z : ⊥ = omega arith in absurd z
+
+-- a planner's answer holds its refusal number
+refusal-kept : (n : ℕ) (a b : PlanResult) → a .answer .refusal ≡ 0 → b .answer .refusal ≡ n → cond (eqb n 0) a b .answer .refusal ≡ n
+refusal-kept n a b e f = go (eqb n 0) refl
+  where
+    go : (t : Bool) → eqb n 0 ≡ t → cond t a b .answer .refusal ≡ n
+    go true q = e ∙ sym (eqb→eq n 0 (of-true (eqb n 0) q))
+    go false q = f
+
+module _ (L : ℕ) (p : PriceCard) (l : Limits) (s : Set) (h : Admitted L p l s) (hs : List ℕ) (c : T (countsOk L hs)) where
+  some-blocks : 1 ≤ blocks s
+  some-blocks = n-least L s (good L s (prices-pass L p l s h .1))
+
+  -- is any layout permitted?
+  abbrev any : Bool
+  any = not (eqb (length (permittedLayouts p l s)) 0)
+
+  any-permitted : T any → (x : List ℕ) × T (permitted p l s x)
+  any-permitted t = let r = any-listed (permittedLayouts p l s) t in (r .0, listed-permitted p l s (r .0) (r .1))
+
+  permitted-any : (x : List ℕ) → T (permitted p l s x) → T any
+  permitted-any x t = listed-any x (permittedLayouts p l s) (permitted-listed p l s some-blocks x t)
+
+  -- The bill of a permitted layout.
+
+  pub bill-answered : (x : List ℕ) → T (permitted p l s x) → costCall L p s x hs ≡ record { refusal = 0; cost = costOf L p (blocks s) x hs }
+  unfolding costCall costChecks
+  bill-answered x t =
+      let q = prices-pass L p l s h in
+      let e : firstFailed (costChecks L p s x hs) ≡ 0
+      = first-passed 1 _ _ (and-fst (pricesOk p) (limitsOk l) (q .0)) ∙ set-passes L s (q .1) .0 _ ∙ first-passed 6 _ _ (permitted-ok p l s x t) ∙ first-passed 8 _ _ (set-passes L s (q .1) .1) ∙ first-passed 9 _ _ c ∙ nothing-failed in
+      rw (e, costCall)
+
+  -- The layout planned.
+
+  abbrev ends : List ℕ
+  ends = plannedEnds L p l s hs
+
+  ends-cheapest : T any → IsCheapest L p l s hs ends
+  unfolding plannedEnds
+  ends-cheapest t = go (cheapest L p l s hs) refl
+    where
+      go : (o : Option (List ℕ)) → cheapest L p l s hs ≡ o → IsCheapest L p l s hs (valueOr [] o)
+      go none e = let r = any-permitted t in absurd (none-permitted p l s L hs some-blocks e (r .0) (r .1))
+      go (some x) e = cheapest-chosen p l s L hs x some-blocks e
+
+  -- a layout has no more ends than there are blocks
+  ends-few : T any → length ends ≤ blocks s
+  ends-few t = omega (arith, cut-count 0 ends (blocks s) (laid s ends (permitted-ok p l s ends (ends-cheapest t .allowed)) .cut))
+
+  -- The refusal number.
+
+  abbrev fits : List ℕ → Bool
+  fits out = leb (length ends) (length out)
+
+  refusal-is : (out : List ℕ) → plannerRefusal L p l s hs (length out) ≡ lastTwo any (fits out)
+  unfolding plannerRefusal plannerChecks
+  refusal-is out =
+      let q = prices-pass L p l s h in
+      first-passed 1 _ _ (q .0) ∙ set-passes L s (q .1) .0 _ ∙ first-passed 8 _ _ (set-passes L s (q .1) .1) ∙ first-passed 9 _ _ c ∙ last-two any (fits out)
+
+  refusal-planned : (out : List ℕ) → planCall L p l s hs out .answer .refusal ≡ lastTwo any (fits out)
+  unfolding planCall
+  refusal-planned out = refusal-kept (plannerRefusal L p l s hs (length out)) _ _ refl refl ∙ refusal-is out
+
+  pub eleven-exactly : (out : List ℕ) → planCall L p l s hs out .answer .refusal ≡ 11 ↔ ((x : List ℕ) → T (permitted p l s x) → ⊥)
+  eleven-exactly out = (
+    λ e. λ x t. not-eleven any (fits out) (permitted-any x t) (sym (refusal-planned out) ∙ e),
+    λ f. refusal-planned out ∙ eleven any (fits out) (λ t. let r = any-permitted t in f (r .0) (r .1)),
+  )
+
+  -- a slice of as many ends as there are blocks is long enough
+  pub room-answers : (out : List ℕ) → planCall L p l s hs out .answer .refusal ≢ 11 → blocks s ≤ length out → planCall L p l s hs out .answer .refusal ≡ 0
+  room-answers out f k = refusal-planned out ∙ go any refl
+    where
+      go : (b : Bool) → any ≡ b → lastTwo b (fits out) ≡ 0
+      go true e = ap (λ (v : Bool). lastTwo true v) (is-true (fits out) (le→leb (length ends) (length out) (omega (arith, ends-few (of-true any e)))))
+      go false e = absurd (f (refusal-planned out ∙ ap (λ (v : Bool). lastTwo v (fits out)) e))
+
+  -- What an accepted planner answers.
+
+  module _ (out : List ℕ) (e : planCall L p l s hs out .answer .refusal ≡ 0) where
+    abbrev r : PlanResult
+    r = planCall L p l s hs out
+
+    accepted : plannerRefusal L p l s hs (length out) ≡ 0
+    accepted = refusal-is out ∙ sym (refusal-planned out) ∙ e
+
+    any-there : T any
+    any-there = zero-passed any (fits out) (sym (refusal-planned out) ∙ e)
+
+    result-is : r ≡ record { answer = record { refusal = 0; count = length ends; cost = costOf L p (blocks s) ends hs }; ends = ends ++ drop (length ends) out }
+    unfolding planCall
+    result-is = rw (accepted, planCall)
+
+    layout-is : layoutOf r ≡ ends
+    layout-is = ap layoutOf result-is ∙ take-at ends _ (length ends) refl
+
+    pub layout-permitted : T (permitted p l s (layoutOf r))
+    layout-permitted = rw layout-is (ends-cheapest any-there .allowed)
+
+    pub layout-billed : r .answer .cost ≡ costOf L p (blocks s) (layoutOf r) hs
+    layout-billed = rw layout-is (ap (λ (v : PlanResult). v .answer .cost) result-is)
+
+    pub layout-least : (x : List ℕ) → T (permitted p l s x) → costOf L p (blocks s) (layoutOf r) hs ≤ℤ costOf L p (blocks s) x hs
+    layout-least x t = rw layout-is (before-costs (λ (y : List ℕ). costOf L p (blocks s) y hs) ends x (ends-cheapest any-there .first x t))

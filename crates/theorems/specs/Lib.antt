@@ -1,0 +1,4 @@
+-- The theorems as statements; each is proved in the file of proofs/ that its comment names.
+pub mod Ledger
+pub mod Plan
+pub mod PlanExample
