@@ -1,0 +1,4 @@
+-- What each test says of its check.
+pub mod Answers
+pub mod Judging
+pub mod Sets

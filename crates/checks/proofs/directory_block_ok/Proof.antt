@@ -1,0 +1,33 @@
+-- `checks::directory_block_ok` meets its contract. Assumes nothing.
+use Rattle.checks.proofs.Answers.{slices-other-weights, slices-other-yields, slices-even, no-directory, directory-block}
+use Prim.Native.Nat.{ℕ, _+_, _-_, _*_, _≤_, _<_}
+use mathlib.Core.Path.{_≡_, refl, sym, ap, _∙_}
+use native.Mathlib.Omega.{arith}
+use borrow.Author.Needs.{needs}
+use mathlib.Core.Bool.{Bool, true, false, cond, not, _&&_, _||_}
+use borrow.Author.Tests.{lt-leb, le-leb, eq-eqb, ne-eqb, not-true, not-false}
+use lib.Dec.{leb, eqb}
+use lib.ListN.{length, getD, take, drop, length-take, length-drop}
+use Rattle.checks.proofs.Answers.{and-no, and-yes, below, up-to, fails, passes, shape-refused, shape-judged}
+use Rattle.model.specs.Directory.{directoryBlockOk}
+use Rattle.checks.proofs.directory_block_ok.Statement.{statement}
+use Rattle.checks.proofs.directory_block_ok.Tie as tie
+
+returns : tie.Need-returns
+unfolding directoryBlockOk
+returns c = let g = c .before .before .args in no-directory (g .directory .now) (c .if1 .taken)
+
+shared-slice-read-block-length-ok : tie.Need-shared-slice-read-block-length-ok
+shared-slice-read-block-length-ok c = search needs
+
+block-length-ok-requires : tie.Need-block-length-ok-requires
+block-length-ok-requires c κs = search needs
+
+returns-2 : tie.Need-returns-2
+unfolding directoryBlockOk
+returns-2 c = let g = c .before .before .before .before .args in c .block-length-ok .ensures ∙ directory-block (g .directory .now) (c .before .before .if1 .left)
+
+pub directory-block-ok-spec : {M : Type 1} → statement M
+directory-block-ok-spec =
+    tie.close
+    (tie.spec returns shared-slice-read-block-length-ok block-length-ok-requires returns-2)

@@ -1,0 +1,32 @@
+-- `checks::slices_ok` meets its contract. Assumes nothing.
+use Rattle.checks.proofs.Answers.{slices-other-weights, slices-other-yields, slices-even, no-directory, directory-block}
+use Prim.Native.Nat.{ℕ, _+_, _-_, _*_, _≤_, _<_}
+use mathlib.Core.Path.{_≡_, refl, sym, ap, _∙_}
+use native.Mathlib.Omega.{arith}
+use borrow.Author.Needs.{needs}
+use mathlib.Core.Bool.{Bool, true, false, cond, not, _&&_, _||_}
+use borrow.Author.Tests.{lt-leb, le-leb, eq-eqb, ne-eqb, not-true, not-false}
+use lib.Dec.{leb, eqb}
+use lib.ListN.{length, getD, take, drop, length-take, length-drop}
+use Rattle.checks.proofs.Answers.{and-no, and-yes, below, up-to, fails, passes, shape-refused, shape-judged}
+use Rattle.model.specs.Blocks.{slotsOk, slicesOk}
+use Rattle.checks.proofs.slices_ok.Statement.{statement}
+use Rattle.checks.proofs.slices_ok.Tie as tie
+
+returns : tie.Need-returns
+unfolding slicesOk
+returns c = let g = c .before .before .before .before .args in slices-other-weights (g .g .now) (g .w .now) (g .y .now) (c .if1 .taken)
+
+returns-2 : tie.Need-returns-2
+unfolding slicesOk
+returns-2 c = let g = c .before .before .before .before .before .args in slices-other-yields (g .g .now) (g .w .now) (g .y .now) (c .before .if1 .left) (c .if2 .taken)
+
+slots-ok-requires : tie.Need-slots-ok-requires
+slots-ok-requires c κs = search needs
+
+returns-3 : tie.Need-returns-3
+unfolding slicesOk
+returns-3 c = let g = c .before .before .before .before .before .before .args in c .slots-ok .ensures ∙ slices-even (g .g .now) (g .w .now) (g .y .now) (c .before .before .if1 .left) (c .before .if2 .left)
+
+pub slices-ok-spec : {M : Type 1} → statement M
+slices-ok-spec = tie.close (tie.spec returns returns-2 slots-ok-requires returns-3)

@@ -1,0 +1,27 @@
+-- `checks::values_ok` meets its contract. Assumes nothing.
+use Prim.Native.Nat.{ℕ, _+_, _-_, _*_, _≤_, _<_}
+use mathlib.Core.Path.{_≡_, refl, sym, ap, _∙_}
+use native.Mathlib.Omega.{arith}
+use borrow.Author.Needs.{needs}
+use mathlib.Core.Bool.{Bool, true, false, cond, not, _&&_, _||_}
+use borrow.Author.Tests.{lt-leb, le-leb, eq-eqb, ne-eqb, not-true, not-false}
+use lib.Dec.{leb, eqb}
+use lib.ListN.{length, getD, take, drop, length-take, length-drop}
+use Rattle.checks.proofs.Answers.{and-no, and-yes, below, up-to, fails, passes, shape-refused, shape-judged}
+use Rattle.checks.proofs.values_ok.Statement.{statement}
+use Rattle.checks.proofs.values_ok.Tie as tie
+
+within-requires : tie.Need-within-requires
+within-requires c κs = search needs
+
+within-requires-2 : tie.Need-within-requires-2
+within-requires-2 c κs = search needs
+
+returns : tie.Need-returns
+returns c = c .within2 .ensures ∙ and-yes _ _ (sym (c .before .before .within .ensures) ∙ c .before .if1 .taken)
+
+returns-2 : tie.Need-returns-2
+returns-2 c = and-no _ _ (sym (c .before .within .ensures) ∙ c .if1 .left)
+
+pub values-ok-spec : {M : Type 1} → statement M
+values-ok-spec = tie.close (tie.spec within-requires within-requires-2 returns returns-2)

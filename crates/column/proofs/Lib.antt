@@ -1,0 +1,7 @@
+-- What each test of a call shows of its answer.
+pub mod LentColumns
+pub mod Answering
+pub mod Reading
+pub mod Searching
+pub mod Writing
+pub mod Handing

@@ -1,0 +1,117 @@
+-- Where a delivery lies that delete or move names. Assumes nothing.
+use Prim.Native.Nat.{ℕ, zero, suc, _+_, _-_, _≤_, _<_}
+use mathlib.Core.Path.{_≡_, refl, sym, ap, _∙_}
+use mathlib.Core.Bool.{Bool, true, false, cond, _&&_, _||_}
+use mathlib.Core.List.{List, [], _∷_, map}
+use native.Mathlib.Omega.{arith}
+use lib.ListN.{length, getD, take, drop}
+use lib.Seq.{drop-cons}
+use lib.Dec.{ltb, eqb}
+use borrow.Author.Tests.{lt-ltb, le-ltb, ltb-true, ltb-false, ne-eqb}
+use Rattle.model.specs.declared.Delivery.{Delivery}
+use Rattle.model.specs.declared.Counts.{Counts}
+use Rattle.model.specs.Lists.{sumOf, every}
+use Rattle.model.specs.Checks.{firstFailed}
+use Rattle.model.specs.Deliveries.{rows, inRange, same, among, firstMatch}
+use Rattle.model.specs.Calls.{delete}
+use Rattle.model.specs.Partitions.{parts, part, between, startOf}
+use Rattle.model.specs.Directory.{directoryOf}
+use Rattle.model.specs.Column.{Column, slots, lengthsOf, target, recordsNear, scannedOk, isHeld}
+use Rattle.model.specs.Accesses.{noCounts, blocksOf, readsOf, blocksScanned, scanCounts, scanNear}
+use Rattle.model.specs.Questions.{lentChecks, callChecks}
+use Rattle.model.specs.ColumnCalls.{columnRefusal, slotOf}
+use Rattle.model.proofs.Parts.{between-one, part-parts, length-part}
+use Rattle.model.proofs.Deliveries.{rows-part, length-rows, values-rows, first-among}
+use Rattle.checks.specs.Lent.{allValuesOk}
+use Rattle.column.specs.declared.Located.{Located}
+use Rattle.column.specs.Answers.{notLocated, searchedOf, locatedOf}
+use Rattle.column.proofs.LentColumns.{LentColumn, lent-column}
+use Rattle.column.proofs.Answering.{lent-yes, lent-refusal}
+use Rattle.column.proofs.Reading.{target-there}
+
+-- a delivery is held just if the first match is inside
+pub among-match : (d : Delivery) (ds : List Delivery) → among d ds ≡ ltb (firstMatch d ds) (length ds)
+among-match d ds = sym (first-among d ds)
+
+-- In one partition.
+
+module _ (b t a : ℕ) (d : Delivery) (g w y : List ℕ) (p : length w ≡ length g) (q : length y ≡ length g) where
+  pub search-bad : allValuesOk w y ≡ false → notLocated 8 noCounts ≡ searchedOf b t a d (rows g w y)
+  unfolding searchedOf
+  search-bad e = rw (values-rows g w y p q, e)
+
+  module _ (e : allValuesOk w y ≡ true) (i : ℕ) (k : Counts) (m : i ≡ firstMatch d (rows g w y)) (n : k ≡ readsOf (blocksOf b (length g))) where
+    pub search-found : i < length g → _≡_ {A = Located} (record { refusal = 0; target = t; start = a; slot = i; counts = k }) (searchedOf b t a d (rows g w y))
+    unfolding searchedOf
+    search-found h = rw (values-rows g w y p q, e, length-rows g w y p q, ← m, lt-ltb i (length g) h, n)
+
+    pub search-missing : length g ≤ i → notLocated 13 k ≡ searchedOf b t a d (rows g w y)
+    unfolding searchedOf
+    search-missing h = rw (values-rows g w y p q, e, length-rows g w y p q, ← m, le-ltb i (length g) h, n)
+
+-- In the column.
+
+module _ (c : Column) (d : Delivery) where
+  -- refused by 2, 3 or 6
+  pub located-lent : (n : ℕ) → n ≡ firstFailed (lentChecks 64 c) → (n ≡ 0 → ⊥) → notLocated n noCounts ≡ locatedOf c d
+  unfolding locatedOf
+  located-lent n e h =
+      let r = lent-refusal c (delete d) n e h in
+      rw (r .0, ne-eqb n 0 h, ne-eqb n 13 (r .1))
+
+  module _ (h : firstFailed (lentChecks 64 c) ≡ 0) where
+    pub refusal-is : (s t : Bool) → inRange d && scannedOk 64 c (d .grower) (d .grower) ≡ s → isHeld 64 c d ≡ t → columnRefusal 64 c (delete d) ≡ cond s (cond t 0 13) 8
+    unfolding callChecks firstFailed
+    refusal-is s t e f = lent-yes c (delete d) h ∙ rw (e, f)
+
+    -- refused by 8
+    pub located-range : inRange d ≡ false → notLocated 8 noCounts ≡ locatedOf c d
+    unfolding locatedOf
+    located-range e = rw (refusal-is false (isHeld 64 c d) (rw e) refl)
+
+    l : LentColumn c
+    l = lent-column c h
+
+    there : target 64 c (d .grower) < length (lengthsOf 64 c)
+    there = target-there c h (d .grower)
+
+    long : sumOf (lengthsOf 64 c) ≤ length (slots c)
+    long = omega (arith, length-rows (c .growers) (c .weights) (c .yields) (l .even-weights) (l .even-yields), l .shape .room)
+
+    pub near-length : length (recordsNear 64 c (d .grower)) ≡ getD (lengthsOf 64 c) (target 64 c (d .grower)) 0
+    near-length = ap length (between-one (target 64 c (d .grower)) (lengthsOf 64 c) (slots c) there) ∙ length-part (target 64 c (d .grower)) (lengthsOf 64 c) (slots c) there long
+
+    -- the scan of the grower's partition
+    near-counts : readsOf (blocksOf (getD (c .directory) 0 0) (length (recordsNear 64 c (d .grower)))) ≡ scanNear (directoryOf 64 (c .directory)) (d .grower)
+    unfolding scanNear scanCounts blocksScanned directoryOf sumOf
+    near-counts =
+        let t = target 64 c (d .grower) in
+        let ns = lengthsOf 64 c in
+        let one : t + 1 - t ≡ 1 = omega arith in
+        let e : sumOf (map (blocksOf (getD (c .directory) 0 0)) (take (t + 1 - t) (drop t ns))) ≡ blocksOf (getD (c .directory) 0 0) (getD ns t 0)
+        = rw (one, drop-cons ns t 0 there) (omega arith) in
+        ap (λ (n : ℕ). readsOf (blocksOf (getD (c .directory) 0 0) n)) near-length ∙ ap readsOf (sym e)
+
+    pub located-searched : inRange d ≡ true
+        → searchedOf (getD (c .directory) 0 0) (target 64 c (d .grower)) (startOf (lengthsOf 64 c) (target 64 c (d .grower))) d (recordsNear 64 c (d .grower)) ≡ locatedOf c d
+    unfolding searchedOf locatedOf scannedOk isHeld
+    located-searched e = go (every inRange (recordsNear 64 c (d .grower))) (ltb (firstMatch d (recordsNear 64 c (d .grower))) (length (recordsNear 64 c (d .grower)))) refl refl
+      where
+        unfolded : (s : Bool) → every inRange (recordsNear 64 c (d .grower)) ≡ s → inRange d && scannedOk 64 c (d .grower) (d .grower) ≡ s
+        unfolded s f = rw (e, f)
+
+        held : (t : Bool) → ltb (firstMatch d (recordsNear 64 c (d .grower))) (length (recordsNear 64 c (d .grower))) ≡ t → isHeld 64 c d ≡ t
+        held t f = among-match d (recordsNear 64 c (d .grower)) ∙ f
+
+        go : (s t : Bool) → every inRange (recordsNear 64 c (d .grower)) ≡ s → ltb (firstMatch d (recordsNear 64 c (d .grower))) (length (recordsNear 64 c (d .grower))) ≡ t
+            → searchedOf (getD (c .directory) 0 0) (target 64 c (d .grower)) (startOf (lengthsOf 64 c) (target 64 c (d .grower))) d (recordsNear 64 c (d .grower)) ≡ locatedOf c d
+        go true true f i = rw (f, i, refusal-is true true (unfolded true f) (held true i), near-counts)
+        go true false f i = rw (f, i, refusal-is true false (unfolded true f) (held false i), near-counts)
+        go false t f i = rw (f, refusal-is false t (unfolded false f) (held t i))
+
+    -- the part that is lent is the grower's partition
+    pub near-part : (a n : ℕ) → a ≡ startOf (lengthsOf 64 c) (target 64 c (d .grower)) → n ≡ getD (lengthsOf 64 c) (target 64 c (d .grower)) 0
+        → rows (take (a + n - a) (drop a (c .growers))) (take (a + n - a) (drop a (c .weights))) (take (a + n - a) (drop a (c .yields))) ≡ recordsNear 64 c (d .grower)
+    near-part a n ea en =
+        let e : a + n - a ≡ n = omega arith in
+        rw (rows-part, e, ea, en) (sym (between-one (target 64 c (d .grower)) (lengthsOf 64 c) (slots c) there ∙ part-parts (target 64 c (d .grower)) (lengthsOf 64 c) (slots c)))

@@ -1,0 +1,264 @@
+-- insert, delete and move: the slots and lengths that they leave, and their answers. Assumes nothing.
+use Prim.Native.Nat.{ℕ, zero, suc, _+_, _-_, _≤_, _<_}
+use mathlib.Core.Path.{_≡_, refl, sym, ap, ap₂, _∙_, subst}
+use mathlib.Core.Bool.{Bool, true, false, cond, _&&_}
+use mathlib.Core.List.{List, [], _∷_, _++_}
+use native.Mathlib.Omega.{arith}
+use lib.ListN.{length, getD, take, drop, set, length-set, length-take, length-drop, take-append-drop}
+use lib.Seq.{set-append-left, length-take-le, drop-at}
+use lib.Dec.{T, leb, ltb, eqb}
+use borrow.Author.Tests.{lt-ltb, le-ltb, ltb-true, ne-eqb}
+use Rattle.model.specs.declared.Delivery.{Delivery}
+use Rattle.model.specs.declared.Counts.{Counts}
+use Rattle.model.specs.declared.Answer.{Answer}
+use Rattle.model.specs.Lists.{sumOf}
+use Rattle.model.specs.Checks.{firstFailed}
+use Rattle.model.specs.Deliveries.{delivery, inRange, noTotals}
+use Rattle.model.specs.Calls.{Call, insert, delete, move}
+use Rattle.model.specs.Partitions.{startOf, oneMore, oneFewer}
+use Rattle.model.specs.Moves.{inserted, deleted, moved}
+use Rattle.model.specs.Directory.{partitionCount, directoryOf, directoryOk, withLengths}
+use Rattle.model.specs.Column.{Column, lengthsOf, target, recordsNear, scannedOk, hasFreeSlot, isHeld}
+use Rattle.model.specs.Accesses.{counts, noCounts, andAlso, onward, apart, readsOf, scanNear, scanCounts, callCounts, missCounts}
+use Rattle.model.specs.Questions.{lentChecks, callChecks, columnChecks}
+use Rattle.model.specs.ColumnCalls.{Called, columnRefusal, columnAfter, columnCall, callTotals, refusedCounts, slotOf, moveSlices, freed}
+use Rattle.model.proofs.DirectoryLaws.{Shaped, Kept, with-lengths, shaped, shaped-passes, shaped-with, length-lengths}
+use Rattle.model.proofs.MovesLengths.{sum-oneFewer}
+use Rattle.checks.specs.Lent.{columnOf}
+use Rattle.column.specs.declared.Located.{Located}
+use Rattle.column.specs.declared.Opened.{Opened}
+use Rattle.column.specs.Answers.{refusedWith, acceptedWith, notLocated, locatedOf, notOpened, openedOf, Held, Ready, putOf, takenOf, shiftedOf}
+use Rattle.column.proofs.LentColumns.{LentColumn, lent-column, count-lengths, held}
+use Rattle.column.proofs.Answering.{lent-yes, lent-refusal, refused-call, accepted-lent, accepted-call}
+use Rattle.column.proofs.Reading.{target-there}
+use Rattle.column.proofs.Searching.{among-match, near-length, refusal-is}
+
+-- One length changed.
+
+set-in-front : (l : List ℕ) (k t v : ℕ) → t < k → k ≤ length l → set l t v ≡ set (take k l) t v ++ drop k l
+set-in-front l k t v h m =
+    ap (λ (x : List ℕ). set x t v) (sym (take-append-drop k l)) ∙ set-append-left (take k l) (drop k l) t v (omega (arith, length-take-le k l m))
+
+pub set-length : (ns : List ℕ) (t v : ℕ) → length ns ≡ 130 → getD ns 1 0 ≤ 64 → t < getD ns 1 0 → set ns (2 + t) v ≡ withLengths (set (directoryOf 64 ns .lengths) t v) ns
+unfolding withLengths directoryOf
+set-length [] t v e h k = let z : ⊥ = omega arith in absurd z
+set-length (b ∷ []) t v e h k = let z : ⊥ = omega arith in absurd z
+set-length (b ∷ c ∷ r) t v e h k =
+    let q : 2 + t ≡ suc (suc t) = omega arith in
+    let n : length (set (take c r) t v) ≡ c = length-set (take c r) t v ∙ length-take-le c r (omega arith) in
+    ap (λ (m : ℕ). set (b ∷ c ∷ r) m v) q ∙ ap (λ (l : List ℕ). b ∷ c ∷ l) (set-in-front r c t v k (omega arith) ∙ ap (λ (m : ℕ). set (take c r) t v ++ drop m r) (sym n))
+
+-- two changes of the lengths are the last one
+pub with-with : (a b ns : List ℕ) → 2 ≤ length ns → length a ≡ length b → withLengths a (withLengths b ns) ≡ withLengths a ns
+unfolding withLengths
+with-with a b [] h e = let z : ⊥ = omega arith in absurd z
+with-with a b (x ∷ []) h e = let z : ⊥ = omega arith in absurd z
+with-with a b (x ∷ y ∷ r) h e =
+    let q : drop (length a) (b ++ drop (length b) r) ≡ drop (length a) r = rw e (drop-at b (drop (length b) r) (length b) refl) in
+    ap (λ (l : List ℕ). x ∷ y ∷ (a ++ l)) q
+
+-- a directory after one length has fallen
+module _ (ns : List ℕ) (t u : ℕ) (h : Held ns t) (k : 1 ≤ getD (directoryOf 64 ns .lengths) t 0) where
+  s : Shaped 64 262144 ns
+  s = shaped 64 262144 ns (h .shaped)
+
+  ls : List ℕ
+  ls = directoryOf 64 ns .lengths
+
+  count : length ls ≡ getD ns 1 0
+  unfolding ls
+  count = length-lengths 64 262144 ns s
+
+  fewer : sumOf (oneFewer t ls) + 1 ≡ sumOf ls
+  unfolding ls
+  fewer = sum-oneFewer t ls (omega (arith, count, h .there)) k
+
+  changed : Kept 64 (oneFewer t ls) ns
+  changed = with-lengths 64 (oneFewer t ls) ns (s .size) (length-set ls t (getD ls t 0 - 1) ∙ count) (s .few)
+
+  pub held-after : u < partitionCount 64 ns → Held (withLengths (oneFewer t (directoryOf 64 ns .lengths)) ns) u
+  unfolding ls
+  held-after m = record {
+    shaped = shaped-passes 64 262144 _ (shaped-with 64 262144 (oneFewer t ls) ns s (length-set ls t (getD ls t 0 - 1) ∙ count) (omega (arith, fewer, s .room)));
+    there = rw (changed .count) m;
+  }
+
+  pub twice : (after last : List ℕ) → after ≡ withLengths (oneFewer t (directoryOf 64 ns .lengths)) ns → last ≡ withLengths (oneMore u (directoryOf 64 after .lengths)) after
+      → last ≡ withLengths (oneMore u (oneFewer t (directoryOf 64 ns .lengths))) ns
+  unfolding ls
+  twice after last e f =
+      let d : directoryOf 64 after .lengths ≡ oneFewer t ls = ap (λ (n : List ℕ). directoryOf 64 n .lengths) e ∙ ap (λ (x : Rattle.model.specs.Directory.Directory). x .lengths) (changed .directory) in
+      f ∙ ap₂ (λ (l n : List ℕ). withLengths (oneMore u l) n) d e
+      ∙ with-with (oneMore u (oneFewer t ls)) (oneFewer t ls) ns (omega (arith, s .size)) (length-set (oneFewer t ls) u _)
+
+-- The column afterwards, slice by slice.
+pub column-is : (f : ℕ → List ℕ → List ℕ) (d : Delivery) (ls : List ℕ) (c : Column) (ns g w y : List ℕ)
+    → ns ≡ withLengths ls (c .directory) → g ≡ f (d .grower) (c .growers) → w ≡ f (d .weight) (c .weights) → y ≡ f (d .«oil_yield») (c .yields)
+    → columnOf ns g w y ≡ moveSlices f d ls c
+unfolding moveSlices
+column-is f d ls c ns g w y en eg ew ey = rw (en, eg, ew, ey)
+
+-- insert.
+
+module _ (c : Column) (d : Delivery) where
+  pub opened-lent : (n : ℕ) → n ≡ firstFailed (lentChecks 64 c) → (n ≡ 0 → ⊥) → notOpened n ≡ openedOf c d
+  unfolding openedOf
+  opened-lent n e h = rw (lent-refusal c (insert d) n e h .0, ne-eqb n 0 h)
+
+  module _ (h : firstFailed (lentChecks 64 c) ≡ 0) where
+    insert-refusal : (s t : Bool) → inRange d ≡ s → hasFreeSlot 64 c ≡ t → columnRefusal 64 c (insert d) ≡ cond s (cond t 0 12) 8
+    unfolding callChecks firstFailed
+    insert-refusal s t e f = lent-yes c (insert d) h ∙ rw (e, f)
+
+    pub opened-range : inRange d ≡ false → notOpened 8 ≡ openedOf c d
+    unfolding openedOf
+    opened-range e = rw (insert-refusal false (hasFreeSlot 64 c) e refl)
+
+    pub opened-full : inRange d ≡ true → length (c .growers) ≤ sumOf (lengthsOf 64 c) → notOpened 12 ≡ openedOf c d
+    unfolding openedOf hasFreeSlot
+    opened-full e k = rw (insert-refusal true false e (le-ltb (sumOf (lengthsOf 64 c)) (length (c .growers)) k))
+
+    pub opened-yes : inRange d ≡ true → sumOf (lengthsOf 64 c) < length (c .growers)
+        → _≡_ {A = Opened} (record { refusal = 0; target = target 64 c (d .grower); start = startOf (lengthsOf 64 c) (target 64 c (d .grower)); used = sumOf (lengthsOf 64 c) }) (openedOf c d)
+    unfolding openedOf hasFreeSlot
+    opened-yes e k = rw (insert-refusal true true e (lt-ltb (sumOf (lengthsOf 64 c)) (length (c .growers)) k))
+
+-- tests by their outcome
+by-test : (b : Bool) (P : Type 0) → (b ≡ true → P) → (b ≡ false → P) → P
+by-test true P f g = f refl
+by-test false P f g = g refl
+
+by-number : (n : ℕ) (P : Type 0) → (n ≡ 0 → P) → ((n ≡ 0 → ⊥) → P) → P
+by-number zero P f g = f refl
+by-number (suc n) P f g = g (λ e. omega arith)
+
+-- a column that has passed 2, 3 and 6 is ready at the partition of a grower
+pub ready : (c : Column) (g : ℕ) → firstFailed (lentChecks 64 c) ≡ 0 → Ready c (target 64 c g) (startOf (lengthsOf 64 c) (target 64 c g))
+ready c g h =
+    let l = lent-column c h in
+    record { here = held c l (target 64 c g) (target-there c h g); start = refl; room = l .shape .room; even-weights = l .even-weights; even-yields = l .even-yields }
+
+module _ (c : Column) (d : Delivery) where
+  -- an insert is refused by 2, 3, 6, 8 or 12
+  never-missing : columnRefusal 64 c (insert d) ≡ 13 → ⊥
+  never-missing e = by-number (firstFailed (lentChecks 64 c)) ⊥ lent lent-not
+    where
+      lent : firstFailed (lentChecks 64 c) ≡ 0 → ⊥
+      lent h = by-test (inRange d) ⊥
+          (λ p. by-test (hasFreeSlot 64 c) ⊥ (λ q. omega (arith, e, insert-refusal c d h true true p q)) (λ q. omega (arith, e, insert-refusal c d h true false p q)))
+          (λ p. omega (arith, e, insert-refusal c d h false (hasFreeSlot 64 c) p refl))
+
+      lent-not : (firstFailed (lentChecks 64 c) ≡ 0 → ⊥) → ⊥
+      lent-not h = let r = lent-refusal c (insert d) (firstFailed (lentChecks 64 c)) refl h in r .1 (sym (r .0) ∙ e)
+
+  module _ (o : Opened) (w : o ≡ openedOf c d) where
+    opened-refusal : o .refusal ≡ columnRefusal 64 c (insert d)
+    unfolding openedOf
+    opened-refusal = by-number (columnRefusal 64 c (insert d)) _
+        (λ e. ap (λ (x : Opened). x .refusal) (rw e at w) ∙ sym e)
+        (λ e. ap (λ (x : Opened). x .refusal) (rw (ne-eqb (columnRefusal 64 c (insert d)) 0 e) at w))
+
+    pub insert-refused : (o .refusal ≡ 0 → ⊥) → _≡_ {A = Called} (record { answer = refusedWith (o .refusal) noCounts; column = c }) (columnCall 64 c (insert d))
+    insert-refused h = refused-call c (insert d) (o .refusal) (sym opened-refusal) h (λ e. never-missing (sym opened-refusal ∙ e))
+
+    pub record Open : Type 0 where
+      pub accepted : columnRefusal 64 c (insert d) ≡ 0
+      pub lent : firstFailed (lentChecks 64 c) ≡ 0
+      pub target-is : o .target ≡ target 64 c (d .grower)
+      pub start-is : o .start ≡ startOf (lengthsOf 64 c) (target 64 c (d .grower))
+      pub used-is : o .used ≡ sumOf (lengthsOf 64 c)
+      pub free : sumOf (lengthsOf 64 c) < length (c .growers)
+
+    pub insert-open : o .refusal ≡ 0 → Open
+    unfolding openedOf hasFreeSlot
+    insert-open h =
+        let e : columnRefusal 64 c (insert d) ≡ 0 = sym opened-refusal ∙ h in
+        let l = accepted-lent c (insert d) e in
+        let x = rw e at w in
+        record {
+          accepted = e;
+          lent = l;
+          target-is = ap (λ (v : Opened). v .target) x;
+          start-is = ap (λ (v : Opened). v .start) x;
+          used-is = ap (λ (v : Opened). v .used) x;
+          free = by-test (inRange d) _
+              (λ p. by-test (ltb (sumOf (lengthsOf 64 c)) (length (c .growers))) _ (λ q. ltb-true (sumOf (lengthsOf 64 c)) (length (c .growers)) q) (λ q. absurd (omega (arith, e, insert-refusal c d l true false p q))))
+              (λ p. absurd (omega (arith, e, insert-refusal c d l false (hasFreeSlot 64 c) p refl)));
+        }
+
+    pub insert-done : Open → (after : Column) (n : ℕ) (r : Answer) → after ≡ putOf c (target 64 c (d .grower)) d → n ≡ onward (directoryOf 64 (c .directory)) (target 64 c (d .grower))
+        → r ≡ acceptedWith (counts (1 + n) 0 (1 + n)) → _≡_ {A = Called} (record { answer = r; column = after }) (columnCall 64 c (insert d))
+    unfolding callTotals callCounts columnAfter
+    insert-done a after n r e f i = rw (i, e, f) (accepted-call c (insert d) (a .accepted))
+
+-- delete and move.
+
+-- the two put the same checks
+move-refusal : (c : Column) (d : Delivery) (g : ℕ) → columnRefusal 64 c (move d g) ≡ columnRefusal 64 c (delete d)
+unfolding columnRefusal columnChecks callChecks
+move-refusal c d g = refl
+
+module _ (c : Column) (d : Delivery) (f : Located) (w : f ≡ locatedOf c d) where
+  located-refusal : f .refusal ≡ columnRefusal 64 c (delete d)
+  unfolding locatedOf
+  located-refusal = by-number (columnRefusal 64 c (delete d)) _
+      (λ e. ap (λ (x : Located). x .refusal) (rw e at w) ∙ sym e)
+      (λ e. ap (λ (x : Located). x .refusal) (rw (ne-eqb (columnRefusal 64 c (delete d)) 0 e) at w))
+
+  located-counts : (f .refusal ≡ 0 → ⊥) → f .counts ≡ cond (eqb (columnRefusal 64 c (delete d)) 13) (scanNear (directoryOf 64 (c .directory)) (d .grower)) noCounts
+  unfolding locatedOf
+  located-counts h = ap (λ (x : Located). x .counts) (rw (ne-eqb (columnRefusal 64 c (delete d)) 0 (λ e. h (located-refusal ∙ e))) at w)
+
+  pub delete-refused : (f .refusal ≡ 0 → ⊥) → _≡_ {A = Called} (record { answer = refusedWith (f .refusal) (f .counts); column = c }) (columnCall 64 c (delete d))
+  unfolding columnCall refusedCounts missCounts
+  delete-refused h = rw (located-counts h, located-refusal, ne-eqb (columnRefusal 64 c (delete d)) 0 (λ e. h (located-refusal ∙ e)))
+
+  pub move-refused : (g : ℕ) → (f .refusal ≡ 0 → ⊥) → _≡_ {A = Called} (record { answer = refusedWith (f .refusal) (f .counts); column = c }) (columnCall 64 c (move d g))
+  unfolding columnCall refusedCounts missCounts
+  move-refused g h = rw (located-counts h, located-refusal, move-refusal c d g, ne-eqb (columnRefusal 64 c (delete d)) 0 (λ e. h (located-refusal ∙ e)))
+
+  pub record Found : Type 0 where
+    pub accepted : columnRefusal 64 c (delete d) ≡ 0
+    pub lent : firstFailed (lentChecks 64 c) ≡ 0
+    pub target-is : f .target ≡ target 64 c (d .grower)
+    pub start-is : f .start ≡ startOf (lengthsOf 64 c) (target 64 c (d .grower))
+    pub slot-is : f .slot ≡ slotOf 64 c d
+    pub counts-are : f .counts ≡ scanNear (directoryOf 64 (c .directory)) (d .grower)
+    pub inside : slotOf 64 c d < getD (lengthsOf 64 c) (target 64 c (d .grower)) 0
+
+  pub found : f .refusal ≡ 0 → Found
+  unfolding locatedOf isHeld
+  found h =
+      let e : columnRefusal 64 c (delete d) ≡ 0 = sym located-refusal ∙ h in
+      let l = accepted-lent c (delete d) e in
+      let x = rw e at w in
+      record {
+        accepted = e;
+        lent = l;
+        target-is = ap (λ (v : Located). v .target) x;
+        start-is = ap (λ (v : Located). v .start) x;
+        slot-is = ap (λ (v : Located). v .slot) x;
+        counts-are = ap (λ (v : Located). v .counts) x;
+        inside = by-test (inRange d && scannedOk 64 c (d .grower) (d .grower)) _
+            (λ p. by-test (isHeld 64 c d) _
+            (λ q. omega (arith, near-length c d l, ltb-true (slotOf 64 c d) (length (recordsNear 64 c (d .grower))) (sym (among-match d (recordsNear 64 c (d .grower))) ∙ q)))
+            (λ q. absurd (omega (arith, e, refusal-is c d l true false p q))))
+            (λ p. absurd (omega (arith, e, refusal-is c d l false (isHeld 64 c d) p refl)));
+      }
+
+  -- a scan's counts leave room
+  pub scan-small : Found → (f .counts .rr ≤ 1) × (f .counts .«rw» ≤ 0)
+  unfolding scanNear scanCounts readsOf
+  scan-small a = (omega (arith, ap (λ (n : Counts). n .rr) (a .counts-are)), omega (arith, ap (λ (n : Counts). n .«rw») (a .counts-are)))
+
+  pub delete-done : Found → (after : Column) (n : ℕ) (r : Answer) → after ≡ takenOf c (target 64 c (d .grower)) (slotOf 64 c d) → n ≡ onward (directoryOf 64 (c .directory)) (target 64 c (d .grower))
+      → r ≡ acceptedWith (andAlso (f .counts) n (1 + n)) → _≡_ {A = Called} (record { answer = r; column = after }) (columnCall 64 c (delete d))
+  unfolding callTotals callCounts columnAfter
+  delete-done a after n r e i j = rw (j, e, i, a .counts-are) (accepted-call c (delete d) (a .accepted))
+
+  pub move-done : (g : ℕ) → Found → (after : Column) (n : ℕ) (r : Answer)
+      → after ≡ shiftedOf c (target 64 c (d .grower)) (slotOf 64 c d) (target 64 c g) (delivery g (d .weight) (d .«oil_yield»))
+      → n ≡ apart (target 64 c (d .grower)) (target 64 c g)
+      → r ≡ acceptedWith (andAlso (f .counts) (1 + n) (2 + n)) → _≡_ {A = Called} (record { answer = r; column = after }) (columnCall 64 c (move d g))
+  unfolding callTotals callCounts columnAfter
+  move-done g a after n r e i j = rw (j, e, i, a .counts-are) (accepted-call c (move d g) (move-refusal c d g ∙ a .accepted))

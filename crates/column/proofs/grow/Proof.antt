@@ -1,0 +1,58 @@
+-- `column::grow` meets its contract. Assumes nothing.
+use Prim.Native.Nat.{ℕ, _+_, _-_, _*_, _≤_, _<_}
+use mathlib.Core.Path.{_≡_, refl, sym, ap, _∙_}
+use native.Mathlib.Omega.{arith}
+use borrow.Author.Needs.{needs}
+use mathlib.Core.Bool.{Bool, true, false}
+use mathlib.Core.List.{List}
+use borrow.Author.Tests.{not-true, not-false}
+use lib.Dec.{T}
+use lib.ListN.{length, getD, take, drop, set, length-set, length-take, length-drop}
+use Rattle.model.specs.Lists.{sumOf, rising}
+use Rattle.model.specs.Place.{place}
+use Rattle.model.specs.Deliveries.{rows}
+use Rattle.model.specs.Column.{Column, lengthsOf, target}
+use Rattle.model.specs.Partitions.{startOf, oneMore, oneFewer}
+use Rattle.model.specs.Directory.{directoryOf, withLengths}
+use Rattle.checks.specs.Lent.{columnOf}
+use Rattle.column.proofs.LentColumns.{LentColumn, lent-column, the-lengths, count-lengths, count-fences, held-directory, held, dir-size, dir-some, dir-few, dir-fences, dir-count, dir-rises, dir-ahead, dir-length, dir-start, dir-fits}
+use Rattle.column.proofs.Writing.{set-length, held-after, twice, column-is, opened-lent, opened-range, opened-full, opened-yes, ready, insert-refused, insert-open, insert-done, delete-refused, move-refused, found, scan-small, delete-done, move-done}
+use Rattle.column.proofs.grow.Statement.{statement}
+use Rattle.column.proofs.grow.Tie as tie
+
+add-i : tie.Need-add-i
+add-i c = let g = (c .args) in omega (arith, ((c .pre)) .there, dir-size (g .directory .now) (((c .pre)) .shaped), dir-few (g .directory .now) (((c .pre)) .shaped))
+
+mul-directory : tie.Need-mul-directory
+mul-directory c = let g = (c .args) in omega (arith, ((c .pre)) .there, dir-size (g .directory .now) (((c .pre)) .shaped), dir-few (g .directory .now) (((c .pre)) .shaped))
+
+slice-read-directory : tie.Need-slice-read-directory
+slice-read-directory c = let g = (c .before .args) in omega (arith, ((c .before .pre)) .there, dir-size (g .directory .now) (((c .before .pre)) .shaped), dir-few (g .directory .now) (((c .before .pre)) .shaped))
+
+add-directory : tie.Need-add-directory
+add-directory c = let g = (c .before .args) in omega (arith, dir-length (g .directory .now) (((c .before .pre)) .shaped) (g .t) (((c .before .pre)) .there), dir-fits (g .directory .now) (((c .before .pre)) .shaped) (g .t))
+
+mul-directory-2 : tie.Need-mul-directory-2
+mul-directory-2 c = let g = (c .before .args) in omega (arith, ((c .before .pre)) .there, dir-size (g .directory .now) (((c .before .pre)) .shaped), dir-few (g .directory .now) (((c .before .pre)) .shaped))
+
+slice-write-directory : tie.Need-slice-write-directory
+slice-write-directory c = let g = (c .before .args) in omega (arith, ((c .before .pre)) .there, dir-size (g .directory .now) (((c .before .pre)) .shaped), dir-few (g .directory .now) (((c .before .pre)) .shaped))
+
+same-length : tie.Need-same-length
+same-length c = search needs
+
+returns : tie.Need-returns
+returns c = let g = (c .before .args) in set-length (g .directory .now) (g .t) _ (dir-size (g .directory .now) (((c .before .pre)) .shaped)) (dir-few (g .directory .now) (((c .before .pre)) .shaped)) (((c .before .pre)) .there) ∙ ap (λ (n : ℕ). withLengths (set (directoryOf 64 (g .directory .now) .lengths) (g .t) (n + 1)) (g .directory .now)) (dir-length (g .directory .now) (((c .before .pre)) .shaped) (g .t) (((c .before .pre)) .there))
+
+pub grow-spec : {M : Type 1} → statement M
+grow-spec =
+    tie.close
+    (tie.spec
+    add-i
+    mul-directory
+    slice-read-directory
+    add-directory
+    mul-directory-2
+    slice-write-directory
+    same-length
+    returns)

@@ -1,0 +1,98 @@
+-- `column::insert` meets its contract. Assumes nothing.
+use Prim.Native.Nat.{ℕ, _+_, _-_, _*_, _≤_, _<_}
+use mathlib.Core.Path.{_≡_, refl, sym, ap, _∙_}
+use native.Mathlib.Omega.{arith}
+use borrow.Author.Needs.{needs}
+use mathlib.Core.Bool.{Bool, true, false}
+use mathlib.Core.List.{List}
+use borrow.Author.Tests.{not-true, not-false}
+use lib.Dec.{T}
+use lib.ListN.{length, getD, take, drop, set, length-set, length-take, length-drop}
+use Rattle.model.specs.Lists.{sumOf, rising}
+use Rattle.model.specs.Place.{place}
+use Rattle.model.specs.Deliveries.{rows}
+use Rattle.model.specs.Column.{Column, lengthsOf, target}
+use Rattle.model.specs.Partitions.{startOf, oneMore, oneFewer}
+use Rattle.model.specs.Directory.{directoryOf, withLengths}
+use Rattle.checks.specs.Lent.{columnOf}
+use Rattle.column.proofs.LentColumns.{LentColumn, lent-column, the-lengths, count-lengths, count-fences, held-directory, held, dir-size, dir-some, dir-few, dir-fences, dir-count, dir-rises, dir-ahead, dir-length, dir-start, dir-fits}
+use Rattle.column.proofs.Writing.{set-length, held-after, twice, column-is, opened-lent, opened-range, opened-full, opened-yes, ready, insert-refused, insert-open, insert-done, delete-refused, move-refused, found, scan-small, delete-done, move-done}
+use Rattle.column.proofs.Reading.{target-there, targets-ordered, range-backwards}
+use Rattle.model.specs.declared.Answer.{Answer}
+use Rattle.column.specs.Answers.{putOf, takenOf, shiftedOf, acceptedWith}
+use Rattle.model.specs.Accesses.{onward, apart, counts, andAlso}
+use Rattle.model.specs.declared.Counts.{Counts}
+use Rattle.model.specs.Deliveries.{delivery}
+use Rattle.model.specs.ColumnCalls.{Called, slotOf}
+use Rattle.model.specs.Calls.{find, range, insert, delete, move}
+use Rattle.column.proofs.insert.Statement.{statement}
+use Rattle.column.proofs.insert.Tie as tie
+
+open-requires : tie.Need-open-requires
+open-requires c κs = search needs
+
+refused-requires : tie.Need-refused-requires
+refused-requires c κs = search needs
+
+same-length : tie.Need-same-length
+same-length c = search needs
+
+same-length-2 : tie.Need-same-length-2
+same-length-2 c = search needs
+
+same-length-3 : tie.Need-same-length-3
+same-length-3 c = search needs
+
+same-length-4 : tie.Need-same-length-4
+same-length-4 c = search needs
+
+returns : tie.Need-returns
+returns c = let g = (c .before .before .before .before .before .before .before .before .before .before .before .args) in let col = columnOf (g .directory .now) (g .growers .now) (g .weights .now) (g .yields .now) in ap (λ (x : Answer). record { answer = x; column = col }) ((c .refused) .ensures) ∙ insert-refused col (g .d) ((c .before .before .«open») .result) ((c .before .before .«open») .ensures) ((c .before .if1) .taken)
+
+onward-requires : tie.Need-onward-requires
+onward-requires c κs = let g = (c .before .before .before .before .before .before .before .before .before .before .before .args) in let col = columnOf (g .directory .now) (g .growers .now) (g .weights .now) (g .yields .now) in let o = insert-open col (g .d) ((c .before .before .«open») .result) ((c .before .before .«open») .ensures) ((c .before .if1) .left) in let l = lent-column col (o .lent) in let hd = held col l (target 64 col (g .d .grower)) (target-there col (o .lent) (g .d .grower)) in rw (o .target-is) hd
+
+add-each : tie.Need-add-each
+add-each c = let g = (c .before .before .before .before .before .before .before .before .before .before .before .before .args) in let col = columnOf (g .directory .now) (g .growers .now) (g .weights .now) (g .yields .now) in let o = insert-open col (g .d) ((c .before .before .before .«open») .result) ((c .before .before .before .«open») .ensures) ((c .before .before .if1) .left) in let l = lent-column col (o .lent) in let hd = held col l (target 64 col (g .d .grower)) (target-there col (o .lent) (g .d .grower)) in omega (arith, (c .onward) .ensures, count-fences col l, l .shape .few)
+
+put-requires : tie.Need-put-requires
+put-requires c κs = let g = (c .before .before .before .before .before .before .before .before .before .before .before .before .before .before .before .before .args) in let col = columnOf (g .directory .now) (g .growers .now) (g .weights .now) (g .yields .now) in let o = insert-open col (g .d) ((c .before .before .before .before .before .before .before .«open») .result) ((c .before .before .before .before .before .before .before .«open») .ensures) ((c .before .before .before .before .before .before .if1) .left) in let l = lent-column col (o .lent) in let hd = held col l (target 64 col (g .d .grower)) (target-there col (o .lent) (g .d .grower)) in rw (o .target-is, o .start-is, o .used-is) (ready col (g .d .grower) (o .lent), refl, o .free)
+
+accepted-requires : tie.Need-accepted-requires
+accepted-requires c κs = search needs
+
+same-length-5 : tie.Need-same-length-5
+same-length-5 c = search needs
+
+same-length-6 : tie.Need-same-length-6
+same-length-6 c = search needs
+
+same-length-7 : tie.Need-same-length-7
+same-length-7 c = search needs
+
+same-length-8 : tie.Need-same-length-8
+same-length-8 c = search needs
+
+returns-2 : tie.Need-returns-2
+returns-2 c = let g = (c .before .before .before .before .before .before .before .before .before .before .before .before .before .before .before .before .before .before .before .before .before .before .before .before .before .before .args) in let col = columnOf (g .directory .now) (g .growers .now) (g .weights .now) (g .yields .now) in let o = insert-open col (g .d) ((c .before .before .before .before .before .before .before .before .before .before .before .before .before .before .before .before .before .«open») .result) ((c .before .before .before .before .before .before .before .before .before .before .before .before .before .before .before .before .before .«open») .ensures) ((c .before .before .before .before .before .before .before .before .before .before .before .before .before .before .before .before .if1) .left) in let l = lent-column col (o .lent) in let hd = held col l (target 64 col (g .d .grower)) (target-there col (o .lent) (g .d .grower)) in let e = (c .before .before .before .before .before .before .before .before .before .put) .ensures ∙ ap (λ (t : ℕ). putOf col t (g .d)) (o .target-is) in let n = (c .before .before .before .before .before .before .before .before .before .before .before .before .before .before .onward) .ensures ∙ ap (onward (directoryOf 64 (g .directory .now))) (o .target-is) in insert-done col (g .d) ((c .before .before .before .before .before .before .before .before .before .before .before .before .before .before .before .before .before .«open») .result) ((c .before .before .before .before .before .before .before .before .before .before .before .before .before .before .before .before .before .«open») .ensures) o _ _ _ e n ((c .accepted) .ensures)
+
+pub insert-spec : {M : Type 1} → statement M
+insert-spec =
+    tie.close
+    (tie.spec
+    open-requires
+    refused-requires
+    same-length
+    same-length-2
+    same-length-3
+    same-length-4
+    returns
+    onward-requires
+    add-each
+    put-requires
+    accepted-requires
+    same-length-5
+    same-length-6
+    same-length-7
+    same-length-8
+    returns-2)

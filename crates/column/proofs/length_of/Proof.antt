@@ -1,0 +1,31 @@
+-- `column::length_of` meets its contract. Assumes nothing.
+use Prim.Native.Nat.{ℕ, _+_, _-_, _*_, _≤_, _<_}
+use mathlib.Core.Path.{_≡_, refl, sym, ap, _∙_}
+use native.Mathlib.Omega.{arith}
+use borrow.Author.Needs.{needs}
+use lib.Dec.{T}
+use lib.ListN.{length, getD, take, drop, length-take, length-drop}
+use Rattle.model.specs.Lists.{sumOf, rising}
+use Rattle.model.specs.Place.{place}
+use Rattle.column.proofs.LentColumns.{LentColumn, lent-column, the-lengths, count-lengths, count-fences, held-directory, held, dir-size, dir-some, dir-few, dir-fences, dir-count, dir-rises, dir-ahead, dir-length, dir-start, dir-fits}
+use Rattle.column.proofs.length_of.Statement.{statement}
+use Rattle.column.proofs.length_of.Tie as tie
+
+add-result : tie.Need-add-result
+add-result c = let g = c .args in let p = c .pre in omega (arith, p .there, dir-size (g .directory .now) (p .shaped), dir-few (g .directory .now) (p .shaped))
+
+mul-result : tie.Need-mul-result
+mul-result c = let g = c .args in let p = c .pre in omega (arith, p .there, dir-size (g .directory .now) (p .shaped), dir-few (g .directory .now) (p .shaped))
+
+shared-slice-read-result : tie.Need-shared-slice-read-result
+shared-slice-read-result c = let g = c .before .args in let p = c .before .pre in omega (arith, p .there, dir-size (g .directory .now) (p .shaped), dir-few (g .directory .now) (p .shaped))
+
+cast-result : tie.Need-cast-result
+cast-result c = let g = c .before .args in omega (arith, c .shared-slice-known .given (2 + g .t))
+
+returns : tie.Need-returns
+returns c = let g = c .before .args in let p = c .before .pre in dir-length (g .directory .now) (p .shaped) (g .t) (p .there)
+
+pub length-of-spec : {M : Type 1} → statement M
+length-of-spec =
+    tie.close (tie.spec add-result mul-result shared-slice-read-result cast-result returns)

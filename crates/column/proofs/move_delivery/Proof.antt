@@ -1,0 +1,110 @@
+-- `column::move_delivery` meets its contract. Assumes nothing.
+use Prim.Native.Nat.{ℕ, _+_, _-_, _*_, _≤_, _<_}
+use mathlib.Core.Path.{_≡_, refl, sym, ap, ap₂, _∙_}
+use native.Mathlib.Omega.{arith}
+use borrow.Author.Needs.{needs}
+use mathlib.Core.Bool.{Bool, true, false}
+use mathlib.Core.List.{List}
+use borrow.Author.Tests.{not-true, not-false}
+use lib.Dec.{T}
+use lib.ListN.{length, getD, take, drop, set, length-set, length-take, length-drop}
+use Rattle.model.specs.Lists.{sumOf, rising}
+use Rattle.model.specs.Place.{place}
+use Rattle.model.specs.Deliveries.{rows}
+use Rattle.model.specs.Column.{Column, lengthsOf, target}
+use Rattle.model.specs.Partitions.{startOf, oneMore, oneFewer}
+use Rattle.model.specs.Directory.{directoryOf, withLengths}
+use Rattle.checks.specs.Lent.{columnOf}
+use Rattle.column.proofs.LentColumns.{LentColumn, lent-column, the-lengths, count-lengths, count-fences, held-directory, held, dir-size, dir-some, dir-few, dir-fences, dir-count, dir-rises, dir-ahead, dir-length, dir-start, dir-fits}
+use Rattle.column.proofs.Writing.{set-length, held-after, twice, column-is, opened-lent, opened-range, opened-full, opened-yes, ready, insert-refused, insert-open, insert-done, delete-refused, move-refused, found, scan-small, delete-done, move-done}
+use Rattle.column.proofs.Reading.{target-there, targets-ordered, range-backwards}
+use Rattle.model.specs.declared.Answer.{Answer}
+use Rattle.column.specs.Answers.{putOf, takenOf, shiftedOf, acceptedWith}
+use Rattle.model.specs.Accesses.{onward, apart, counts, andAlso}
+use Rattle.model.specs.declared.Counts.{Counts}
+use Rattle.model.specs.Deliveries.{delivery}
+use Rattle.model.specs.ColumnCalls.{Called, slotOf}
+use Rattle.model.specs.Calls.{find, range, insert, delete, move}
+use Rattle.column.proofs.move_delivery.Statement.{statement}
+use Rattle.column.proofs.move_delivery.Tie as tie
+
+locate-requires : tie.Need-locate-requires
+locate-requires c κs = search needs
+
+refused-with-requires : tie.Need-refused-with-requires
+refused-with-requires c κs = search needs
+
+same-length : tie.Need-same-length
+same-length c = search needs
+
+same-length-2 : tie.Need-same-length-2
+same-length-2 c = search needs
+
+same-length-3 : tie.Need-same-length-3
+same-length-3 c = search needs
+
+same-length-4 : tie.Need-same-length-4
+same-length-4 c = search needs
+
+returns : tie.Need-returns
+returns c = let g = (c .before .before .before .before .before .before .before .before .before .before .before .before .before .args) in let col = columnOf (g .directory .now) (g .growers .now) (g .weights .now) (g .yields .now) in ap (λ (x : Answer). record { answer = x; column = col }) ((c .refused-with) .ensures) ∙ move-refused col (g .d) ((c .before .before .before .before .locate) .result) ((c .before .before .before .before .locate) .ensures) (g .new-grower) ((c .before .if1) .taken)
+
+partition-of-requires : tie.Need-partition-of-requires
+partition-of-requires c κs = let g = (c .before .before .before .before .before .before .before .before .before .before .before .before .before .args) in let col = columnOf (g .directory .now) (g .growers .now) (g .weights .now) (g .yields .now) in let o = found col (g .d) ((c .before .before .before .before .locate) .result) ((c .before .before .before .before .locate) .ensures) ((c .before .if1) .left) in let l = lent-column col (o .lent) in let hd = held col l (target 64 col (g .d .grower)) (target-there col (o .lent) (g .d .grower)) in let sm = scan-small col (g .d) ((c .before .before .before .before .locate) .result) ((c .before .before .before .before .locate) .ensures) o in held-directory col l
+
+apart-requires : tie.Need-apart-requires
+apart-requires c κs = search needs
+
+add-with-more : tie.Need-add-with-more
+add-with-more c = let g = (c .before .before .before .before .before .before .before .before .before .before .before .before .before .before .before .args) in let col = columnOf (g .directory .now) (g .growers .now) (g .weights .now) (g .yields .now) in let o = found col (g .d) ((c .before .before .before .before .before .before .locate) .result) ((c .before .before .before .before .before .before .locate) .ensures) ((c .before .before .before .if1) .left) in let l = lent-column col (o .lent) in let hd = held col l (target 64 col (g .d .grower)) (target-there col (o .lent) (g .d .grower)) in let sm = scan-small col (g .d) ((c .before .before .before .before .before .before .locate) .result) ((c .before .before .before .before .before .before .locate) .ensures) o in let pt = (c .before .partition-of) .ensures in let ht = target-there col (o .lent) (g .new-grower) in let n = (c .apart) .ensures in omega (arith, pt, o .target-is, ht, target-there col (o .lent) (g .d .grower), count-lengths col l, l .shape .few)
+
+add-with-more-2 : tie.Need-add-with-more-2
+add-with-more-2 c = let g = (c .before .before .before .before .before .before .before .before .before .before .before .before .before .before .before .args) in let col = columnOf (g .directory .now) (g .growers .now) (g .weights .now) (g .yields .now) in let o = found col (g .d) ((c .before .before .before .before .before .before .locate) .result) ((c .before .before .before .before .before .before .locate) .ensures) ((c .before .before .before .if1) .left) in let l = lent-column col (o .lent) in let hd = held col l (target 64 col (g .d .grower)) (target-there col (o .lent) (g .d .grower)) in let sm = scan-small col (g .d) ((c .before .before .before .before .before .before .locate) .result) ((c .before .before .before .before .before .before .locate) .ensures) o in let pt = (c .before .partition-of) .ensures in let ht = target-there col (o .lent) (g .new-grower) in let n = (c .apart) .ensures in omega (arith, pt, o .target-is, ht, target-there col (o .lent) (g .d .grower), count-lengths col l, l .shape .few)
+
+with-more-requires : tie.Need-with-more-requires
+with-more-requires c κs = let g = (c .before .before .before .before .before .before .before .before .before .before .before .before .before .before .before .args) in let col = columnOf (g .directory .now) (g .growers .now) (g .weights .now) (g .yields .now) in let o = found col (g .d) ((c .before .before .before .before .before .before .locate) .result) ((c .before .before .before .before .before .before .locate) .ensures) ((c .before .before .before .if1) .left) in let l = lent-column col (o .lent) in let hd = held col l (target 64 col (g .d .grower)) (target-there col (o .lent) (g .d .grower)) in let sm = scan-small col (g .d) ((c .before .before .before .before .before .before .locate) .result) ((c .before .before .before .before .before .before .locate) .ensures) o in let pt = (c .before .partition-of) .ensures in let ht = target-there col (o .lent) (g .new-grower) in let n = (c .apart) .ensures in (sm .0, sm .1, omega (arith, pt, o .target-is, ht, target-there col (o .lent) (g .d .grower), count-lengths col l, l .shape .few), omega (arith, pt, o .target-is, ht, target-there col (o .lent) (g .d .grower), count-lengths col l, l .shape .few))
+
+shift-requires : tie.Need-shift-requires
+shift-requires c κs = let g = (c .before .before .before .before .before .before .before .before .before .before .before .before .before .before .before .before .before .before .before .before .args) in let col = columnOf (g .directory .now) (g .growers .now) (g .weights .now) (g .yields .now) in let o = found col (g .d) ((c .before .before .before .before .before .before .before .before .before .before .before .locate) .result) ((c .before .before .before .before .before .before .before .before .before .before .before .locate) .ensures) ((c .before .before .before .before .before .before .before .before .if1) .left) in let l = lent-column col (o .lent) in let hd = held col l (target 64 col (g .d .grower)) (target-there col (o .lent) (g .d .grower)) in let sm = scan-small col (g .d) ((c .before .before .before .before .before .before .before .before .before .before .before .locate) .result) ((c .before .before .before .before .before .before .before .before .before .before .before .locate) .ensures) o in let pt = (c .before .before .before .before .before .before .partition-of) .ensures in let ht = target-there col (o .lent) (g .new-grower) in rw (o .target-is, o .start-is, o .slot-is, pt) (ready col (g .d .grower) (o .lent), o .inside, omega (arith, ht, count-lengths col l))
+
+accepted-requires : tie.Need-accepted-requires
+accepted-requires c κs = search needs
+
+same-length-5 : tie.Need-same-length-5
+same-length-5 c = search needs
+
+same-length-6 : tie.Need-same-length-6
+same-length-6 c = search needs
+
+same-length-7 : tie.Need-same-length-7
+same-length-7 c = search needs
+
+same-length-8 : tie.Need-same-length-8
+same-length-8 c = search needs
+
+returns-2 : tie.Need-returns-2
+returns-2 c = let g = (c .before .before .before .before .before .before .before .before .before .before .before .before .before .before .before .before .before .before .before .before .before .before .before .before .before .before .before .before .before .before .args) in let col = columnOf (g .directory .now) (g .growers .now) (g .weights .now) (g .yields .now) in let o = found col (g .d) ((c .before .before .before .before .before .before .before .before .before .before .before .before .before .before .before .before .before .before .before .before .before .locate) .result) ((c .before .before .before .before .before .before .before .before .before .before .before .before .before .before .before .before .before .before .before .before .before .locate) .ensures) ((c .before .before .before .before .before .before .before .before .before .before .before .before .before .before .before .before .before .before .if1) .left) in let l = lent-column col (o .lent) in let hd = held col l (target 64 col (g .d .grower)) (target-there col (o .lent) (g .d .grower)) in let sm = scan-small col (g .d) ((c .before .before .before .before .before .before .before .before .before .before .before .before .before .before .before .before .before .before .before .before .before .locate) .result) ((c .before .before .before .before .before .before .before .before .before .before .before .before .before .before .before .before .before .before .before .before .before .locate) .ensures) o in let pt = (c .before .before .before .before .before .before .before .before .before .before .before .before .before .before .before .before .partition-of) .ensures in let ht = target-there col (o .lent) (g .new-grower) in let v = delivery (g .new-grower) (g .d .weight) (g .d .«oil_yield») in let e = (c .before .before .before .before .before .before .before .before .before .shift) .ensures ∙ ap₂ (λ (t i : ℕ). shiftedOf col t i ((c .before .before .before .before .before .before .before .before .before .before .before .before .before .before .before .before .partition-of) .result) v) (o .target-is) (o .slot-is) ∙ ap (λ (u : ℕ). shiftedOf col (target 64 col (g .d .grower)) (slotOf 64 col (g .d)) u v) pt in let n = (c .before .before .before .before .before .before .before .before .before .before .before .before .before .before .before .apart) .ensures ∙ ap₂ (λ (t u : ℕ). apart t u) (o .target-is) pt in move-done col (g .d) ((c .before .before .before .before .before .before .before .before .before .before .before .before .before .before .before .before .before .before .before .before .before .locate) .result) ((c .before .before .before .before .before .before .before .before .before .before .before .before .before .before .before .before .before .before .before .before .before .locate) .ensures) (g .new-grower) o _ _ _ e n ((c .accepted) .ensures ∙ ap acceptedWith ((c .before .before .before .before .before .before .before .before .before .before .before .before .before .before .with-more) .ensures))
+
+pub move-delivery-spec : {M : Type 1} → statement M
+move-delivery-spec =
+    tie.close
+    (tie.spec
+    locate-requires
+    refused-with-requires
+    same-length
+    same-length-2
+    same-length-3
+    same-length-4
+    returns
+    partition-of-requires
+    apart-requires
+    add-with-more
+    add-with-more-2
+    with-more-requires
+    shift-requires
+    accepted-requires
+    same-length-5
+    same-length-6
+    same-length-7
+    same-length-8
+    returns-2)

@@ -1,0 +1,50 @@
+-- `column::partition_of` meets its contract. Assumes nothing.
+use Prim.Native.Nat.{ℕ, _+_, _-_, _*_, _≤_, _<_}
+use mathlib.Core.Path.{_≡_, refl, sym, ap, _∙_}
+use native.Mathlib.Omega.{arith}
+use borrow.Author.Needs.{needs}
+use mathlib.Core.List.{List}
+use lib.Dec.{T}
+use lib.ListN.{length, getD, take, drop, length-take, length-drop}
+use Rattle.model.specs.Lists.{sumOf, rising}
+use Rattle.model.specs.Place.{place}
+use Rattle.column.proofs.LentColumns.{LentColumn, lent-column, the-lengths, count-lengths, count-fences, held-directory, held, dir-size, dir-some, dir-few, dir-fences, dir-count, dir-rises, dir-ahead, dir-length, dir-start, dir-fits}
+use Rattle.column.proofs.partition_of.Statement.{statement}
+use Rattle.column.proofs.partition_of.Tie as tie
+
+shared-slice-read-f : tie.Need-shared-slice-read-f
+shared-slice-read-f c = let g = c .before .before .args in omega (arith, dir-size (g .directory .now) (c .before .before .pre), dir-few (g .directory .now) (c .before .before .pre))
+
+cast-f : tie.Need-cast-f
+cast-f c = let g = c .before .before .args in omega (arith, dir-size (g .directory .now) (c .before .before .pre), dir-few (g .directory .now) (c .before .before .pre))
+
+add-f : tie.Need-add-f
+add-f c = let g = c .before .before .args in omega (arith, dir-size (g .directory .now) (c .before .before .pre), dir-few (g .directory .now) (c .before .before .pre))
+
+sub-place-of : tie.Need-sub-place-of
+sub-place-of c = search needs
+
+part-place-of-start : tie.Need-part-place-of-start
+part-place-of-start c = search needs
+
+part-place-of-end : tie.Need-part-place-of-end
+part-place-of-end c = let g = c .before .before .args in omega (arith, dir-size (g .directory .now) (c .before .before .pre), dir-few (g .directory .now) (c .before .before .pre))
+
+place-of-requires : tie.Need-place-of-requires
+place-of-requires c κs = let g = c .before .before .before .args in let ns = g .directory .now in rw (dir-fences ns (c .before .before .before .pre)) (omega (arith, dir-count ns (c .before .before .before .pre), dir-some ns (c .before .before .before .pre)), dir-rises ns (c .before .before .before .pre))
+
+returns : tie.Need-returns
+returns c = let g = c .before .before .before .before .args in c .place-of .ensures ∙ ap (λ (l : List ℕ). place l (g .g)) (dir-fences (g .directory .now) (c .before .before .before .before .pre))
+
+pub partition-of-spec : {M : Type 1} → statement M
+partition-of-spec =
+    tie.close
+    (tie.spec
+    shared-slice-read-f
+    cast-f
+    add-f
+    sub-place-of
+    part-place-of-start
+    part-place-of-end
+    place-of-requires
+    returns)

@@ -1,0 +1,83 @@
+-- `column::put` meets its contract. Assumes nothing.
+use Prim.Native.Nat.{ℕ, _+_, _-_, _*_, _≤_, _<_}
+use mathlib.Core.Path.{_≡_, refl, sym, ap, _∙_}
+use native.Mathlib.Omega.{arith}
+use borrow.Author.Needs.{needs}
+use mathlib.Core.Bool.{Bool, true, false}
+use mathlib.Core.List.{List}
+use borrow.Author.Tests.{not-true, not-false}
+use lib.Dec.{T}
+use lib.ListN.{length, getD, take, drop, set, length-set, length-take, length-drop}
+use Rattle.model.specs.Lists.{sumOf, rising}
+use Rattle.model.specs.Place.{place}
+use Rattle.model.specs.Deliveries.{rows}
+use Rattle.model.specs.Column.{Column, lengthsOf, target}
+use Rattle.model.specs.Partitions.{startOf, oneMore, oneFewer}
+use Rattle.model.specs.Directory.{directoryOf, withLengths}
+use Rattle.checks.specs.Lent.{columnOf}
+use Rattle.column.proofs.LentColumns.{LentColumn, lent-column, the-lengths, count-lengths, count-fences, held-directory, held, dir-size, dir-some, dir-few, dir-fences, dir-count, dir-rises, dir-ahead, dir-length, dir-start, dir-fits}
+use Rattle.column.proofs.Writing.{set-length, held-after, twice, column-is, opened-lent, opened-range, opened-full, opened-yes, ready, insert-refused, insert-open, insert-done, delete-refused, move-refused, found, scan-small, delete-done, move-done}
+use Rattle.model.specs.Moves.{inserted, deleted, moved}
+use Rattle.model.specs.ColumnCalls.{freed}
+use Rattle.model.specs.Deliveries.{delivery}
+use Rattle.column.proofs.LentColumns.{dir-lengths, dir-many}
+use Rattle.column.specs.Answers.{Ready}
+use Rattle.column.proofs.put.Statement.{statement}
+use Rattle.column.proofs.put.Tie as tie
+
+slice-read-l : tie.Need-slice-read-l
+slice-read-l c = let g = (c .before .before .before .before .before .args) in omega (arith, dir-size (g .directory .now) (((c .before .before .before .before .before .pre) .0 .here) .shaped), dir-few (g .directory .now) (((c .before .before .before .before .before .pre) .0 .here) .shaped))
+
+cast-l : tie.Need-cast-l
+cast-l c = let g = (c .before .before .before .before .before .args) in omega (arith, dir-size (g .directory .now) (((c .before .before .before .before .before .pre) .0 .here) .shaped), dir-few (g .directory .now) (((c .before .before .before .before .before .pre) .0 .here) .shaped))
+
+add-l : tie.Need-add-l
+add-l c = let g = (c .before .before .before .before .before .args) in omega (arith, dir-size (g .directory .now) (((c .before .before .before .before .before .pre) .0 .here) .shaped), dir-few (g .directory .now) (((c .before .before .before .before .before .pre) .0 .here) .shaped))
+
+sub-insert-slots : tie.Need-sub-insert-slots
+sub-insert-slots c = search needs
+
+part-insert-slots-start : tie.Need-part-insert-slots-start
+part-insert-slots-start c = search needs
+
+part-insert-slots-end : tie.Need-part-insert-slots-end
+part-insert-slots-end c = let g = (c .before .before .before .before .before .before .before .before .before .args) in omega (arith, dir-size (g .directory .now) (((c .before .before .before .before .before .before .before .before .before .pre) .0 .here) .shaped), dir-few (g .directory .now) (((c .before .before .before .before .before .before .before .before .before .pre) .0 .here) .shaped))
+
+insert-slots-requires : tie.Need-insert-slots-requires
+insert-slots-requires c κs = let g = (c .before .before .before .before .before .before .before .before .before .before .args) in let m = dir-many (g .directory .now) (((c .before .before .before .before .before .before .before .before .before .before .pre) .0 .here) .shaped) in rw (dir-lengths (g .directory .now) (((c .before .before .before .before .before .before .before .before .before .before .pre) .0 .here) .shaped)) (omega (arith, m, ((c .before .before .before .before .before .before .before .before .before .before .pre) .0 .here) .there), (c .before .before .before .before .before .before .before .before .before .before .pre) .0 .start, (c .before .before .before .before .before .before .before .before .before .before .pre) .1, (c .before .before .before .before .before .before .before .before .before .before .pre) .2, (c .before .before .before .before .before .before .before .before .before .before .pre) .0 .even-weights, (c .before .before .before .before .before .before .before .before .before .before .pre) .0 .even-yields)
+
+grow-requires : tie.Need-grow-requires
+grow-requires c κs = search needs
+
+same-length : tie.Need-same-length
+same-length c = search needs
+
+same-length-2 : tie.Need-same-length-2
+same-length-2 c = search needs
+
+same-length-3 : tie.Need-same-length-3
+same-length-3 c = search needs
+
+same-length-4 : tie.Need-same-length-4
+same-length-4 c = search needs
+
+returns : tie.Need-returns
+returns c = let g = (c .before .before .before .before .before .before .before .before .before .before .before .before .before .before .before .before .before .before .before .before .before .args) in let col = columnOf (g .directory .now) (g .g .now) (g .w .now) (g .y .now) in let e = rw (dir-lengths (g .directory .now) (((c .before .before .before .before .before .before .before .before .before .before .before .before .before .before .before .before .before .before .before .before .before .pre) .0 .here) .shaped)) at ((c .before .before .before .before .before .before .before .before .before .before .insert-slots) .ensures) in column-is (inserted (lengthsOf 64 col) (g .t)) (g .d) (oneMore (g .t) (lengthsOf 64 col)) col _ _ _ _ ((c .before .before .grow) .ensures) (e .0) (e .1) (e .2)
+
+pub put-spec : {M : Type 1} → statement M
+put-spec =
+    tie.close
+    (tie.spec
+    slice-read-l
+    cast-l
+    add-l
+    sub-insert-slots
+    part-insert-slots-start
+    part-insert-slots-end
+    insert-slots-requires
+    grow-requires
+    same-length
+    same-length-2
+    same-length-3
+    same-length-4
+    returns)

@@ -1,0 +1,111 @@
+-- `column::shift_slots` meets its contract. Assumes nothing.
+use Prim.Native.Nat.{ℕ, _+_, _-_, _*_, _≤_, _<_}
+use mathlib.Core.Path.{_≡_, refl, sym, ap, _∙_}
+use native.Mathlib.Omega.{arith}
+use borrow.Author.Needs.{needs}
+use mathlib.Core.Bool.{Bool, true, false}
+use mathlib.Core.List.{List}
+use borrow.Author.Tests.{not-true, not-false}
+use lib.Dec.{T}
+use lib.ListN.{length, getD, take, drop, set, length-set, length-take, length-drop}
+use Rattle.model.specs.Lists.{sumOf, rising}
+use Rattle.model.specs.Place.{place}
+use Rattle.model.specs.Deliveries.{rows}
+use Rattle.model.specs.Column.{Column, lengthsOf, target}
+use Rattle.model.specs.Partitions.{startOf, oneMore, oneFewer}
+use Rattle.model.specs.Directory.{directoryOf, withLengths}
+use Rattle.checks.specs.Lent.{columnOf}
+use Rattle.column.proofs.LentColumns.{LentColumn, lent-column, the-lengths, count-lengths, count-fences, held-directory, held, dir-size, dir-some, dir-few, dir-fences, dir-count, dir-rises, dir-ahead, dir-length, dir-start, dir-fits}
+use Rattle.column.proofs.Writing.{set-length, held-after, twice, column-is, opened-lent, opened-range, opened-full, opened-yes, ready, insert-refused, insert-open, insert-done, delete-refused, move-refused, found, scan-small, delete-done, move-done}
+use Rattle.model.specs.Moves.{inserted, deleted, moved}
+use Rattle.model.specs.ColumnCalls.{freed}
+use Rattle.model.specs.Deliveries.{delivery}
+use Rattle.column.proofs.LentColumns.{dir-lengths, dir-many}
+use Rattle.column.specs.Answers.{Ready}
+use Rattle.column.proofs.shift_slots.Statement.{statement}
+use Rattle.column.proofs.shift_slots.Tie as tie
+
+shared-slice-read-l : tie.Need-shared-slice-read-l
+shared-slice-read-l c = let g = (c .before .before .before .before .before .args) in omega (arith, dir-size (g .directory .now) (((c .before .before .before .before .before .pre) .0 .here) .shaped), dir-few (g .directory .now) (((c .before .before .before .before .before .pre) .0 .here) .shaped))
+
+cast-l : tie.Need-cast-l
+cast-l c = let g = (c .before .before .before .before .before .args) in omega (arith, dir-size (g .directory .now) (((c .before .before .before .before .before .pre) .0 .here) .shaped), dir-few (g .directory .now) (((c .before .before .before .before .before .pre) .0 .here) .shaped))
+
+add-l : tie.Need-add-l
+add-l c = let g = (c .before .before .before .before .before .args) in omega (arith, dir-size (g .directory .now) (((c .before .before .before .before .before .pre) .0 .here) .shaped), dir-few (g .directory .now) (((c .before .before .before .before .before .pre) .0 .here) .shaped))
+
+sub-forward-slots : tie.Need-sub-forward-slots
+sub-forward-slots c = search needs
+
+part-forward-slots-start : tie.Need-part-forward-slots-start
+part-forward-slots-start c = search needs
+
+part-forward-slots-end : tie.Need-part-forward-slots-end
+part-forward-slots-end c = let g = (c .before .before .before .before .before .before .before .before .before .args) in omega (arith, dir-size (g .directory .now) (((c .before .before .before .before .before .before .before .before .before .pre) .0 .here) .shaped), dir-few (g .directory .now) (((c .before .before .before .before .before .before .before .before .before .pre) .0 .here) .shaped))
+
+forward-slots-requires : tie.Need-forward-slots-requires
+forward-slots-requires c κs = let g = (c .before .before .before .before .before .before .before .before .before .before .args) in let m = dir-many (g .directory .now) (((c .before .before .before .before .before .before .before .before .before .before .pre) .0 .here) .shaped) in rw (dir-lengths (g .directory .now) (((c .before .before .before .before .before .before .before .before .before .before .pre) .0 .here) .shaped)) ((c .before .before .before .before .if1) .taken, omega (arith, m, (c .before .before .before .before .before .before .before .before .before .before .pre) .2), (c .before .before .before .before .before .before .before .before .before .before .pre) .0 .start, (c .before .before .before .before .before .before .before .before .before .before .pre) .1, (c .before .before .before .before .before .before .before .before .before .before .pre) .0 .room, (c .before .before .before .before .before .before .before .before .before .before .pre) .0 .even-weights, (c .before .before .before .before .before .before .before .before .before .before .pre) .0 .even-yields)
+
+same-length : tie.Need-same-length
+same-length c = search needs
+
+same-length-2 : tie.Need-same-length-2
+same-length-2 c = search needs
+
+same-length-3 : tie.Need-same-length-3
+same-length-3 c = search needs
+
+returns : tie.Need-returns
+returns c = let g = (c .before .before .before .before .before .before .before .before .before .before .before .before .before .before .before .before .before .args) in rw (dir-lengths (g .directory .now) (((c .before .before .before .before .before .before .before .before .before .before .before .before .before .before .before .before .before .pre) .0 .here) .shaped)) at ((c .before .before .before .before .before .before .forward-slots) .ensures)
+
+start-of-requires : tie.Need-start-of-requires
+start-of-requires c κs = record { shaped = ((c .before .before .before .before .before .before .pre) .0 .here) .shaped; there = (c .before .before .before .before .before .before .pre) .2 }
+
+sub-backward-slots : tie.Need-sub-backward-slots
+sub-backward-slots c = search needs
+
+part-backward-slots-start : tie.Need-part-backward-slots-start
+part-backward-slots-start c = search needs
+
+part-backward-slots-end : tie.Need-part-backward-slots-end
+part-backward-slots-end c = let g = (c .before .before .before .before .before .before .before .before .before .before .args) in omega (arith, dir-size (g .directory .now) (((c .before .before .before .before .before .before .before .before .before .before .pre) .0 .here) .shaped), dir-few (g .directory .now) (((c .before .before .before .before .before .before .before .before .before .before .pre) .0 .here) .shaped))
+
+backward-slots-requires : tie.Need-backward-slots-requires
+backward-slots-requires c κs = let g = (c .before .before .before .before .before .before .before .before .before .before .before .args) in let m = dir-many (g .directory .now) (((c .before .before .before .before .before .before .before .before .before .before .before .pre) .0 .here) .shaped) in rw (dir-lengths (g .directory .now) (((c .before .before .before .before .before .before .before .before .before .before .before .pre) .0 .here) .shaped)) ((c .before .before .before .before .before .if1) .left, omega (arith, m, ((c .before .before .before .before .before .before .before .before .before .before .before .pre) .0 .here) .there), (c .before .before .before .before .before .before .before .before .before .before .before .pre) .0 .start, (c .before .before .before .before .start-of) .ensures, (c .before .before .before .before .before .before .before .before .before .before .before .pre) .1, (c .before .before .before .before .before .before .before .before .before .before .before .pre) .0 .room, (c .before .before .before .before .before .before .before .before .before .before .before .pre) .0 .even-weights, (c .before .before .before .before .before .before .before .before .before .before .before .pre) .0 .even-yields)
+
+same-length-4 : tie.Need-same-length-4
+same-length-4 c = search needs
+
+same-length-5 : tie.Need-same-length-5
+same-length-5 c = search needs
+
+same-length-6 : tie.Need-same-length-6
+same-length-6 c = search needs
+
+returns-2 : tie.Need-returns-2
+returns-2 c = let g = (c .before .before .before .before .before .before .before .before .before .before .before .before .before .before .before .before .before .before .args) in rw (dir-lengths (g .directory .now) (((c .before .before .before .before .before .before .before .before .before .before .before .before .before .before .before .before .before .before .pre) .0 .here) .shaped)) at ((c .before .before .before .before .before .before .backward-slots) .ensures)
+
+pub shift-slots-spec : {M : Type 1} → statement M
+shift-slots-spec =
+    tie.close
+    (tie.spec
+    shared-slice-read-l
+    cast-l
+    add-l
+    sub-forward-slots
+    part-forward-slots-start
+    part-forward-slots-end
+    forward-slots-requires
+    same-length
+    same-length-2
+    same-length-3
+    returns
+    start-of-requires
+    sub-backward-slots
+    part-backward-slots-start
+    part-backward-slots-end
+    backward-slots-requires
+    same-length-4
+    same-length-5
+    same-length-6
+    returns-2)

@@ -1,0 +1,34 @@
+-- `column::start_of` meets its contract. Assumes nothing.
+use Prim.Native.Nat.{ℕ, _+_, _-_, _*_, _≤_, _<_}
+use mathlib.Core.Path.{_≡_, refl, sym, ap, _∙_}
+use native.Mathlib.Omega.{arith}
+use borrow.Author.Needs.{needs}
+use lib.Dec.{T}
+use lib.ListN.{length, getD, take, drop, length-take, length-drop}
+use Rattle.model.specs.Lists.{sumOf, rising}
+use Rattle.model.specs.Place.{place}
+use Rattle.column.proofs.LentColumns.{LentColumn, lent-column, the-lengths, count-lengths, count-fences, held-directory, held, dir-size, dir-some, dir-few, dir-fences, dir-count, dir-rises, dir-ahead, dir-length, dir-start, dir-fits}
+use Rattle.column.proofs.start_of.Statement.{statement}
+use Rattle.column.proofs.start_of.Tie as tie
+
+add-e : tie.Need-add-e
+add-e c = let g = c .before .args in let p = c .before .pre in omega (arith, p .there, dir-size (g .directory .now) (p .shaped), dir-few (g .directory .now) (p .shaped))
+
+sub-total : tie.Need-sub-total
+sub-total c = search needs
+
+part-total-start : tie.Need-part-total-start
+part-total-start c = search needs
+
+part-total-end : tie.Need-part-total-end
+part-total-end c = let g = c .before .args in let p = c .before .pre in omega (arith, p .there, dir-size (g .directory .now) (p .shaped), dir-few (g .directory .now) (p .shaped))
+
+total-requires : tie.Need-total-requires
+total-requires c κs = let g = c .before .before .args in let p = c .before .before .pre in simp length-take (omega (arith, p .there, dir-size (g .directory .now) (p .shaped), dir-few (g .directory .now) (p .shaped)))
+
+returns : tie.Need-returns
+returns c = let g = c .before .before .before .args in let p = c .before .before .before .pre in c .total .ensures ∙ dir-ahead (g .directory .now) (p .shaped) (g .t) (omega (arith, p .there))
+
+pub start-of-spec : {M : Type 1} → statement M
+start-of-spec =
+    tie.close (tie.spec add-e sub-total part-total-start part-total-end total-requires returns)

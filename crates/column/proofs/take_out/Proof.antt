@@ -1,0 +1,83 @@
+-- `column::take_out` meets its contract. Assumes nothing.
+use Prim.Native.Nat.{ℕ, _+_, _-_, _*_, _≤_, _<_}
+use mathlib.Core.Path.{_≡_, refl, sym, ap, _∙_}
+use native.Mathlib.Omega.{arith}
+use borrow.Author.Needs.{needs}
+use mathlib.Core.Bool.{Bool, true, false}
+use mathlib.Core.List.{List}
+use borrow.Author.Tests.{not-true, not-false}
+use lib.Dec.{T}
+use lib.ListN.{length, getD, take, drop, set, length-set, length-take, length-drop}
+use Rattle.model.specs.Lists.{sumOf, rising}
+use Rattle.model.specs.Place.{place}
+use Rattle.model.specs.Deliveries.{rows}
+use Rattle.model.specs.Column.{Column, lengthsOf, target}
+use Rattle.model.specs.Partitions.{startOf, oneMore, oneFewer}
+use Rattle.model.specs.Directory.{directoryOf, withLengths}
+use Rattle.checks.specs.Lent.{columnOf}
+use Rattle.column.proofs.LentColumns.{LentColumn, lent-column, the-lengths, count-lengths, count-fences, held-directory, held, dir-size, dir-some, dir-few, dir-fences, dir-count, dir-rises, dir-ahead, dir-length, dir-start, dir-fits}
+use Rattle.column.proofs.Writing.{set-length, held-after, twice, column-is, opened-lent, opened-range, opened-full, opened-yes, ready, insert-refused, insert-open, insert-done, delete-refused, move-refused, found, scan-small, delete-done, move-done}
+use Rattle.model.specs.Moves.{inserted, deleted, moved}
+use Rattle.model.specs.ColumnCalls.{freed}
+use Rattle.model.specs.Deliveries.{delivery}
+use Rattle.column.proofs.LentColumns.{dir-lengths, dir-many}
+use Rattle.column.specs.Answers.{Ready}
+use Rattle.column.proofs.take_out.Statement.{statement}
+use Rattle.column.proofs.take_out.Tie as tie
+
+slice-read-l : tie.Need-slice-read-l
+slice-read-l c = let g = (c .before .before .before .before .before .args) in omega (arith, dir-size (g .directory .now) (((c .before .before .before .before .before .pre) .0 .here) .shaped), dir-few (g .directory .now) (((c .before .before .before .before .before .pre) .0 .here) .shaped))
+
+cast-l : tie.Need-cast-l
+cast-l c = let g = (c .before .before .before .before .before .args) in omega (arith, dir-size (g .directory .now) (((c .before .before .before .before .before .pre) .0 .here) .shaped), dir-few (g .directory .now) (((c .before .before .before .before .before .pre) .0 .here) .shaped))
+
+add-l : tie.Need-add-l
+add-l c = let g = (c .before .before .before .before .before .args) in omega (arith, dir-size (g .directory .now) (((c .before .before .before .before .before .pre) .0 .here) .shaped), dir-few (g .directory .now) (((c .before .before .before .before .before .pre) .0 .here) .shaped))
+
+sub-delete-slots : tie.Need-sub-delete-slots
+sub-delete-slots c = search needs
+
+part-delete-slots-start : tie.Need-part-delete-slots-start
+part-delete-slots-start c = search needs
+
+part-delete-slots-end : tie.Need-part-delete-slots-end
+part-delete-slots-end c = let g = (c .before .before .before .before .before .before .before .before .before .args) in omega (arith, dir-size (g .directory .now) (((c .before .before .before .before .before .before .before .before .before .pre) .0 .here) .shaped), dir-few (g .directory .now) (((c .before .before .before .before .before .before .before .before .before .pre) .0 .here) .shaped))
+
+delete-slots-requires : tie.Need-delete-slots-requires
+delete-slots-requires c κs = let g = (c .before .before .before .before .before .before .before .before .before .before .args) in let m = dir-many (g .directory .now) (((c .before .before .before .before .before .before .before .before .before .before .pre) .0 .here) .shaped) in rw (dir-lengths (g .directory .now) (((c .before .before .before .before .before .before .before .before .before .before .pre) .0 .here) .shaped)) (omega (arith, m, ((c .before .before .before .before .before .before .before .before .before .before .pre) .0 .here) .there), (c .before .before .before .before .before .before .before .before .before .before .pre) .0 .start, (c .before .before .before .before .before .before .before .before .before .before .pre) .1, (c .before .before .before .before .before .before .before .before .before .before .pre) .0 .room, (c .before .before .before .before .before .before .before .before .before .before .pre) .0 .even-weights, (c .before .before .before .before .before .before .before .before .before .before .pre) .0 .even-yields)
+
+shrink-requires : tie.Need-shrink-requires
+shrink-requires c κs = let g = (c .before .before .before .before .before .before .before .before .before .before .before .before .before .before .before .before .before .before .args) in (((c .before .before .before .before .before .before .before .before .before .before .before .before .before .before .before .before .before .before .pre) .0 .here), omega (arith, (c .before .before .before .before .before .before .before .before .before .before .before .before .before .before .before .before .before .before .pre) .1))
+
+same-length : tie.Need-same-length
+same-length c = search needs
+
+same-length-2 : tie.Need-same-length-2
+same-length-2 c = search needs
+
+same-length-3 : tie.Need-same-length-3
+same-length-3 c = search needs
+
+same-length-4 : tie.Need-same-length-4
+same-length-4 c = search needs
+
+returns : tie.Need-returns
+returns c = let g = (c .before .before .before .before .before .before .before .before .before .before .before .before .before .before .before .before .before .before .before .before .before .args) in let col = columnOf (g .directory .now) (g .g .now) (g .w .now) (g .y .now) in let e = rw (dir-lengths (g .directory .now) (((c .before .before .before .before .before .before .before .before .before .before .before .before .before .before .before .before .before .before .before .before .before .pre) .0 .here) .shaped)) at ((c .before .before .before .before .before .before .before .before .before .before .delete-slots) .ensures) in column-is (deleted (lengthsOf 64 col) (g .t) (g .i)) freed (oneFewer (g .t) (lengthsOf 64 col)) col _ _ _ _ ((c .before .before .shrink) .ensures) (e .0) (e .1) (e .2)
+
+pub take-out-spec : {M : Type 1} → statement M
+take-out-spec =
+    tie.close
+    (tie.spec
+    slice-read-l
+    cast-l
+    add-l
+    sub-delete-slots
+    part-delete-slots-start
+    part-delete-slots-end
+    delete-slots-requires
+    shrink-requires
+    same-length
+    same-length-2
+    same-length-3
+    same-length-4
+    returns)

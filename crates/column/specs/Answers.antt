@@ -1,0 +1,92 @@
+-- A refusal, and where a delivery lies that delete or move names.
+use Prim.Native.Nat.{ℕ, _≤_, _<_}
+use mathlib.Core.Path.{_≡_}
+use mathlib.Core.Bool.{cond}
+use mathlib.Core.List.{List}
+use lib.ListN.{length, getD, take, drop}
+use lib.Dec.{T, ltb, eqb}
+use Rattle.model.specs.declared.Delivery.{Delivery}
+use Rattle.model.specs.declared.Counts.{Counts}
+use Rattle.model.specs.declared.Answer.{Answer}
+use Rattle.model.specs.declared.PartitionSlice.{PartitionSlice}
+use Rattle.model.specs.Lists.{sumOf, every}
+use Rattle.model.specs.Deliveries.{inRange, noTotals, firstMatch}
+use Rattle.model.specs.Calls.{insert, delete}
+use Rattle.model.specs.Partitions.{startOf, oneMore, oneFewer}
+use Rattle.model.specs.Moves.{inserted, deleted, moved}
+use Rattle.model.specs.Directory.{partitionCount, directoryOf, directoryOk}
+use Rattle.model.specs.Column.{Column, lengthsOf, target}
+use Rattle.model.specs.Accesses.{noCounts, blocksOf, readsOf, scanNear}
+use Rattle.model.specs.ColumnCalls.{columnRefusal, slotOf, freed, moveSlices}
+use Rattle.column.specs.declared.Located.{Located}
+use Rattle.column.specs.declared.Opened.{Opened}
+
+-- a refusal that reports these counts
+abbrev pub refusedWith : ℕ → Counts → Answer
+refusedWith n k = record { refusal = n; totals = noTotals; counts = k }
+
+-- an accepted insert, delete or move
+abbrev pub acceptedWith : Counts → Answer
+acceptedWith k = record { refusal = 0; totals = noTotals; counts = k }
+
+abbrev pub notLocated : ℕ → Counts → Located
+notLocated n k = record { refusal = n; target = 0; start = 0; slot = 0; counts = k }
+
+-- checks 8 and 13 in a partition t that starts at a and holds the records ds
+unfoldable pub searchedOf : ℕ → ℕ → ℕ → Delivery → List Delivery → Located
+searchedOf b t a d ds =
+    let k : Counts = readsOf (blocksOf b (length ds)) in
+    cond (every inRange ds)
+    (cond (ltb (firstMatch d ds) (length ds)) (record { refusal = 0; target = t; start = a; slot = firstMatch d ds; counts = k }) (notLocated 13 k))
+    (notLocated 8 noCounts)
+
+-- where a delivery lies in the column, or the refusal of its delete; a 13 has its scan
+unfoldable pub locatedOf : Column → Delivery → Located
+locatedOf c d =
+    let n : ℕ = columnRefusal 64 c (delete d) in
+    let t : ℕ = target 64 c (d .grower) in
+    let k : Counts = scanNear (directoryOf 64 (c .directory)) (d .grower) in
+    cond (eqb n 0)
+    (record { refusal = 0; target = t; start = startOf (lengthsOf 64 c) t; slot = slotOf 64 c d; counts = k })
+    (notLocated n (cond (eqb n 13) k noCounts))
+
+-- partition t of a directory for at most 262,144 slots
+pub record Held (ns : List ℕ) (t : ℕ) : Type 0 where
+  pub shaped : T (directoryOk 64 262144 ns)
+  pub there : t < partitionCount 64 ns
+
+-- a column of proper shape, and partition t of it, which starts at a
+pub record Ready (c : Column) (t a : ℕ) : Type 0 where
+  pub here : Held (c .directory) t
+  pub start : a ≡ startOf (lengthsOf 64 c) t
+  pub room : sumOf (lengthsOf 64 c) ≤ length (c .growers)
+  pub even-weights : length (c .weights) ≡ length (c .growers)
+  pub even-yields : length (c .yields) ≡ length (c .growers)
+
+-- where an insert goes, or its refusal
+abbrev pub notOpened : ℕ → Opened
+notOpened n = record { refusal = n; target = 0; start = 0; used = 0 }
+
+unfoldable pub openedOf : Column → Delivery → Opened
+openedOf c d =
+    let n : ℕ = columnRefusal 64 c (insert d) in
+    let t : ℕ = target 64 c (d .grower) in
+    cond (eqb n 0) (record { refusal = 0; target = t; start = startOf (lengthsOf 64 c) t; used = sumOf (lengthsOf 64 c) }) (notOpened n)
+
+-- the column after the slots and lengths of an insert, a delete and a move have changed
+abbrev pub putOf : Column → ℕ → Delivery → Column
+putOf c t d = moveSlices (inserted (lengthsOf 64 c) t) d (oneMore t (lengthsOf 64 c)) c
+
+abbrev pub takenOf : Column → ℕ → ℕ → Column
+takenOf c t i = moveSlices (deleted (lengthsOf 64 c) t i) freed (oneFewer t (lengthsOf 64 c)) c
+
+abbrev pub shiftedOf : Column → ℕ → ℕ → ℕ → Delivery → Column
+shiftedOf c t i u d = moveSlices (moved (lengthsOf 64 c) t i u) d (oneMore u (oneFewer t (lengthsOf 64 c))) c
+
+-- what the partition call hands back, and the number that it leaves
+pub record Part : Type 0 where
+  pub part : List ℕ
+  pub refusal : ℕ
+
+unfoldable pub partOf : PartitionSlice → List ℕ → Part
+partOf p gs = record { part = take (p .count) (drop (p .start) gs); refusal = p .refusal }

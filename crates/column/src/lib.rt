@@ -1,0 +1,539 @@
+// The laid column (01): find, range, insert, delete, move and the partition call, over three lent slices and the lent directory of 130 numbers.
+// No call trusts what it is lent: each puts its checks first, and a refused call writes to no slice.
+ghost use mathlib.Core.Path.{_≡_};
+ghost use Prim.Native.Nat.{ℕ, _+_, _-_, _≤_, _<_};
+ghost use lib.ListN.{length, take, drop, getD};
+ghost use lib.Dec.{T};
+ghost use Rattle.model.specs.Lists.{sumOf};
+ghost use Rattle.model.specs.Deliveries.{rows};
+ghost use Rattle.model.specs.Checks.{firstFailed};
+ghost use Rattle.model.specs.Calls.{find, range, insert, delete, move};
+ghost use Rattle.model.specs.Place.{place};
+ghost use Rattle.model.specs.Partitions.{startOf, oneMore, oneFewer};
+ghost use Rattle.model.specs.Moves.{moved};
+ghost use Rattle.model.specs.Directory.{partitionCount, directoryOf, directoryOk, withLengths};
+ghost use Rattle.model.specs.Accesses.{noCounts, andAlso, onward, apart};
+ghost use Rattle.model.specs.Questions.{lentChecks};
+ghost use Rattle.model.specs.ColumnCalls.{columnCall, partitionCall};
+ghost use Rattle.checks.specs.Lent.{columnOf};
+ghost use Rattle.column.specs.Answers.{refusedWith, acceptedWith, notLocated, searchedOf, locatedOf, notOpened, openedOf, Held, Ready, putOf, takenOf, shiftedOf, partOf};
+use model::Answer;
+use model::Counts;
+use model::Delivery;
+use model::PartitionSlice;
+use model::Totals;
+
+// A refusal: totals and counts 0.
+fn refused(n: u32) -> Answer
+    ensures { λ r. ⌜ r ≡ refusedWith n noCounts ⌝ }
+{
+    let none = Counts {
+        rr: 0,
+        sr: 0,
+        rw: 0,
+    };
+    refused_with(n, none)
+}
+
+// A grower's partition.
+fn partition_of(directory: &[u32], g: u32) -> usize
+    requires { ⌜ T (directoryOk 64 262144 (now directory)) ⌝ }
+    ensures { λ r. ⌜ r ≡ place (directoryOf 64 (now (directory .entry)) .fences) g ⌝ }
+{
+    let f = 66 + directory[1] as usize;
+    slices::place_of(&directory[66..f], g)
+}
+
+// The slot at which partition t starts.
+fn start_of(directory: &[u32], t: usize) -> usize
+    requires { ⌜ Held (now directory) t ⌝ }
+    ensures { λ r. ⌜ r ≡ startOf (directoryOf 64 (now (directory .entry)) .lengths) t ⌝ }
+{
+    let e = 2 + t;
+    slices::total(&directory[2..e]) as usize
+}
+
+// How many records partition t has.
+fn length_of(directory: &[u32], t: usize) -> usize
+    requires { ⌜ Held (now directory) t ⌝ }
+    ensures { λ r. ⌜ r ≡ getD (directoryOf 64 (now (directory .entry)) .lengths) t 0 ⌝ }
+{
+    directory[2 + t] as usize
+}
+
+// The partitions from lo's to hi's, once checks 2, 3, 6 and 7 are passed.
+fn read(directory: &[u32], g: &[u32], w: &[u32], y: &[u32], lo: u32, hi: u32) -> Answer
+    requires { ⌜ (firstFailed (lentChecks 64 (columnOf (now directory) (now g) (now w) (now y))) ≡ 0) × (lo ≤ hi) ⌝ }
+    ensures { λ r. ⌜ r ≡ columnCall 64 (columnOf (now (directory .entry)) (now (g .entry)) (now (w .entry)) (now (y .entry))) (range lo hi) .answer ⌝ }
+{
+    let a = 2 + directory[1] as usize;
+    let p = partition_of(directory, lo);
+    let q = partition_of(directory, hi);
+    let s = scan::scan_parts(g, w, y, &directory[2..a], p, q, directory[0], lo, hi);
+    if !s.good {
+        return refused(8);
+    }
+    let counts = scan::reads_of(s.blocks);
+    let totals = s.totals;
+    Answer {
+        refusal: 0,
+        totals,
+        counts,
+    }
+}
+
+// The records of the growers lo to hi, both included.
+pub fn range(
+    directory: &[u32],
+    growers: &[u32],
+    weights: &[u32],
+    yields: &[u32],
+    lo: u32,
+    hi: u32,
+) -> Answer
+    ensures { λ r. ⌜ r ≡ columnCall 64 (columnOf (now (directory .entry)) (now (growers .entry)) (now (weights .entry)) (now (yields .entry))) (range lo hi) .answer ⌝ }
+{
+    let shape = checks::lent(directory, growers, weights, yields);
+    let n = shape.refusal;
+    if n != 0 {
+        return refused(n);
+    }
+    if hi < lo {
+        return refused(7);
+    }
+    read(directory, growers, weights, yields, lo, hi)
+}
+
+// The records of one grower.
+pub fn find(
+    directory: &[u32],
+    growers: &[u32],
+    weights: &[u32],
+    yields: &[u32],
+    grower: u32,
+) -> Answer
+    ensures { λ r. ⌜ r ≡ columnCall 64 (columnOf (now (directory .entry)) (now (growers .entry)) (now (weights .entry)) (now (yields .entry))) (find grower) .answer ⌝ }
+{
+    range(directory, growers, weights, yields, grower, grower)
+}
+
+// Where a delivery lies that delete or move names: its partition, where that starts, its slot there; and what the scan cost.
+struct Located {
+    refusal: u32,
+    target: usize,
+    start: usize,
+    slot: usize,
+    counts: Counts,
+}
+
+// A refusal of delete or move.
+fn not_located(n: u32) -> Located
+    ensures { λ r. ⌜ r ≡ notLocated n noCounts ⌝ }
+{
+    Located {
+        refusal: n,
+        target: 0,
+        start: 0,
+        slot: 0,
+        counts: Counts {
+            rr: 0,
+            sr: 0,
+            rw: 0,
+        },
+    }
+}
+
+// Checks 8 and 13 in partition t, which starts at a, of which it is handed its part of each slice.
+fn search_part(g: &[u32], w: &[u32], y: &[u32], b: u32, t: usize, a: usize, d: Delivery) -> Located
+    requires { ⌜ (length (now g) ≤ 262144) × (length (now w) ≡ length (now g)) × (length (now y) ≡ length (now g)) × (1 ≤ b) ⌝ }
+    ensures { λ r. ⌜ r ≡ searchedOf b t a d (rows (now (g .entry)) (now (w .entry)) (now (y .entry))) ⌝ }
+{
+    if !checks::values_ok(w, y) {
+        return not_located(8);
+    }
+    let i = slices::first_match(g, w, y, d);
+    let counts = scan::reads_of(scan::blocks_of(g.len(), b));
+    if i < g.len() {
+        return Located {
+            refusal: 0,
+            target: t,
+            start: a,
+            slot: i,
+            counts,
+        };
+    }
+    Located {
+        refusal: 13,
+        target: 0,
+        start: 0,
+        slot: 0,
+        counts,
+    }
+}
+
+// Checks 2, 3, 6, 8 and 13 of delete and move.
+fn locate(directory: &[u32], g: &[u32], w: &[u32], y: &[u32], d: Delivery) -> Located
+    ensures { λ r. ⌜ r ≡ locatedOf (columnOf (now (directory .entry)) (now (g .entry)) (now (w .entry)) (now (y .entry))) d ⌝ }
+{
+    let shape = checks::lent(directory, g, w, y);
+    let n = shape.refusal;
+    if n != 0 {
+        return not_located(n);
+    }
+    if !checks::in_range(d) {
+        return not_located(8);
+    }
+    let t = partition_of(directory, d.grower);
+    let a = start_of(directory, t);
+    let e = a + length_of(directory, t);
+    search_part(&g[a..e], &w[a..e], &y[a..e], directory[0], t, a, d)
+}
+
+// One more record in partition t.
+fn grow(directory: &mut [u32], t: usize)
+    requires { ⌜ Held (now directory) t ⌝ }
+    ensures { λ r. ⌜ now (directory .exit) ≡ withLengths (oneMore t (directoryOf 64 (now (directory .entry)) .lengths)) (now (directory .entry)) ⌝ }
+{
+    let i = 2 + t;
+    directory[i] = directory[i] + 1;
+}
+
+// One record fewer in partition t.
+fn shrink(directory: &mut [u32], t: usize)
+    requires { ⌜ Held (now directory) t × (1 ≤ getD (directoryOf 64 (now directory) .lengths) t 0) ⌝ }
+    ensures { λ r. ⌜ now (directory .exit) ≡ withLengths (oneFewer t (directoryOf 64 (now (directory .entry)) .lengths)) (now (directory .entry)) ⌝ }
+{
+    let i = 2 + t;
+    directory[i] = directory[i] - 1;
+}
+
+// Where an insert goes, or why it is refused: its partition, where that starts, and the slots in use.
+struct Opened {
+    refusal: u32,
+    target: usize,
+    start: usize,
+    used: usize,
+}
+
+fn not_opened(n: u32) -> Opened
+    ensures { λ r. ⌜ r ≡ notOpened n ⌝ }
+{
+    Opened {
+        refusal: n,
+        target: 0,
+        start: 0,
+        used: 0,
+    }
+}
+
+// Checks 2, 3, 6, 8 and 12 of an insert.
+fn open(directory: &[u32], g: &[u32], w: &[u32], y: &[u32], d: Delivery) -> Opened
+    ensures { λ r. ⌜ r ≡ openedOf (columnOf (now (directory .entry)) (now (g .entry)) (now (w .entry)) (now (y .entry))) d ⌝ }
+{
+    let shape = checks::lent(directory, g, w, y);
+    let n = shape.refusal;
+    if n != 0 {
+        return not_opened(n);
+    }
+    if !checks::in_range(d) {
+        return not_opened(8);
+    }
+    let used = shape.used as usize;
+    if g.len() <= used {
+        return not_opened(12);
+    }
+    let target = partition_of(directory, d.grower);
+    let start = start_of(directory, target);
+    Opened {
+        refusal: 0,
+        target,
+        start,
+        used,
+    }
+}
+
+// How many partitions there are from t to the last.
+fn onward(directory: &[u32], t: usize) -> u64
+    requires { ⌜ Held (now directory) t ⌝ }
+    ensures { λ r. ⌜ r ≡ onward (directoryOf 64 (now (directory .entry))) t ⌝ }
+{
+    (directory[1] as usize - t) as u64
+}
+
+// The slots and the length of an insert into partition t, which starts at a.
+fn put(
+    directory: &mut [u32],
+    g: &mut [u32],
+    w: &mut [u32],
+    y: &mut [u32],
+    t: usize,
+    a: usize,
+    used: usize,
+    d: Delivery,
+)
+    requires { ⌜ Ready (columnOf (now directory) (now g) (now w) (now y)) t a × (used ≡ sumOf (directoryOf 64 (now directory) .lengths)) × (used < length (now g)) ⌝ }
+    ensures { λ r. ⌜ columnOf (now (directory .exit)) (now (g .exit)) (now (w .exit)) (now (y .exit))
+        ≡ putOf (columnOf (now (directory .entry)) (now (g .entry)) (now (w .entry)) (now (y .entry))) t d ⌝ }
+{
+    let l = 2 + directory[1] as usize;
+    ripple::insert_slots(g, w, y, &directory[2..l], t, a, used, d);
+    grow(directory, t);
+}
+
+// The slots and the length of a delete of slot i of partition t, which starts at a.
+fn take_out(
+    directory: &mut [u32],
+    g: &mut [u32],
+    w: &mut [u32],
+    y: &mut [u32],
+    t: usize,
+    a: usize,
+    i: usize,
+)
+    requires { ⌜ Ready (columnOf (now directory) (now g) (now w) (now y)) t a × (i < getD (directoryOf 64 (now directory) .lengths) t 0) ⌝ }
+    ensures { λ r. ⌜ columnOf (now (directory .exit)) (now (g .exit)) (now (w .exit)) (now (y .exit))
+        ≡ takenOf (columnOf (now (directory .entry)) (now (g .entry)) (now (w .entry)) (now (y .entry))) t i ⌝ }
+{
+    let l = 2 + directory[1] as usize;
+    let freed = Delivery {
+        grower: 0,
+        weight: 0,
+        oil_yield: 0,
+    };
+    ripple::delete_slots(g, w, y, &directory[2..l], t, a, i, freed);
+    shrink(directory, t);
+}
+
+// The slots of a move of slot i of partition t, which starts at a, to partition u, as d.
+fn shift_slots(
+    directory: &[u32],
+    g: &mut [u32],
+    w: &mut [u32],
+    y: &mut [u32],
+    t: usize,
+    a: usize,
+    i: usize,
+    u: usize,
+    d: Delivery,
+)
+    requires { ⌜ Ready (columnOf (now directory) (now g) (now w) (now y)) t a × (i < getD (directoryOf 64 (now directory) .lengths) t 0) × (u < partitionCount 64 (now directory)) ⌝ }
+    ensures { λ r. ⌜ (now (g .exit) ≡ moved (directoryOf 64 (now (directory .entry)) .lengths) t i u (d .grower) (now (g .entry)))
+        × (now (w .exit) ≡ moved (directoryOf 64 (now (directory .entry)) .lengths) t i u (d .weight) (now (w .entry)))
+        × (now (y .exit) ≡ moved (directoryOf 64 (now (directory .entry)) .lengths) t i u (d .«oil_yield») (now (y .entry))) ⌝ }
+{
+    let l = 2 + directory[1] as usize;
+    if t <= u {
+        ripple::forward_slots(g, w, y, &directory[2..l], t, a, i, u, d);
+        return;
+    }
+    let b = start_of(directory, u);
+    ripple::backward_slots(g, w, y, &directory[2..l], t, a, i, u, b, d);
+}
+
+// The slots and the lengths of a move of slot i of partition t, which starts at a, to partition u, as d.
+fn shift(
+    directory: &mut [u32],
+    g: &mut [u32],
+    w: &mut [u32],
+    y: &mut [u32],
+    t: usize,
+    a: usize,
+    i: usize,
+    u: usize,
+    d: Delivery,
+)
+    requires { ⌜ Ready (columnOf (now directory) (now g) (now w) (now y)) t a × (i < getD (directoryOf 64 (now directory) .lengths) t 0) × (u < partitionCount 64 (now directory)) ⌝ }
+    ensures { λ r. ⌜ columnOf (now (directory .exit)) (now (g .exit)) (now (w .exit)) (now (y .exit))
+        ≡ shiftedOf (columnOf (now (directory .entry)) (now (g .entry)) (now (w .entry)) (now (y .entry))) t i u d ⌝ }
+{
+    shift_slots(directory, g, w, y, t, a, i, u, d);
+    shrink(directory, t);
+    grow(directory, u);
+}
+
+// A scan's counts, and x random reads and y random writes more.
+fn with_more(s: Counts, x: u64, y: u64) -> Counts
+    requires { ⌜ (s .rr ≤ 1) × (s .«rw» ≤ 0) × (x ≤ 100) × (y ≤ 100) ⌝ }
+    ensures { λ r. ⌜ r ≡ andAlso s x y ⌝ }
+{
+    Counts {
+        rr: s.rr + x,
+        sr: s.sr,
+        rw: s.rw + y,
+    }
+}
+
+// An accepted insert, delete or move: it has no totals.
+fn accepted(counts: Counts) -> Answer
+    ensures { λ r. ⌜ r ≡ acceptedWith counts ⌝ }
+{
+    Answer {
+        refusal: 0,
+        totals: Totals {
+            records: 0,
+            weight: 0,
+            oil: 0,
+        },
+        counts,
+    }
+}
+
+// A refused delete or move; a 13 has its scan's counts.
+fn refused_with(n: u32, counts: Counts) -> Answer
+    ensures { λ r. ⌜ r ≡ refusedWith n counts ⌝ }
+{
+    Answer {
+        refusal: n,
+        totals: Totals {
+            records: 0,
+            weight: 0,
+            oil: 0,
+        },
+        counts,
+    }
+}
+
+// Inserts a delivery.
+pub fn insert(
+    directory: &mut [u32],
+    growers: &mut [u32],
+    weights: &mut [u32],
+    yields: &mut [u32],
+    d: Delivery,
+) -> Answer
+    ensures { λ r. ⌜ record { answer = r; column = columnOf (now (directory .exit)) (now (growers .exit)) (now (weights .exit)) (now (yields .exit)) }
+        ≡ columnCall 64 (columnOf (now (directory .entry)) (now (growers .entry)) (now (weights .entry)) (now (yields .entry))) (insert d) ⌝ }
+{
+    let o = open(directory, growers, weights, yields, d);
+    let n = o.refusal;
+    if n != 0 {
+        return refused(n);
+    }
+    let t = o.target;
+    let each = 1 + onward(directory, t);
+    let counts = Counts {
+        rr: each,
+        sr: 0,
+        rw: each,
+    };
+    put(directory, growers, weights, yields, t, o.start, o.used, d);
+    accepted(counts)
+}
+
+// Deletes the first equal delivery of its grower's partition.
+pub fn delete(
+    directory: &mut [u32],
+    growers: &mut [u32],
+    weights: &mut [u32],
+    yields: &mut [u32],
+    d: Delivery,
+) -> Answer
+    ensures { λ r. ⌜ record { answer = r; column = columnOf (now (directory .exit)) (now (growers .exit)) (now (weights .exit)) (now (yields .exit)) }
+        ≡ columnCall 64 (columnOf (now (directory .entry)) (now (growers .entry)) (now (weights .entry)) (now (yields .entry))) (delete d) ⌝ }
+{
+    let f = locate(directory, growers, weights, yields, d);
+    let s = f.counts;
+    if f.refusal != 0 {
+        return refused_with(f.refusal, s);
+    }
+    let t = f.target;
+    let n = onward(directory, t);
+    let counts = with_more(s, n, 1 + n);
+    take_out(directory, growers, weights, yields, t, f.start, f.slot);
+    accepted(counts)
+}
+
+// The partitions from one to another, the first not counted.
+fn apart(t: usize, u: usize) -> u64
+    ensures { λ r. ⌜ r ≡ apart t u ⌝ }
+{
+    if t < u {
+        return (u - t) as u64;
+    }
+    (t - u) as u64
+}
+
+// Moves the first equal delivery of its grower's partition to a new grower.
+pub fn move_delivery(
+    directory: &mut [u32],
+    growers: &mut [u32],
+    weights: &mut [u32],
+    yields: &mut [u32],
+    d: Delivery,
+    new_grower: u32,
+) -> Answer
+    ensures { λ r. ⌜ record { answer = r; column = columnOf (now (directory .exit)) (now (growers .exit)) (now (weights .exit)) (now (yields .exit)) }
+        ≡ columnCall 64 (columnOf (now (directory .entry)) (now (growers .entry)) (now (weights .entry)) (now (yields .entry))) (move d «new_grower») ⌝ }
+{
+    let f = locate(directory, growers, weights, yields, d);
+    let s = f.counts;
+    if f.refusal != 0 {
+        return refused_with(f.refusal, s);
+    }
+    let t = f.target;
+    let u = partition_of(directory, new_grower);
+    let n = apart(t, u);
+    let counts = with_more(s, 1 + n, 2 + n);
+    let moved = Delivery {
+        grower: new_grower,
+        weight: d.weight,
+        oil_yield: d.oil_yield,
+    };
+    shift(
+        directory,
+        growers,
+        weights,
+        yields,
+        t,
+        f.start,
+        f.slot,
+        u,
+        moved,
+    );
+    accepted(counts)
+}
+
+fn no_partition(n: u32) -> PartitionSlice
+    ensures { λ r. ⌜ r ≡ record { refusal = n; start = 0; count = 0 } ⌝ }
+{
+    PartitionSlice {
+        refusal: n,
+        start: 0,
+        count: 0,
+    }
+}
+
+// Where a grower's partition lies in the growers (01: the run call, by value).
+pub fn partition(directory: &[u32], growers: &[u32], grower: u32) -> PartitionSlice
+    ensures { λ r. ⌜ r ≡ partitionCall 64 (now (directory .entry)) (now (growers .entry)) grower ⌝ }
+{
+    let shape = checks::lent_growers(directory, growers);
+    let n = shape.refusal;
+    if n != 0 {
+        return no_partition(n);
+    }
+    let t = partition_of(directory, grower);
+    let start = start_of(directory, t);
+    let count = length_of(directory, t);
+    PartitionSlice {
+        refusal: 0,
+        start: start as u32,
+        count: count as u32,
+    }
+}
+
+// A grower's partition as a part of the lent growers, empty at their start when refused; the refusal is left in a lent number (01: the run call).
+pub fn partition_slice<'a>(
+    directory: &[u32],
+    growers: &'a [u32],
+    grower: u32,
+    refusal: &mut u32,
+) -> &'a [u32]
+    ensures { λ r. ⌜ record { part = now r; refusal = now (refusal .exit) } ≡ partOf (partitionCall 64 (now (directory .entry)) (now (growers .entry)) grower) (now (growers .entry)) ⌝ }
+{
+    let p = partition(directory, growers, grower);
+    *refusal = p.refusal;
+    let a = p.start as usize;
+    let e = a + p.count as usize;
+    &growers[a..e]
+}

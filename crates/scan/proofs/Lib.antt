@@ -1,0 +1,3 @@
+-- Laws of the scan and of each call's answer.
+pub mod Blocks
+pub mod Scanning

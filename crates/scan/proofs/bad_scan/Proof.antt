@@ -1,0 +1,18 @@
+-- `scan::bad_scan` meets its contract. Assumes nothing.
+use Prim.Native.Nat.{ℕ, _+_, _-_, _*_, _≤_, _<_}
+use mathlib.Core.Path.{_≡_, refl, sym, ap, _∙_}
+use native.Mathlib.Omega.{arith}
+use borrow.Author.Needs.{needs}
+use mathlib.Core.Bool.{false}
+use Rattle.model.specs.declared.Totals.{Totals}
+use Rattle.scan.proofs.bad_scan.Statement.{statement}
+use Rattle.scan.proofs.bad_scan.Tie as tie
+
+no-totals-requires : tie.Need-no-totals-requires
+no-totals-requires c κs = search needs
+
+returns : tie.Need-returns
+returns c = ap (λ (t : Totals). record { good = false; totals = t; blocks = 0 }) (c .no-totals .ensures)
+
+pub bad-scan-spec : {M : Type 1} → statement M
+bad-scan-spec = tie.close (tie.spec no-totals-requires returns)

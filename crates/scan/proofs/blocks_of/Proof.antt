@@ -1,0 +1,28 @@
+-- `scan::blocks_of` meets its contract. Assumes nothing.
+use Prim.Native.Nat.{ℕ, _+_, _-_, _*_, _≤_, _<_}
+use mathlib.Core.Path.{_≡_, refl, sym, ap, _∙_}
+use native.Mathlib.Omega.{arith}
+use borrow.Author.Needs.{needs}
+use Rattle.model.specs.Lists.{ceilDiv}
+use Rattle.scan.proofs.Blocks.{blocks-none, blocks-some}
+use Rattle.scan.proofs.blocks_of.Statement.{statement}
+use Rattle.scan.proofs.blocks_of.Tie as tie
+
+returns : tie.Need-returns
+returns c = blocks-none _ _ (c .before .pre .0) (c .if1 .taken)
+
+sub-result : tie.Need-sub-result
+sub-result c = search needs
+
+add-result : tie.Need-add-result
+add-result c = search needs
+
+div-result : tie.Need-div-result
+div-result c = search needs
+
+returns-2 : tie.Need-returns-2
+unfolding ceilDiv
+returns-2 c = let g = c .before .args in blocks-some (g .b) (g .n) (c .before .pre .0) (omega arith)
+
+pub blocks-of-spec : {M : Type 1} → statement M
+blocks-of-spec = tie.close (tie.spec returns sub-result add-result div-result returns-2)

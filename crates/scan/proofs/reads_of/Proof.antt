@@ -1,0 +1,18 @@
+-- `scan::reads_of` meets its contract. Assumes nothing.
+use Prim.Native.Nat.{ℕ, _+_, _-_, _*_, _≤_, _<_}
+use mathlib.Core.Path.{_≡_, refl, sym, ap, _∙_}
+use native.Mathlib.Omega.{arith}
+use borrow.Author.Needs.{needs}
+use Rattle.model.specs.Accesses.{readsOf}
+use Rattle.scan.proofs.reads_of.Statement.{statement}
+use Rattle.scan.proofs.reads_of.Tie as tie
+
+sub-t2 : tie.Need-sub-t2
+sub-t2 c = search needs
+
+returns : tie.Need-returns
+unfolding readsOf
+returns c = refl
+
+pub reads-of-spec : {M : Type 1} → statement M
+reads-of-spec = tie.close (tie.spec sub-t2 returns)

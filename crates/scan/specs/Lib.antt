@@ -1,0 +1,2 @@
+-- What the scans answer, in the model's terms.
+pub mod Scans

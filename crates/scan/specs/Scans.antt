@@ -1,0 +1,44 @@
+-- What a scan says of partitions, in the model's terms.
+use Prim.Native.Nat.{ℕ, _+_, _*_, _≤_}
+use mathlib.Core.Bool.{Bool, true, false, cond, _&&_}
+use mathlib.Core.List.{List, map, flatten}
+use lib.ListN.{length, take, drop}
+use Rattle.model.specs.declared.Delivery.{Delivery}
+use Rattle.model.specs.declared.Totals.{Totals}
+use Rattle.model.specs.Lists.{sumOf, every}
+use Rattle.model.specs.Deliveries.{inRange, noTotals, totalsBetween}
+use Rattle.model.specs.Partitions.{parts}
+use Rattle.model.specs.Accesses.{blocksOf}
+use Rattle.scan.specs.declared.Scan.{Scan}
+
+-- a scan that met a value out of range
+abbrev pub badScan : Scan
+badScan = record { good = false; totals = noTotals; blocks = 0 }
+
+abbrev pub plusTotals : Totals → Totals → Totals
+plusTotals a b = record { records = a .records + b .records; weight = a .weight + b .weight; oil = a .oil + b .oil }
+
+-- a scan that goes on to a partition of the records ds
+unfoldable pub scanMore : ℕ → ℕ → ℕ → Scan → List Delivery → Scan
+scanMore b lo hi s ds =
+    cond (s .good && every inRange ds)
+    (record { good = true; totals = plusTotals (s .totals) (totalsBetween lo hi ds); blocks = s .blocks + blocksOf b (length ds) })
+    badScan
+
+-- the records of n partitions from p on
+abbrev pub recordsIn : List ℕ → ℕ → ℕ → List Delivery → List Delivery
+recordsIn ns p n ds = flatten (take n (drop p (parts ns ds)))
+
+-- n partitions from p on, of the lengths ns
+unfoldable pub scanOf : ℕ → List ℕ → ℕ → ℕ → ℕ → ℕ → List Delivery → Scan
+scanOf b ns p n lo hi ds =
+    cond (every inRange (recordsIn ns p n ds))
+    (record { good = true; totals = totalsBetween lo hi (recordsIn ns p n ds); blocks = sumOf (map (blocksOf b) (take n (drop p ns))) })
+    badScan
+
+-- a scan of at most m records in at most k partitions
+pub record Light (m k : ℕ) (s : Scan) : Type 0 where
+  pub few : s .totals .records ≤ m
+  pub light : s .totals .weight ≤ 100000 * m
+  pub little : s .totals .oil ≤ 1000000000 * m
+  pub short : s .blocks ≤ m + k

@@ -1,0 +1,121 @@
+// Scans of a column's partitions (01): each is handed only its partition's part of each slice.
+ghost use mathlib.Core.Path.{_≡_};
+ghost use Prim.Native.Nat.{ℕ, _+_, _-_, _≤_, _<_};
+ghost use lib.ListN.{length};
+ghost use Rattle.model.specs.Lists.{sumOf};
+ghost use Rattle.model.specs.Deliveries.{rows, noTotals};
+ghost use Rattle.model.specs.Accesses.{blocksOf, readsOf};
+ghost use Rattle.scan.specs.Scans.{badScan, scanMore, scanOf, Light};
+use model::Counts;
+use model::Totals;
+
+pub fn no_totals() -> Totals
+    ensures { λ r. ⌜ r ≡ noTotals ⌝ }
+{
+    Totals {
+        records: 0,
+        weight: 0,
+        oil: 0,
+    }
+}
+
+// How many blocks a partition of n records counts as.
+pub fn blocks_of(n: usize, b: u32) -> u64
+    requires { ⌜ (1 ≤ b) × (n ≤ 262144) ⌝ }
+    ensures { λ r. ⌜ r ≡ blocksOf b n ⌝ }
+{
+    if n == 0 {
+        return 1;
+    }
+    let c = b as u64;
+    (n as u64 + (c - 1)) / c
+}
+
+// Of n blocks scanned the first is a random read, each other a sequential one.
+pub fn reads_of(n: u64) -> Counts
+    requires { ⌜ 1 ≤ n ⌝ }
+    ensures { λ r. ⌜ r ≡ readsOf n ⌝ }
+{
+    Counts {
+        rr: 1,
+        sr: n - 1,
+        rw: 0,
+    }
+}
+
+// What a scan says: are all values in range, the totals of lo to hi, and the blocks.
+pub struct Scan {
+    pub good: bool,
+    pub totals: Totals,
+    pub blocks: u64,
+}
+
+fn bad_scan() -> Scan
+    ensures { λ r. ⌜ r ≡ badScan ⌝ }
+{
+    let totals = no_totals();
+    Scan {
+        good: false,
+        totals,
+        blocks: 0,
+    }
+}
+
+// A scan goes on to one more partition, of which it is handed its part of each slice.
+fn scan_more(s: Scan, g: &[u32], w: &[u32], y: &[u32], b: u32, lo: u32, hi: u32) -> Scan
+    requires { ⌜ (length (now g) ≤ 262144) × (length (now w) ≡ length (now g)) × (length (now y) ≡ length (now g)) × (1 ≤ b) × Light 262144 64 s ⌝ }
+    ensures { λ r. ⌜ r ≡ scanMore b lo hi s (rows (now (g .entry)) (now (w .entry)) (now (y .entry))) ⌝ }
+{
+    if !s.good {
+        return bad_scan();
+    }
+    if !checks::values_ok(w, y) {
+        return bad_scan();
+    }
+    let old = s.totals;
+    let new = slices::totals(g, w, y, lo, hi);
+    let blocks = s.blocks + blocks_of(g.len(), b);
+    let totals = Totals {
+        records: old.records + new.records,
+        weight: old.weight + new.weight,
+        oil: old.oil + new.oil,
+    };
+    Scan {
+        good: true,
+        totals,
+        blocks,
+    }
+}
+
+// Partitions p to q, one after the other.
+pub fn scan_parts(
+    g: &[u32],
+    w: &[u32],
+    y: &[u32],
+    lens: &[u32],
+    p: usize,
+    q: usize,
+    b: u32,
+    lo: u32,
+    hi: u32,
+) -> Scan
+    requires { ⌜ (p ≤ q) × (q < length (now lens)) × (length (now lens) ≤ 64) × (sumOf (now lens) ≤ length (now g)) × (1 ≤ b) ⌝ }
+    requires { ⌜ (length (now g) ≤ 262144) × (length (now w) ≡ length (now g)) × (length (now y) ≡ length (now g)) ⌝ }
+    ensures { λ r. ⌜ r ≡ scanOf b (now (lens .entry)) p (q + 1 - p) lo hi (rows (now (g .entry)) (now (w .entry)) (now (y .entry))) ⌝ }
+{
+    let mut at = slices::total(&lens[..p]) as usize;
+    let mut i = p;
+    let none = no_totals();
+    let mut s = Scan {
+        good: true,
+        totals: none,
+        blocks: 0,
+    };
+    while i <= q {
+        let e = at + lens[i] as usize;
+        s = scan_more(s, &g[at..e], &w[at..e], &y[at..e], b, lo, hi);
+        at = e;
+        i += 1;
+    }
+    s
+}

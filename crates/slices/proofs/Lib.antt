@@ -1,0 +1,4 @@
+-- What a turn of each loop shows.
+pub mod Flags
+pub mod Places
+pub mod Scans

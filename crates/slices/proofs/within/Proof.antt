@@ -1,0 +1,59 @@
+-- `slices::within` meets its contract. Assumes nothing.
+use Prim.Native.Nat.{ℕ, _+_, _-_, _≤_, _<_}
+use native.Mathlib.Omega.{arith}
+use borrow.Author.Needs.{needs}
+use lib.ListN.{length}
+use lib.Dec.{leb, eqb}
+use borrow.Author.Tests.{lt-leb, le-leb, ne-eqb, eq-eqb}
+use Rattle.slices.proofs.Flags.{Flagged, flag-start, flag-good, flag-bad, flag-end}
+use Rattle.slices.proofs.within.Statement.{statement}
+use Rattle.slices.proofs.within.Tie as tie
+
+abbrev Inv-loop : tie.InvT-loop
+Inv-loop s most good₀ i₀ good i = Flagged (λ (n : ℕ). leb n most) s good i
+
+abbrev μ-loop : tie.MeasureT-loop
+μ-loop s most good₀ i₀ good i = length s - i
+
+loop-holds : tie.Need-loop-holds Inv-loop μ-loop
+loop-holds c = flag-start _ _
+
+mul-x : tie.Need-mul-x Inv-loop μ-loop
+mul-x c = search needs
+
+shared-slice-read-x : tie.Need-shared-slice-read-x Inv-loop μ-loop
+shared-slice-read-x c = omega arith
+
+add-i : tie.Need-add-i Inv-loop μ-loop
+add-i c = omega arith
+
+loop-less : tie.Need-loop-less Inv-loop μ-loop
+loop-less c = omega arith
+
+loop-again : tie.Need-loop-again Inv-loop μ-loop
+loop-again c = flag-bad _ _ _ _ (c .before .before .loop-test .taken) (c .before .before .before .loop .inv) (lt-leb _ _ (c .if1 .taken))
+
+loop-less-2 : tie.Need-loop-less-2 Inv-loop μ-loop
+loop-less-2 c = omega arith
+
+loop-again-2 : tie.Need-loop-again-2 Inv-loop μ-loop
+loop-again-2 c = flag-good _ _ _ _ (c .before .before .loop-test .taken) (c .before .before .before .loop .inv) (le-leb _ _ (c .if1 .left))
+
+returns : tie.Need-returns Inv-loop μ-loop
+returns c = flag-end _ _ _ _ (c .loop-test .left) (c .before .loop .inv)
+
+pub within-spec : {M : Type 1} → statement M
+within-spec =
+    tie.close
+    (tie.spec
+    Inv-loop
+    μ-loop
+    loop-holds
+    mul-x
+    shared-slice-read-x
+    add-i
+    loop-less
+    loop-again
+    loop-less-2
+    loop-again-2
+    returns)

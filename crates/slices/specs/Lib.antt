@@ -1,0 +1,2 @@
+-- What the loops over slices answer.
+pub mod Slices
