@@ -1,0 +1,4 @@
+-- The laws of the planner.
+pub mod Given
+pub mod Permitted
+pub mod Answers

@@ -1,0 +1,109 @@
+-- The layouts that the search allows are the permitted ones, and its least is the cheapest. Assumes nothing.
+use Prim.Native.Nat.{ℕ, _+_, _-_, _*_, _≤_, _<_}
+use mathlib.Core.Path.{_≡_, refl, sym, _∙_, subst}
+use mathlib.Core.Bool.{Bool, true, false, cond, _&&_}
+use mathlib.Core.List.{List, [], _∷_}
+use native.Mathlib.Omega.{arith}
+use lib.Dec.{T, leb, leb→le, le→leb}
+use lib.ListN.{length, getD}
+use lib.IntN.{subℕ}
+use Rattle.model.specs.declared.PriceCard.{PriceCard}
+use Rattle.model.specs.declared.Limits.{Limits}
+use Rattle.model.specs.Lists.{every}
+use Rattle.model.specs.Blocks.{Set, blocks}
+use Rattle.model.specs.Layouts.{isLayout, separatesNone, layoutOk, blockCounts, mostPartitions, longestPartition, permitted}
+use Rattle.model.specs.Cost.{costOf}
+use Rattle.model.specs.Laws.{IsCheapest}
+use Rattle.model.proofs.Tests.{and-fst, and-snd, and-mk, is-true, of-true}
+use Rattle.model.proofs.Integers.{Is, is-sub, eq-is}
+use Rattle.model.proofs.Order.{comesBefore-intro, comesBefore-elim}
+use Rattle.model.proofs.LayoutLaws.{Cut, layout-cut, cut-is-layout}
+use Rattle.search.specs.Task.{Task, Layout, Covers, adds, takes, Allowed, Least}
+use Rattle.search.specs.Terms.{taskOf}
+use Rattle.search.proofs.TermLaws.{ok-yes}
+use Rattle.terms.specs.Terms.{Loaded}
+use Rattle.terms.proofs.LayoutCost.{covers-cut, layout-cost}
+
+both : (b c : Bool) → cond b c false ≡ true → T b × T c
+both true c e = (tt, of-true c e)
+both false c e = absurd (subst T (sym e) tt)
+
+module _ (p : PriceCard) (l : Limits) (s : Set) (hs old terms : List ℕ) (fits : List Bool)
+    (loaded : Loaded p hs (blocks s * 5) old terms) (marks : (i : ℕ) → i < blocks s → getD fits i false ≡ separatesNone s i) (some : 1 ≤ blocks s) where
+  abbrev pub task : Task
+  task = taskOf terms fits (longestPartition p l) (blocks s)
+
+  abbrev short : ℕ → Bool
+  short n = leb n (longestPartition p l)
+
+  layout-of : (a : ℕ) (es : List ℕ) → Cut a es (blocks s) → T (every (separatesNone s) es) → T (every short (blockCounts a es)) → Layout task a es
+  unfolding Cut every blockCounts
+  layout-of a [] c h k = c
+  layout-of a (e ∷ es) c h k =
+      let u = leb→le (e + 1 - a) (longestPartition p l) (and-fst (short (e + 1 - a)) (every short (blockCounts (e + 1) es)) k) in
+      let v = sym (ok-yes (longestPartition p l) a e (λ i. getD fits i false) u) ∙ marks e (c .1) ∙ is-true _ (and-fst (separatesNone s e) (every (separatesNone s) es) h) in
+      (c .0, c .1, v, layout-of (e + 1) es (c .2) (and-snd (separatesNone s e) (every (separatesNone s) es) h) (and-snd (short (e + 1 - a)) (every short (blockCounts (e + 1) es)) k))
+
+  layout-covers : (a : ℕ) (es : List ℕ) → Layout task a es → Covers (blocks s) a es
+  layout-covers a [] l = l
+  layout-covers a (e ∷ es) l = (l .0, l .1, layout-covers (e + 1) es (l .3))
+
+  layout-ends : (a : ℕ) (es : List ℕ) → Layout task a es → T (every (separatesNone s) es) × T (every short (blockCounts a es))
+  unfolding every blockCounts
+  layout-ends a [] l = (tt, tt)
+  layout-ends a (e ∷ es) l =
+      let r = layout-ends (e + 1) es (l .3) in
+      let b = both (short (e + 1 - a)) (getD fits e false) (l .2) in
+      (and-mk (separatesNone s e) (every (separatesNone s) es) (subst T (marks e (l .1)) (b .1)) (r .0), and-mk (short (e + 1 - a)) (every short (blockCounts (e + 1) es)) (b .0) (r .1))
+
+  not-empty : (es : List ℕ) → Layout task 0 es → 1 ≤ length es
+  not-empty [] l = let z : ⊥ = omega (arith, l, some) in absurd z
+  not-empty (e ∷ es) l = omega arith
+
+  layout-cuts : (es : List ℕ) → Layout task 0 es → Cut 0 es (blocks s)
+  layout-cuts es l = covers-cut 0 es (blocks s) (layout-covers 0 es l)
+
+  pub permitted-allowed : (es : List ℕ) → T (permitted p l s es) → Allowed task (mostPartitions p l) es
+  unfolding permitted layoutOk
+  permitted-allowed es t =
+      let a = isLayout (blocks s) es in
+      let b = every (separatesNone s) es in
+      let c = leb (length es) (mostPartitions p l) in
+      let d = every short (blockCounts 0 es) in
+      let u = and-fst (a && b && c) d t in
+      let v = and-fst (a && b) c u in
+      (layout-of 0 es (layout-cut (blocks s) es (and-fst a b v) .1) (and-snd a b v) (and-snd (a && b && c) d t), leb→le (length es) (mostPartitions p l) (and-snd (a && b) c u))
+
+  pub allowed-permitted : (es : List ℕ) → Allowed task (mostPartitions p l) es → T (permitted p l s es)
+  unfolding permitted layoutOk
+  allowed-permitted es h =
+      let a = isLayout (blocks s) es in
+      let b = every (separatesNone s) es in
+      let c = leb (length es) (mostPartitions p l) in
+      let d = every short (blockCounts 0 es) in
+      let r = layout-ends 0 es (h .0) in
+      let u = cut-is-layout (blocks s) es (not-empty es (h .0)) (layout-cuts es (h .0)) in
+      and-mk (a && b && c) d (and-mk (a && b) c (and-mk a b u (r .0)) (le→leb (length es) (mostPartitions p l) (h .1))) (r .1)
+
+  -- the cost of an allowed layout
+  cost-is : (es : List ℕ) → Layout task 0 es → Is (costOf 64 p (blocks s) es hs) (adds task 0 es) (takes task 0 es)
+  cost-is es l = layout-cost p hs (blocks s) old terms loaded es (layout-cuts es l)
+
+  pub cost-by-terms : (es : List ℕ) → Layout task 0 es → costOf 64 p (blocks s) es hs ≡ subℕ (adds task 0 es) (takes task 0 es)
+  cost-by-terms es l = eq-is _ _ _ _ _ _ (cost-is es l) (is-sub (adds task 0 es) (takes task 0 es)) refl
+
+  pub least-cheapest : (es : List ℕ) → Least task (mostPartitions p l) es → IsCheapest 64 p l s hs es
+  least-cheapest es h = record {
+    allowed = allowed-permitted es (h .allowed);
+    first = λ other t.
+        let a = permitted-allowed other t in
+        comesBefore-intro (λ (e : List ℕ). costOf 64 p (blocks s) e hs) es other _ _ _ _ (cost-is es (h .allowed .0)) (cost-is other (a .0)) (h .ahead other a);
+  }
+
+  pub cheapest-least : (es : List ℕ) → IsCheapest 64 p l s hs es → Least task (mostPartitions p l) es
+  cheapest-least es h =
+      let o = permitted-allowed es (h .allowed) in
+      record {
+        allowed = o;
+        ahead = λ other a. comesBefore-elim (λ (e : List ℕ). costOf 64 p (blocks s) e hs) es other _ _ _ _ (cost-is es (o .0)) (cost-is other (a .0)) (h .first other (allowed-permitted other a));
+      }

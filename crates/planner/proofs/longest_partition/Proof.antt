@@ -1,0 +1,28 @@
+-- `planner::longest_partition` meets its contract. Assumes nothing.
+use Prim.Native.Nat.{_-_}
+use native.Mathlib.Omega.{arith}
+use native.Mathlib.Nat.{div-le-self}
+use Rattle.planner.proofs.Given.{longest-some, longest-none}
+use borrow.Author.Needs.{needs}
+use Rattle.planner.proofs.longest_partition.Statement.{statement}
+use Rattle.planner.proofs.longest_partition.Tie as tie
+
+div-result : tie.Need-div-result
+div-result c = search needs
+
+cast-result : tie.Need-cast-result
+cast-result c =
+    let a = c .before .before .before .before .before .before .args in
+    omega (arith, div-le-self (a .limits .read - a .card .rr) (a .card .sr))
+
+returns : tie.Need-returns
+returns c =
+    let a = c .before .before .before .before .before .before .args in
+    let if1 = c .before .before .before .if1 in
+    longest-some (a .card) (a .limits) (if1 .taken)
+
+returns-2 : tie.Need-returns-2
+returns-2 c = longest-none (c .before .before .before .args .card) (c .before .before .before .args .limits) (omega arith)
+
+pub longest-partition-spec : {M : Type 1} → statement M
+longest-partition-spec = tie.close (tie.spec div-result cast-result returns returns-2)

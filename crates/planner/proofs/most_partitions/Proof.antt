@@ -1,0 +1,33 @@
+-- `planner::most_partitions` meets its contract. Assumes nothing.
+use Prim.Native.Nat.{_+_, _-_}
+use native.Mathlib.Omega.{arith}
+use native.Mathlib.Nat.{div-le-self}
+use Rattle.model.specs.Layouts.{mostPartitions}
+use borrow.Author.Needs.{needs}
+use Rattle.planner.proofs.most_partitions.Statement.{statement}
+use Rattle.planner.proofs.most_partitions.Tie as tie
+
+add-x : tie.Need-add-x
+add-x c = search needs
+
+div-x : tie.Need-div-x
+div-x c = search needs
+
+returns : tie.Need-returns
+unfolding mostPartitions
+returns c = omega arith
+
+sub-result : tie.Need-sub-result
+sub-result c = search needs
+
+cast-result : tie.Need-cast-result
+cast-result c =
+    let a = c .before .before .before .args in
+    omega (arith, div-le-self (a .limits .insert) (a .card .rr + a .card .«rw»))
+
+returns-2 : tie.Need-returns-2
+unfolding mostPartitions
+returns-2 c = omega arith
+
+pub most-partitions-spec : {M : Type 1} → statement M
+most-partitions-spec = tie.close (tie.spec add-x div-x returns sub-result cast-result returns-2)

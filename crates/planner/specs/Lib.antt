@@ -1,0 +1,2 @@
+-- What the planner's functions answer, beside the model's own definitions.
+pub mod Given

@@ -1,0 +1,237 @@
+// The cost of a given layout and the search for the cheapest permitted one (01: the bill; permitted layouts).
+ghost use mathlib.Core.Path.{_≡_};
+ghost use mathlib.Core.Bool.{_&&_};
+ghost use Prim.Native.Nat.{_≤_, _<_};
+ghost use lib.ListN.{length};
+ghost use lib.IntN.{pos};
+ghost use Rattle.model.specs.Checks.{firstFailed};
+ghost use Rattle.model.specs.Prices.{priceOk, pricesOk, limitsOk};
+ghost use Rattle.model.specs.Layouts.{mostPartitions, longestPartition};
+ghost use Rattle.model.specs.Questions.{costChecks};
+ghost use Rattle.model.specs.Planner.{costCall, planCall};
+ghost use Rattle.checks.specs.Lent.{Sized, setOf};
+ghost use Rattle.planner.specs.Given.{givenChecks, Marked, PricesPass};
+use model::Costed;
+use model::Limits;
+use model::Planned;
+use model::PriceCard;
+
+// Check 1 of one price, of the three, and of the limits.
+fn price_ok(p: u32) -> bool
+    ensures { λ r. ⌜ r ≡ priceOk p ⌝ }
+{
+    if p < 1 {
+        return false;
+    }
+    p <= 1000
+}
+
+fn prices_ok(card: PriceCard) -> bool
+    ensures { λ r. ⌜ r ≡ pricesOk card ⌝ }
+{
+    if !price_ok(card.rr) {
+        return false;
+    }
+    if !price_ok(card.sr) {
+        return false;
+    }
+    price_ok(card.rw)
+}
+
+fn limits_ok(limits: Limits) -> bool
+    ensures { λ r. ⌜ r ≡ limitsOk limits ⌝ }
+{
+    if 1000000 < limits.read {
+        return false;
+    }
+    limits.insert <= 1000000
+}
+
+fn given_ok(card: PriceCard, limits: Limits) -> bool
+    ensures { λ r. ⌜ r ≡ pricesOk card && limitsOk limits ⌝ }
+{
+    if !prices_ok(card) {
+        return false;
+    }
+    limits_ok(limits)
+}
+
+// Checks 1, 2, 3, 4, 5, 8 and 9 of the planner.
+fn plan_refusal(
+    card: PriceCard,
+    limits: Limits,
+    block: u32,
+    used: u32,
+    growers: &[u32],
+    weights: &[u32],
+    yields: &[u32],
+    histograms: &[u32],
+) -> u32
+    ensures { λ r. ⌜ r ≡ firstFailed (givenChecks card limits (setOf block used (now (growers .entry)) (now (weights .entry)) (now (yields .entry))) (now (histograms .entry))) ⌝ }
+{
+    if !given_ok(card, limits) {
+        return 1;
+    }
+    let n = checks::set_refusal(block, used, growers, weights, yields);
+    if n != 0 {
+        return n;
+    }
+    if !checks::set_values_ok(used, growers, weights, yields) {
+        return 8;
+    }
+    if !checks::histograms_ok(histograms) {
+        return 9;
+    }
+    0
+}
+
+// Checks 1, 2, 3, 4, 5, 6, 8 and 9 of a cost.
+fn cost_refusal(
+    card: PriceCard,
+    block: u32,
+    used: u32,
+    growers: &[u32],
+    weights: &[u32],
+    yields: &[u32],
+    ends: &[u32],
+    histograms: &[u32],
+) -> u32
+    ensures { λ r. ⌜ r ≡ firstFailed (costChecks 64 card (setOf block used (now (growers .entry)) (now (weights .entry)) (now (yields .entry))) (now (ends .entry)) (now (histograms .entry))) ⌝ }
+{
+    if !prices_ok(card) {
+        return 1;
+    }
+    let n = checks::set_refusal(block, used, growers, weights, yields);
+    if n != 0 {
+        return n;
+    }
+    if !checks::layout_ok(block, used, growers, ends) {
+        return 6;
+    }
+    if !checks::set_values_ok(used, growers, weights, yields) {
+        return 8;
+    }
+    if !checks::histograms_ok(histograms) {
+        return 9;
+    }
+    0
+}
+
+// How many blocks a partition may have under the read limit.
+fn longest_partition(card: PriceCard, limits: Limits) -> usize
+    requires { ⌜ PricesPass card ⌝ }
+    ensures { λ r. ⌜ r ≡ longestPartition card limits ⌝ }
+{
+    if card.rr <= limits.read {
+        return ((limits.read - card.rr) / card.sr) as usize;
+    }
+    0
+}
+
+// How many partitions there may be under the insert limit.
+fn most_partitions(card: PriceCard, limits: Limits) -> usize
+    requires { ⌜ PricesPass card ⌝ }
+    ensures { λ r. ⌜ r ≡ mostPartitions card limits ⌝ }
+{
+    let x = limits.insert / (card.rr + card.rw);
+    if x == 0 {
+        return 0;
+    }
+    (x - 1) as usize
+}
+
+// Where an end may stand, for each of n blocks.
+fn mark(block: u32, used: u32, growers: &[u32], n: usize, fits: &mut [bool])
+    requires { ⌜ Sized block used (length (now growers)) ⌝ }
+    requires { ⌜ (n ≤ 64) × (n ≤ length (now fits)) ⌝ }
+    ensures { λ _. ⌜ Marked block used (now (growers .entry)) n (now (fits .entry)) (now (fits .exit)) ⌝ }
+{
+    let mut i = 0;
+    while i < n {
+        let v = checks::separates_none(block, used, growers, i as u32);
+        fits[i] = v;
+        i += 1;
+    }
+}
+
+fn refused(n: u32) -> Planned
+    ensures { λ r. ⌜ r ≡ record { refusal = n; count = 0; cost = pos 0 } ⌝ }
+{
+    Planned {
+        refusal: n,
+        count: 0,
+        cost: 0,
+    }
+}
+
+// The cheapest permitted layout: its ends go to the front of `ends`, and what lies past them stays.
+pub fn plan(
+    card: PriceCard,
+    limits: Limits,
+    block: u32,
+    used: u32,
+    growers: &[u32],
+    weights: &[u32],
+    yields: &[u32],
+    histograms: &[u32],
+    ends: &mut [u32],
+) -> Planned
+    ensures { λ r. ⌜ record { answer = r; ends = now (ends .exit) } ≡ planCall 64 card limits (setOf block used (now (growers .entry)) (now (weights .entry)) (now (yields .entry))) (now (histograms .entry)) (now (ends .entry)) ⌝ }
+{
+    let refusal = plan_refusal(
+        card,
+        limits,
+        block,
+        used,
+        growers,
+        weights,
+        yields,
+        histograms,
+    );
+    if refusal != 0 {
+        return refused(refusal);
+    }
+    let n = checks::block_count(block, used) as usize;
+    let longest = longest_partition(card, limits);
+    let most = most_partitions(card, limits);
+    let mut terms = [0u64; 320];
+    let mut fits = [false; 64];
+    let mut rows = [0u64; 4096];
+    terms::load(card, histograms, n, &mut terms[..]);
+    mark(block, used, growers, n, &mut fits[..]);
+    search::cheapest(&terms[..], &fits[..], longest, most, n, &mut rows[..], ends)
+}
+
+// The cost of a given layout.
+pub fn cost(
+    card: PriceCard,
+    block: u32,
+    used: u32,
+    growers: &[u32],
+    weights: &[u32],
+    yields: &[u32],
+    ends: &[u32],
+    histograms: &[u32],
+) -> Costed
+    ensures { λ r. ⌜ r ≡ costCall 64 card (setOf block used (now (growers .entry)) (now (weights .entry)) (now (yields .entry))) (now (ends .entry)) (now (histograms .entry)) ⌝ }
+{
+    let refusal = cost_refusal(
+        card,
+        block,
+        used,
+        growers,
+        weights,
+        yields,
+        ends,
+        histograms,
+    );
+    if refusal != 0 {
+        return Costed { refusal, cost: 0 };
+    }
+    let blocks = checks::block_count(block, used) as usize;
+    let mut terms = [0u64; 320];
+    terms::load(card, histograms, blocks, &mut terms[..]);
+    let m = search::layout_number(&terms[..], ends);
+    let cost = search::unbiased(m);
+    Costed { refusal: 0, cost }
+}

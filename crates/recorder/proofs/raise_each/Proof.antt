@@ -1,0 +1,64 @@
+-- `recorder::raise_each` meets its contract. Assumes nothing.
+use Prim.Native.Nat.{_-_}
+use native.Mathlib.Omega.{arith}
+use borrow.Author.Needs.{needs}
+use Rattle.recorder.proofs.Slots.{Rest, rest-start, rest-low, rest-next, rest-end}
+use Rattle.recorder.proofs.raise_each.Statement.{statement}
+use Rattle.recorder.proofs.raise_each.Tie as tie
+
+abbrev Inv-loop : tie.InvT-loop
+Inv-loop h₀ f t i₀ h i = Rest h₀ h f t i
+
+abbrev μ-loop : tie.MeasureT-loop
+μ-loop h₀ f t i₀ h i = t - i
+
+loop-holds : tie.Need-loop-holds Inv-loop μ-loop
+loop-holds c = rest-start _ _ _ (c .pre .0) (c .pre .1) (c .pre .2)
+
+mul-x : tie.Need-mul-x Inv-loop μ-loop
+mul-x c = search needs
+
+slice-read-x : tie.Need-slice-read-x Inv-loop μ-loop
+slice-read-x c = search needs
+
+add-h : tie.Need-add-h Inv-loop μ-loop
+add-h c = omega (arith, rest-low _ _ _ _ _ (c .before .loop-test .taken) (c .before .before .loop .inv))
+
+mul-h : tie.Need-mul-h Inv-loop μ-loop
+mul-h c = search needs
+
+slice-write-h : tie.Need-slice-write-h Inv-loop μ-loop
+slice-write-h c = search needs
+
+add-i : tie.Need-add-i Inv-loop μ-loop
+add-i c = search needs
+
+loop-less : tie.Need-loop-less Inv-loop μ-loop
+loop-less c = omega arith
+
+loop-again : tie.Need-loop-again Inv-loop μ-loop
+loop-again c = rest-next _ _ _ _ _ (c .before .loop-test .taken) (c .before .before .loop .inv)
+
+same-length : tie.Need-same-length Inv-loop μ-loop
+same-length c = c .before .loop .inv .size
+
+returns : tie.Need-returns Inv-loop μ-loop
+returns c = rest-end _ _ _ _ _ (c .loop-test .left) (c .before .loop .inv)
+
+pub raise-each-spec : {M : Type 1} → statement M
+raise-each-spec =
+    tie.close
+    (tie.spec
+    Inv-loop
+    μ-loop
+    loop-holds
+    mul-x
+    slice-read-x
+    add-h
+    mul-h
+    slice-write-h
+    add-i
+    loop-less
+    loop-again
+    same-length
+    returns)

@@ -1,0 +1,2 @@
+-- What the parts of a recorder call answer.
+pub mod Raising

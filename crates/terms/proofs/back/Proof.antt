@@ -1,0 +1,62 @@
+-- `terms::back` meets its contract. Assumes nothing.
+use native.Mathlib.Omega.{arith}
+use Rattle.model.specs.Histograms.{slot, position}
+use Rattle.terms.specs.Terms.{backOf}
+use Rattle.terms.proofs.TermLaws.{product-is}
+use borrow.Author.Needs.{needs}
+use Rattle.terms.proofs.back.Statement.{statement}
+use Rattle.terms.proofs.back.Tie as tie
+
+count-requires : tie.Need-count-requires
+count-requires c κs = search needs
+
+count-requires-2 : tie.Need-count-requires-2
+count-requires-2 c κs = search needs
+
+add-c : tie.Need-add-c
+add-c c = search needs
+
+count-requires-3 : tie.Need-count-requires-3
+count-requires-3 c κs = search needs
+
+add-c-2 : tie.Need-add-c-2
+add-c-2 c = search needs
+
+count-requires-4 : tie.Need-count-requires-4
+count-requires-4 c κs = search needs
+
+add-c-3 : tie.Need-add-c-3
+add-c-3 c = search needs
+
+count-requires-5 : tie.Need-count-requires-5
+count-requires-5 c κs = search needs
+
+add-c-4 : tie.Need-add-c-4
+add-c-4 c = search needs
+
+wide-requires : tie.Need-wide-requires
+wide-requires c κs = search needs
+
+product-requires : tie.Need-product-requires
+product-requires c κs = search needs
+
+returns : tie.Need-returns
+unfolding backOf slot position
+returns c = product-is _ _ _ _ _ (c .product .ensures .0) (omega arith) (omega arith)
+
+pub back-spec : {M : Type 1} → statement M
+back-spec =
+    tie.close
+    (tie.spec
+    count-requires
+    count-requires-2
+    add-c
+    count-requires-3
+    add-c-2
+    count-requires-4
+    add-c-3
+    count-requires-5
+    add-c-4
+    wide-requires
+    product-requires
+    returns)

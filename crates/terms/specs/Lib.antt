@@ -1,0 +1,2 @@
+-- The terms of blocks, by prices and histograms.
+pub mod Terms
