@@ -1,0 +1,245 @@
+//! The five calls on a column of 262,144 slots.
+
+use crate::meltusk::{Answer, ColumnSlices, Counts, Empty, Library, SetSlices, Totals};
+use crate::random::{case_seed, Random};
+use crate::timing::{timed, Times, REPETITIONS, ROUNDS};
+use second::{Delivery, ReadAnswer, WriteAnswer, BLOCK_LENGTH_LIMIT, SLOT_LIMIT};
+
+/// Slots left free.
+const FREE: usize = 256;
+const USED: usize = SLOT_LIMIT - FREE;
+/// Inserts of a batch, and then deletes; as many moves there and back.
+const WRITES: usize = 32;
+/// Finds and ranges of a batch.
+const READS: usize = 8;
+
+const LIBRARY: Library = Library {
+    empty: Empty::Place,
+};
+
+/// The two sides; each has its own column.
+const OURS: usize = 0;
+const SECOND: usize = 1;
+
+#[derive(Clone, PartialEq, Eq)]
+struct Column {
+    directory: Vec<u32>,
+    growers: Vec<u32>,
+    weights: Vec<u32>,
+    yields: Vec<u32>,
+}
+
+#[derive(Clone, Copy)]
+enum Call {
+    Find(u32),
+    Range(u32, u32),
+    Insert(Delivery),
+    Delete(Delivery),
+    Move(Delivery, u32),
+}
+
+fn of_counts(c: second::Counts) -> Counts {
+    Counts {
+        rr: c.rr,
+        sr: c.sr,
+        rw: c.rw,
+    }
+}
+
+fn of_read(a: ReadAnswer) -> Answer {
+    Answer {
+        refusal: a.refusal,
+        totals: Totals {
+            records: a.totals.records,
+            weight: a.totals.weight,
+            oil: a.totals.oil,
+        },
+        counts: of_counts(a.counts),
+    }
+}
+
+fn of_write(a: WriteAnswer) -> Answer {
+    Answer {
+        refusal: a.refusal,
+        totals: Totals {
+            records: 0,
+            weight: 0,
+            oil: 0,
+        },
+        counts: of_counts(a.counts),
+    }
+}
+
+/// Makes a list of calls on the column of one side.
+fn make(side: usize, c: &mut Column, calls: &[Call], answers: &mut Vec<Answer>) {
+    answers.clear();
+    let (g, w, y, d) = (
+        &mut c.growers[..],
+        &mut c.weights[..],
+        &mut c.yields[..],
+        &mut c.directory[..],
+    );
+    if side == SECOND {
+        for call in calls {
+            answers.push(match *call {
+                Call::Find(grower) => of_read(second::find(g, w, y, d, grower)),
+                Call::Range(lo, hi) => of_read(second::range(g, w, y, d, lo, hi)),
+                Call::Insert(delivery) => of_write(second::insert(g, w, y, d, delivery)),
+                Call::Delete(delivery) => of_write(second::delete(g, w, y, d, delivery)),
+                Call::Move(delivery, new) => {
+                    of_write(second::move_delivery(g, w, y, d, delivery, new))
+                }
+            });
+        }
+        return;
+    }
+    let mut column = ColumnSlices {
+        directory: d,
+        growers: g,
+        weights: w,
+        yields: y,
+    };
+    for call in calls {
+        answers.push(match *call {
+            Call::Find(grower) => LIBRARY.find(&column, grower),
+            Call::Range(lo, hi) => LIBRARY.range(&column, lo, hi),
+            Call::Insert(delivery) => LIBRARY.insert(&mut column, delivery),
+            Call::Delete(delivery) => LIBRARY.delete(&mut column, delivery),
+            Call::Move(delivery, new) => LIBRARY.move_delivery(&mut column, delivery, new),
+        });
+    }
+}
+
+/// Growers spread evenly over all numbers, in the order of the unpartitioned
+/// set, laid in partitions of equal blocks.
+fn laid(r: &mut Random, partitions: usize) -> Column {
+    let step = (1u64 << 32) / USED as u64;
+    let mut growers: Vec<u32> = (0..USED)
+        .map(|i| (i as u64 * step + r.next() % step) as u32)
+        .collect();
+    let mut weights: Vec<u32> = (0..USED).map(|_| r.within(0, 100_000) as u32).collect();
+    let mut yields: Vec<u32> = (0..USED).map(|_| r.within(0, 10_000) as u32).collect();
+    for slice in [&mut growers, &mut weights, &mut yields] {
+        slice.resize(SLOT_LIMIT, 0);
+    }
+    let each = 64 / partitions as u32;
+    let ends: Vec<u32> = (1..=partitions as u32).map(|p| p * each - 1).collect();
+    let applied = LIBRARY.apply_layout(
+        &SetSlices {
+            block: BLOCK_LENGTH_LIMIT,
+            used: USED as u32,
+            growers: &growers,
+            weights: &weights,
+            yields: &yields,
+        },
+        &ends,
+    );
+    assert_eq!(applied.refusal, 0, "the layout is refused");
+    Column {
+        directory: applied.directory.to_vec(),
+        growers,
+        weights,
+        yields,
+    }
+}
+
+/// One column for each side, and the times of the calls.
+struct Bench {
+    columns: [Column; 2],
+    answers: [Vec<Answer>; 2],
+}
+
+impl Bench {
+    /// One batch of each side, one after the other. Both answer the same.
+    fn batch(&mut self, first: usize, calls: &[Call], times: &mut Times) {
+        for side in [first, 1 - first] {
+            let (column, answers) = (&mut self.columns[side], &mut self.answers[side]);
+            let (nanoseconds, ()) = timed(calls.len(), || make(side, column, calls, answers));
+            times.add(side, nanoseconds);
+        }
+        assert!(
+            self.answers[OURS] == self.answers[SECOND],
+            "the answers differ"
+        );
+        assert!(
+            self.answers[OURS].iter().all(|a| a.refusal == 0),
+            "a call is refused"
+        );
+    }
+}
+
+fn used_delivery(r: &mut Random, c: &Column) -> Delivery {
+    let i = r.below(USED);
+    Delivery::new(c.growers[i], c.weights[i], c.yields[i])
+}
+
+pub fn run(partitions: usize) {
+    let mut r = Random::new(case_seed(100, partitions as u64));
+    let column = laid(&mut r, partitions);
+    let sorted: Vec<u32> = column.growers[..USED].to_vec();
+    let mut bench = Bench {
+        columns: [column.clone(), column],
+        answers: [Vec::with_capacity(WRITES), Vec::with_capacity(WRITES)],
+    };
+    let [mut find, mut range, mut insert, mut delete, mut moved]: [Times; 5] = Default::default();
+    for _ in 0..REPETITIONS {
+        for round in 0..ROUNDS {
+            let first = round % 2;
+            let finds: Vec<Call> = (0..READS)
+                .map(|_| Call::Find(sorted[r.below(USED)]))
+                .collect();
+            bench.batch(first, &finds, &mut find);
+            let eighth = USED / 8;
+            let ranges: Vec<Call> = (0..READS)
+                .map(|_| {
+                    let lo = r.below(USED - eighth);
+                    Call::Range(sorted[lo], sorted[lo + eighth - 1])
+                })
+                .collect();
+            bench.batch(first, &ranges, &mut range);
+            // The deliveries of a batch are inserted, then deleted.
+            let new: Vec<Delivery> = (0..WRITES)
+                .map(|_| {
+                    Delivery::new(
+                        r.next() as u32,
+                        r.within(0, 100_000) as u32,
+                        r.within(0, 10_000) as u32,
+                    )
+                })
+                .collect();
+            let inserts: Vec<Call> = new.iter().map(|&d| Call::Insert(d)).collect();
+            let deletes: Vec<Call> = new.iter().map(|&d| Call::Delete(d)).collect();
+            bench.batch(first, &inserts, &mut insert);
+            bench.batch(first, &deletes, &mut delete);
+            // Each delivery is moved to a random grower, and back.
+            let there: Vec<(Delivery, u32)> = (0..WRITES / 2)
+                .map(|_| {
+                    (
+                        used_delivery(&mut r, &bench.columns[SECOND]),
+                        r.next() as u32,
+                    )
+                })
+                .collect();
+            let moves: Vec<Call> = there
+                .iter()
+                .flat_map(|&(d, g)| {
+                    let back = Delivery { grower: g, ..d };
+                    [Call::Move(d, g), Call::Move(back, d.grower)]
+                })
+                .collect();
+            bench.batch(first, &moves, &mut moved);
+        }
+        assert!(
+            bench.columns[OURS] == bench.columns[SECOND],
+            "the columns differ"
+        );
+        for times in [&mut find, &mut range, &mut insert, &mut delete, &mut moved] {
+            times.close();
+        }
+    }
+    find.print("find", partitions);
+    range.print("range 1/8", partitions);
+    insert.print("insert", partitions);
+    delete.print("delete", partitions);
+    moved.print("move", partitions);
+}

@@ -1,0 +1,34 @@
+//! Times the calls of the compiled library and of the second implementation
+//! side by side, and checks on the way that both give the same answers.
+
+mod columns;
+#[path = "../../tests/compare/src/meltusk.rs"]
+#[allow(dead_code)]
+mod meltusk;
+#[cfg(feature = "plan")]
+mod plans;
+#[path = "../../tests/compare/src/random.rs"]
+#[allow(dead_code)]
+mod random;
+mod timing;
+
+fn main() {
+    println!(
+        "{:<14}{:>4}{:>14}{:>14}{:>8}",
+        "call", "K", "ns ours", "ns second", "ratio"
+    );
+    for partitions in [1, 8, 64] {
+        columns::run(partitions);
+    }
+    #[cfg(feature = "plan")]
+    {
+        println!();
+        println!(
+            "{:<14}{:>4}{:>14}{:>14}{:>8}",
+            "call", "N", "ns ours", "ns second", "ratio"
+        );
+        for blocks in [8, 16, 32, 64] {
+            plans::run(blocks);
+        }
+    }
+}

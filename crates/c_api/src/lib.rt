@@ -1,0 +1,315 @@
+// The C interface (include/meltusk.h): wrappers on numbers and slices over the proved calls, each with its own equation.
+ghost use mathlib.Core.Path.{_≡_};
+ghost use Rattle.model.specs.Prices.{prices, limits};
+ghost use Rattle.model.specs.Deliveries.{delivery};
+ghost use Rattle.model.specs.Calls.{find, range, insert, delete, move};
+ghost use Rattle.model.specs.Recorder.{recordCall};
+ghost use Rattle.model.specs.Planner.{costCall, planCall};
+ghost use Rattle.model.specs.ColumnCalls.{applyCall, columnCall, partitionCall};
+ghost use Rattle.checks.specs.Lent.{columnOf, setOf};
+use model::Answer;
+use model::Applied;
+use model::Costed;
+use model::Delivery;
+use model::Limits;
+use model::PartitionSlice;
+use model::Planned;
+use model::PriceCard;
+
+// Applies a layout to an unpartitioned set.
+#[no_mangle]
+pub extern "C" fn meltusk_apply_layout(
+    block: u32,
+    used: u32,
+    growers: &[u32],
+    weights: &[u32],
+    yields: &[u32],
+    ends: &[u32],
+) -> Applied
+    ensures { λ r. ⌜ r ≡ applyCall 64 (setOf block used (now (growers .entry)) (now (weights .entry)) (now (yields .entry))) (now (ends .entry)) ⌝ }
+{
+    apply::apply_layout(block, used, growers, weights, yields, ends)
+}
+
+// The records of one grower.
+#[no_mangle]
+pub extern "C" fn meltusk_find(
+    directory: &[u32],
+    growers: &[u32],
+    weights: &[u32],
+    yields: &[u32],
+    grower: u32,
+) -> Answer
+    ensures { λ r. ⌜ r ≡ columnCall 64 (columnOf (now (directory .entry)) (now (growers .entry)) (now (weights .entry)) (now (yields .entry))) (find grower) .answer ⌝ }
+{
+    column::find(directory, growers, weights, yields, grower)
+}
+
+// The records of the growers lo to hi.
+#[no_mangle]
+pub extern "C" fn meltusk_range(
+    directory: &[u32],
+    growers: &[u32],
+    weights: &[u32],
+    yields: &[u32],
+    lo: u32,
+    hi: u32,
+) -> Answer
+    ensures { λ r. ⌜ r ≡ columnCall 64 (columnOf (now (directory .entry)) (now (growers .entry)) (now (weights .entry)) (now (yields .entry))) (range lo hi) .answer ⌝ }
+{
+    column::range(directory, growers, weights, yields, lo, hi)
+}
+
+// Inserts a delivery.
+#[no_mangle]
+pub extern "C" fn meltusk_insert(
+    directory: &mut [u32],
+    growers: &mut [u32],
+    weights: &mut [u32],
+    yields: &mut [u32],
+    grower: u32,
+    weight: u32,
+    oil_yield: u32,
+) -> Answer
+    ensures { λ r. ⌜ record { answer = r; column = columnOf (now (directory .exit)) (now (growers .exit)) (now (weights .exit)) (now (yields .exit)) }
+        ≡ columnCall 64 (columnOf (now (directory .entry)) (now (growers .entry)) (now (weights .entry)) (now (yields .entry))) (insert (delivery grower weight «oil_yield»)) ⌝ }
+{
+    let d = Delivery {
+        grower,
+        weight,
+        oil_yield,
+    };
+    column::insert(directory, growers, weights, yields, d)
+}
+
+// Deletes a delivery.
+#[no_mangle]
+pub extern "C" fn meltusk_delete(
+    directory: &mut [u32],
+    growers: &mut [u32],
+    weights: &mut [u32],
+    yields: &mut [u32],
+    grower: u32,
+    weight: u32,
+    oil_yield: u32,
+) -> Answer
+    ensures { λ r. ⌜ record { answer = r; column = columnOf (now (directory .exit)) (now (growers .exit)) (now (weights .exit)) (now (yields .exit)) }
+        ≡ columnCall 64 (columnOf (now (directory .entry)) (now (growers .entry)) (now (weights .entry)) (now (yields .entry))) (delete (delivery grower weight «oil_yield»)) ⌝ }
+{
+    let d = Delivery {
+        grower,
+        weight,
+        oil_yield,
+    };
+    column::delete(directory, growers, weights, yields, d)
+}
+
+// Moves a delivery to a new grower.
+#[no_mangle]
+pub extern "C" fn meltusk_move(
+    directory: &mut [u32],
+    growers: &mut [u32],
+    weights: &mut [u32],
+    yields: &mut [u32],
+    grower: u32,
+    weight: u32,
+    oil_yield: u32,
+    new_grower: u32,
+) -> Answer
+    ensures { λ r. ⌜ record { answer = r; column = columnOf (now (directory .exit)) (now (growers .exit)) (now (weights .exit)) (now (yields .exit)) }
+        ≡ columnCall 64 (columnOf (now (directory .entry)) (now (growers .entry)) (now (weights .entry)) (now (yields .entry))) (move (delivery grower weight «oil_yield») «new_grower») ⌝ }
+{
+    let d = Delivery {
+        grower,
+        weight,
+        oil_yield,
+    };
+    column::move_delivery(directory, growers, weights, yields, d, new_grower)
+}
+
+// Where a grower's partition lies in the growers.
+#[no_mangle]
+pub extern "C" fn meltusk_partition(
+    directory: &[u32],
+    growers: &[u32],
+    grower: u32,
+) -> PartitionSlice
+    ensures { λ r. ⌜ r ≡ partitionCall 64 (now (directory .entry)) (now (growers .entry)) grower ⌝ }
+{
+    column::partition(directory, growers, grower)
+}
+
+// Records a find.
+#[no_mangle]
+pub extern "C" fn meltusk_record_find(
+    histograms: &mut [u32],
+    block: u32,
+    used: u32,
+    growers: &[u32],
+    weights: &[u32],
+    yields: &[u32],
+    grower: u32,
+) -> u32
+    ensures { λ r. ⌜ record { refusal = r; histograms = now (histograms .exit) } ≡ recordCall 64 (setOf block used (now (growers .entry)) (now (weights .entry)) (now (yields .entry))) (now (histograms .entry)) (find grower) ⌝ }
+{
+    recorder::record_find(histograms, block, used, growers, weights, yields, grower)
+}
+
+// Records a range.
+#[no_mangle]
+pub extern "C" fn meltusk_record_range(
+    histograms: &mut [u32],
+    block: u32,
+    used: u32,
+    growers: &[u32],
+    weights: &[u32],
+    yields: &[u32],
+    lo: u32,
+    hi: u32,
+) -> u32
+    ensures { λ r. ⌜ record { refusal = r; histograms = now (histograms .exit) } ≡ recordCall 64 (setOf block used (now (growers .entry)) (now (weights .entry)) (now (yields .entry))) (now (histograms .entry)) (range lo hi) ⌝ }
+{
+    recorder::record_range(histograms, block, used, growers, weights, yields, lo, hi)
+}
+
+// Records an insert.
+#[no_mangle]
+pub extern "C" fn meltusk_record_insert(
+    histograms: &mut [u32],
+    block: u32,
+    used: u32,
+    growers: &[u32],
+    weights: &[u32],
+    yields: &[u32],
+    grower: u32,
+    weight: u32,
+    oil_yield: u32,
+) -> u32
+    ensures { λ r. ⌜ record { refusal = r; histograms = now (histograms .exit) } ≡ recordCall 64 (setOf block used (now (growers .entry)) (now (weights .entry)) (now (yields .entry))) (now (histograms .entry)) (insert (delivery grower weight «oil_yield»)) ⌝ }
+{
+    let d = Delivery {
+        grower,
+        weight,
+        oil_yield,
+    };
+    recorder::record_insert(histograms, block, used, growers, weights, yields, d)
+}
+
+// Records a delete.
+#[no_mangle]
+pub extern "C" fn meltusk_record_delete(
+    histograms: &mut [u32],
+    block: u32,
+    used: u32,
+    growers: &[u32],
+    weights: &[u32],
+    yields: &[u32],
+    grower: u32,
+    weight: u32,
+    oil_yield: u32,
+) -> u32
+    ensures { λ r. ⌜ record { refusal = r; histograms = now (histograms .exit) } ≡ recordCall 64 (setOf block used (now (growers .entry)) (now (weights .entry)) (now (yields .entry))) (now (histograms .entry)) (delete (delivery grower weight «oil_yield»)) ⌝ }
+{
+    let d = Delivery {
+        grower,
+        weight,
+        oil_yield,
+    };
+    recorder::record_delete(histograms, block, used, growers, weights, yields, d)
+}
+
+// Records a move.
+#[no_mangle]
+pub extern "C" fn meltusk_record_move(
+    histograms: &mut [u32],
+    block: u32,
+    used: u32,
+    growers: &[u32],
+    weights: &[u32],
+    yields: &[u32],
+    grower: u32,
+    weight: u32,
+    oil_yield: u32,
+    new_grower: u32,
+) -> u32
+    ensures { λ r. ⌜ record { refusal = r; histograms = now (histograms .exit) } ≡ recordCall 64 (setOf block used (now (growers .entry)) (now (weights .entry)) (now (yields .entry))) (now (histograms .entry)) (move (delivery grower weight «oil_yield») «new_grower») ⌝ }
+{
+    let d = Delivery {
+        grower,
+        weight,
+        oil_yield,
+    };
+    recorder::record_move(
+        histograms,
+        block,
+        used,
+        growers,
+        weights,
+        yields,
+        d,
+        new_grower,
+    )
+}
+
+// The cost of a layout.
+#[no_mangle]
+pub extern "C" fn meltusk_cost(
+    rr: u32,
+    sr: u32,
+    rw: u32,
+    block: u32,
+    used: u32,
+    growers: &[u32],
+    weights: &[u32],
+    yields: &[u32],
+    ends: &[u32],
+    histograms: &[u32],
+) -> Costed
+    ensures { λ r. ⌜ r ≡ costCall 64 (prices rr sr «rw») (setOf block used (now (growers .entry)) (now (weights .entry)) (now (yields .entry))) (now (ends .entry)) (now (histograms .entry)) ⌝ }
+{
+    let card = PriceCard { rr, sr, rw };
+    planner::cost(
+        card,
+        block,
+        used,
+        growers,
+        weights,
+        yields,
+        ends,
+        histograms,
+    )
+}
+
+// The cheapest permitted layout.
+#[no_mangle]
+pub extern "C" fn meltusk_plan(
+    rr: u32,
+    sr: u32,
+    rw: u32,
+    read: u32,
+    insert: u32,
+    block: u32,
+    used: u32,
+    growers: &[u32],
+    weights: &[u32],
+    yields: &[u32],
+    histograms: &[u32],
+    ends: &mut [u32],
+) -> Planned
+    ensures { λ r. ⌜ record { answer = r; ends = now (ends .exit) }
+        ≡ planCall 64 (prices rr sr «rw») (limits read insert) (setOf block used (now (growers .entry)) (now (weights .entry)) (now (yields .entry))) (now (histograms .entry)) (now (ends .entry)) ⌝ }
+{
+    let card = PriceCard { rr, sr, rw };
+    let limits = Limits { read, insert };
+    planner::plan(
+        card,
+        limits,
+        block,
+        used,
+        growers,
+        weights,
+        yields,
+        histograms,
+        ends,
+    )
+}

@@ -1,0 +1,517 @@
+//! Single calls on broken input: each fault alone, in pairs, and at random.
+
+use crate::calls::{Call, Pair};
+use crate::inputs::{self, Column, Kind, MIXES};
+use crate::meltusk::{Empty, Library};
+use crate::random::Random;
+use crate::{Run, Test};
+use second::{Delivery, BLOCK_LIMIT, FENCES, LENGTHS, SLOT_LIMIT, WEIGHT_LIMIT, YIELD_LIMIT};
+
+/// One change of a column or of a call on it.
+#[derive(Clone, Copy, Debug, PartialEq, Eq)]
+enum Fault {
+    /// Weight or yield of a record that the call scans.
+    ScannedWeight(u32),
+    ScannedYield(u32),
+    /// Weight or yield of a record that the call does not scan.
+    OtherWeight,
+    OtherYield,
+    FreeSlot,
+    /// Weight or yield of the delivery that the call is offered.
+    OfferedWeight(u32),
+    OfferedYield(u32),
+    RangeFalls,
+    Absent,
+    Full,
+    /// One slice of the three.
+    Shorter(usize),
+    Longer(usize),
+    /// All three slices.
+    Length(usize),
+    FencesEqual,
+    FencesFall,
+    LengthsOver,
+    /// Lengths whose sum exceeds 32 bits by little.
+    LengthsWrap,
+    LengthMost,
+    UnusedLength,
+    UnusedFence,
+    Block(u32),
+    Count(u32),
+    DirectoryLength(usize),
+}
+
+use Fault::*;
+
+/// Later ones can be put after earlier ones.
+const FAULTS: &[Fault] = &[
+    ScannedWeight(WEIGHT_LIMIT + 1),
+    ScannedWeight(u32::MAX),
+    ScannedYield(YIELD_LIMIT + 1),
+    ScannedYield(u32::MAX),
+    OtherWeight,
+    OtherYield,
+    FreeSlot,
+    OfferedWeight(WEIGHT_LIMIT + 1),
+    OfferedWeight(u32::MAX),
+    OfferedYield(YIELD_LIMIT + 1),
+    OfferedYield(u32::MAX),
+    RangeFalls,
+    Absent,
+    Full,
+    Shorter(0),
+    Shorter(1),
+    Shorter(2),
+    Longer(0),
+    Longer(1),
+    Longer(2),
+    Length(0),
+    Length(SLOT_LIMIT + 1),
+    FencesEqual,
+    FencesFall,
+    LengthsOver,
+    LengthsWrap,
+    LengthMost,
+    UnusedLength,
+    UnusedFence,
+    Block(0),
+    Block(4_097),
+    Block(u32::MAX),
+    Count(0),
+    Count(65),
+    Count(u32::MAX),
+    DirectoryLength(0),
+    DirectoryLength(129),
+    DirectoryLength(131),
+];
+
+/// The partitions that a call scans, first and last.
+fn scanned(call: &Call, c: &Column) -> Option<(usize, usize)> {
+    let view = c.view();
+    match *call {
+        Call::Find(g) => Some((view.partition_of(g), view.partition_of(g))),
+        Call::Range(lo, hi) => Some((view.partition_of(lo), view.partition_of(hi))),
+        Call::Delete(d) | Call::Move(d, _) => {
+            let p = view.partition_of(d.grower);
+            Some((p, p))
+        }
+        Call::Insert(_) | Call::Partition(_) => None,
+    }
+}
+
+fn offered(call: &mut Call) -> Option<&mut Delivery> {
+    match call {
+        Call::Insert(d) | Call::Delete(d) | Call::Move(d, _) => Some(d),
+        _ => None,
+    }
+}
+
+fn slice(c: &mut Column, i: usize) -> &mut Vec<u32> {
+    match i {
+        0 => &mut c.growers,
+        1 => &mut c.weights,
+        _ => &mut c.yields,
+    }
+}
+
+impl Fault {
+    fn is_large(self) -> bool {
+        matches!(self, Length(n) if n > 1_000)
+    }
+
+    /// Puts the fault; false if it cannot be put here.
+    fn put(self, r: &mut Random, c: &mut Column, call: &mut Call) -> bool {
+        let k = c.directory[1] as usize;
+        match self {
+            ScannedWeight(_) | ScannedYield(_) | OtherWeight | OtherYield => {
+                let range = scanned(call, c);
+                let inside = matches!(self, ScannedWeight(_) | ScannedYield(_));
+                let view = c.view();
+                let slots: Vec<usize> = (0..k)
+                    .filter(|&p| range.is_some_and(|(a, z)| a <= p && p <= z) == inside)
+                    .flat_map(|p| view.start(p)..view.start(p) + view.length(p))
+                    .collect();
+                if slots.is_empty() {
+                    return false;
+                }
+                let i = r.pick(&slots);
+                match self {
+                    ScannedWeight(w) => c.weights[i] = w,
+                    ScannedYield(y) => c.yields[i] = y,
+                    OtherWeight => c.weights[i] = inputs::weight_out(r),
+                    _ => c.yields[i] = inputs::oil_yield_out(r),
+                }
+            }
+            FreeSlot => {
+                let used = c.view().used();
+                if used == c.growers.len() {
+                    return false;
+                }
+                c.weights[used] = u32::MAX;
+                c.yields[used] = u32::MAX;
+            }
+            OfferedWeight(w) => match offered(call) {
+                Some(d) => d.weight = w,
+                None => return false,
+            },
+            OfferedYield(y) => match offered(call) {
+                Some(d) => d.oil_yield = y,
+                None => return false,
+            },
+            RangeFalls => match call {
+                Call::Range(lo, hi) => {
+                    let x = *hi;
+                    *hi = if *lo == 0 { 0 } else { *lo - 1 };
+                    *lo = x.max(*hi + 1);
+                }
+                _ => return false,
+            },
+            // No random delivery has this weight.
+            Absent => match offered(call) {
+                Some(d) if d.weight <= WEIGHT_LIMIT => d.weight = 54_321,
+                _ => return false,
+            },
+            Full => {
+                let used = c.view().used();
+                c.growers.truncate(used);
+                c.weights.truncate(used);
+                c.yields.truncate(used);
+            }
+            Shorter(i) => return slice(c, i).pop().is_some(),
+            Longer(i) => slice(c, i).push(0),
+            Length(n) => c.resize(n),
+            FencesEqual | FencesFall => {
+                if k < 2 {
+                    return false;
+                }
+                let at = FENCES + r.edge(1, k - 1);
+                let before = c.directory[at - 1];
+                if self == FencesEqual {
+                    c.directory[at] = before;
+                } else if before == 0 {
+                    return false;
+                } else {
+                    c.directory[at] = before - 1;
+                }
+            }
+            LengthsOver => {
+                let room = c.growers.len().saturating_sub(c.view().used()) as u32;
+                let at = LENGTHS + r.below(k);
+                c.directory[at] = c.directory[at].saturating_add(room + 1);
+            }
+            LengthsWrap => {
+                if k < 2 {
+                    return false;
+                }
+                let first = r.below(k - 1);
+                for p in [first, r.within(first + 1, k - 1)] {
+                    let at = LENGTHS + p;
+                    c.directory[at] = c.directory[at].wrapping_add(1 << 31);
+                }
+            }
+            LengthMost => c.directory[LENGTHS + r.below(k)] = u32::MAX,
+            UnusedLength | UnusedFence => {
+                if k == BLOCK_LIMIT {
+                    return false;
+                }
+                let p = r.edge(k, BLOCK_LIMIT - 1);
+                let first = if self == UnusedLength {
+                    LENGTHS
+                } else {
+                    FENCES
+                };
+                c.directory[first + p] = r.pick(&[1, 1, u32::MAX]);
+            }
+            Block(b) => c.directory[0] = b,
+            Count(n) => c.directory[1] = n,
+            DirectoryLength(n) => c.directory.resize(n, 0),
+        }
+        true
+    }
+
+    /// The refusal of an else accepted call with this fault alone.
+    fn expected(self, call: &Call) -> u32 {
+        let on = |yes: bool, number: u32| if yes { number } else { 0 };
+        let partition = matches!(call, Call::Partition(_));
+        let insert = matches!(call, Call::Insert(_));
+        let removes = matches!(call, Call::Delete(_) | Call::Move(..));
+        match self {
+            ScannedWeight(_) | ScannedYield(_) => 8,
+            OtherWeight | OtherYield | FreeSlot => 0,
+            OfferedWeight(_) | OfferedYield(_) => 8,
+            RangeFalls => 7,
+            Absent => on(removes, 13),
+            Full => on(insert, 12),
+            Shorter(_) | Longer(_) => on(!partition, 3),
+            Length(_) => 3,
+            Block(_) => 2,
+            _ => 6,
+        }
+    }
+}
+
+/// A sound column with records and a free slot.
+fn base(r: &mut Random) -> Column {
+    loop {
+        let c = inputs::clean_column(r, Kind::Sound);
+        let used = c.view().used();
+        if used > 0 && used < c.growers.len() {
+            return c;
+        }
+    }
+}
+
+/// Calls that `accepted` gives.
+const CALLS: usize = 6;
+
+/// A call that a column of `base` accepts.
+fn accepted(r: &mut Random, c: &Column, which: usize) -> Call {
+    let view = c.view();
+    let used = view.used();
+    let d = view.slot(r.below(used));
+    let other = view.slot(r.below(used));
+    match which {
+        0 => Call::Find(d.grower),
+        1 => Call::Range(d.grower.min(other.grower), d.grower.max(other.grower)),
+        2 => Call::Insert(Delivery {
+            grower: inputs::near(r, &view, used),
+            ..d
+        }),
+        3 => Call::Delete(d),
+        4 => Call::Move(d, inputs::near(r, &view, used)),
+        _ => Call::Partition(d.grower),
+    }
+}
+
+fn single(
+    run: &mut Run,
+    r: &mut Random,
+    library: &Library,
+    c: &Column,
+    call: &Call,
+) -> Result<u32, String> {
+    let outcome = Pair::new(r, c).call(&mut run.seen, library, call)?;
+    Ok(outcome.refusal())
+}
+
+/// A call with one or two faults on a copy of a column of proper shape.
+pub fn on_copy(
+    run: &mut Run,
+    r: &mut Random,
+    library: &Library,
+    column: &Column,
+    call: Call,
+) -> Result<(), String> {
+    let (mut c, mut call) = (column.clone(), call);
+    let mut first = 0;
+    for _ in 0..r.within(1, 2) {
+        let i = r.within(first, FAULTS.len() - 1);
+        if !FAULTS[i].is_large() && c.directory.len() > 1 {
+            FAULTS[i].put(r, &mut c, &mut call);
+        }
+        first = i;
+    }
+    single(run, r, library, &c, &call).map(|_| ())
+}
+
+/// Each fault alone, with the refusal that it must give.
+fn alone(run: &mut Run) -> Result<(), String> {
+    run.cases(10, 20, |run, r| {
+        let library = inputs::library(r);
+        for fault in FAULTS {
+            for which in 0..CALLS {
+                let mut c = base(r);
+                let mut call = accepted(r, &c, which);
+                if !fault.put(r, &mut c, &mut call) {
+                    continue;
+                }
+                let with = |why| format!("{fault:?}: {why}");
+                let refusal = single(run, r, &library, &c, &call).map_err(with)?;
+                if refusal != fault.expected(&call) {
+                    return Err(format!("{fault:?}, {call:?}: refusal {refusal}"));
+                }
+            }
+        }
+        Ok(())
+    })
+}
+
+/// Each two faults together.
+fn pairs(run: &mut Run) -> Result<(), String> {
+    run.cases(11, 4, |run, r| {
+        let library = inputs::library(r);
+        for (i, first) in FAULTS.iter().enumerate() {
+            for second in &FAULTS[i + 1..] {
+                for which in 0..CALLS {
+                    let large = first.is_large() || second.is_large();
+                    if large && !r.one_in(4) {
+                        continue;
+                    }
+                    let mut c = base(r);
+                    let mut call = accepted(r, &c, which);
+                    if first.put(r, &mut c, &mut call) {
+                        if c.directory.len() > 1 {
+                            second.put(r, &mut c, &mut call);
+                        }
+                        let with = |why| format!("{first:?} and {second:?}: {why}");
+                        single(run, r, &library, &c, &call).map_err(with)?;
+                    }
+                }
+            }
+        }
+        Ok(())
+    })
+}
+
+/// Directories in which one to three numbers are replaced.
+fn any_directory(run: &mut Run) -> Result<(), String> {
+    run.cases(12, 30_000, |run, r| {
+        let library = inputs::library(r);
+        let mut c = inputs::column(r, Kind::Unsound);
+        let call = inputs::call(r, &c.view(), &MIXES[0]);
+        let slots = c.growers.len() as u32;
+        for _ in 0..r.within(1, 3) {
+            let k = c.directory[1].clamp(1, 64) as usize;
+            let at = match r.below(6) {
+                0 => 0,
+                1 => 1,
+                2 => LENGTHS + r.below(k),
+                3 => FENCES + r.below(k),
+                _ => r.below(c.directory.len()),
+            };
+            let old = c.directory[at];
+            c.directory[at] = match r.below(10) {
+                0 => 0,
+                1 => r.pick(&[1, 2, 63, 64, 65, 4_095, 4_096, 4_097]),
+                2 => slots,
+                3 => slots + 1,
+                4 => u32::MAX,
+                5 => r.next() as u32,
+                6 | 7 => old.wrapping_add(1),
+                _ => old.wrapping_sub(1),
+            };
+        }
+        single(run, r, &library, &c, &call).map(|_| ())
+    })
+}
+
+/// Weights and yields on both sides of their limits, offered and held.
+fn values(run: &mut Run) -> Result<(), String> {
+    run.cases(13, 20, |run, r| {
+        let library = inputs::library(r);
+        for weight in [
+            0,
+            WEIGHT_LIMIT - 1,
+            WEIGHT_LIMIT,
+            WEIGHT_LIMIT + 1,
+            u32::MAX,
+        ] {
+            for oil_yield in [0, YIELD_LIMIT - 1, YIELD_LIMIT, YIELD_LIMIT + 1, u32::MAX] {
+                for which in 0..CALLS {
+                    let mut c = base(r);
+                    let i = r.below(c.view().used());
+                    c.weights[i] = weight;
+                    c.yields[i] = oil_yield;
+                    let d = c.view().slot(i);
+                    let call = match which {
+                        0 => Call::Find(d.grower),
+                        1 => Call::Range(d.grower, d.grower),
+                        2 => Call::Insert(d),
+                        3 => Call::Delete(d),
+                        4 => Call::Move(d, inputs::near(r, &c.view(), i + 1)),
+                        _ => Call::Partition(d.grower),
+                    };
+                    let refusal = single(run, r, &library, &c, &call)?;
+                    let expected = if which == 5 || d.in_range() { 0 } else { 8 };
+                    if refusal != expected {
+                        return Err(format!("{call:?}, record {d:?}: refusal {refusal}"));
+                    }
+                }
+            }
+        }
+        Ok(())
+    })
+}
+
+/// Slices of the same and of different lengths, at the limits of length.
+fn slice_lengths(run: &mut Run) -> Result<(), String> {
+    let limit = SLOT_LIMIT;
+    let same = [1, limit - 1, limit, limit + 1, limit + 8, 2 * limit].map(|n| [n; 3]);
+    let different = [
+        [0, 0, 1],
+        [0, 1, 0],
+        [1, 0, 0],
+        [1, 1, 0],
+        [1, 0, 1],
+        [0, 1, 1],
+        [limit, limit, limit + 1],
+        [limit, limit + 1, limit],
+        [limit + 1, limit, limit],
+        [limit - 1, limit, limit],
+        [0, limit, limit],
+    ];
+    let none = [[0; 3]];
+    run.cases(14, 2, |run, r| {
+        for lengths in none.iter().chain(&same).chain(&different) {
+            for empty in [Empty::Null, Empty::Place] {
+                let library = Library { empty };
+                for which in 0..CALLS {
+                    let mut c = base(r);
+                    let call = accepted(r, &c, which);
+                    let used = c.view().used();
+                    for (i, &n) in lengths.iter().enumerate() {
+                        slice(&mut c, i).resize(n, 0);
+                    }
+                    let refusal = single(run, r, &library, &c, &call)?;
+                    let lent = if which == 5 {
+                        &lengths[..1]
+                    } else {
+                        &lengths[..]
+                    };
+                    let good = (1..=limit).contains(&lent[0]) && lent.iter().all(|&n| n == lent[0]);
+                    let expected = match good {
+                        false => 3,
+                        true if used > lent[0] => 6,
+                        true if which == 2 && used == lent[0] => 12,
+                        true => 0,
+                    };
+                    if refusal != expected {
+                        return Err(format!("{call:?}, lengths {lengths:?}: refusal {refusal}"));
+                    }
+                }
+            }
+        }
+        Ok(())
+    })
+}
+
+/// Every slice empty, with null pointers and without.
+fn nothing_lent(run: &mut Run) -> Result<(), String> {
+    run.cases(15, 1, |run, r| {
+        for empty in [Empty::Null, Empty::Place] {
+            let library = Library { empty };
+            for which in 0..CALLS {
+                let mut c = base(r);
+                let call = accepted(r, &c, which);
+                c.resize(0);
+                for directory in [c.directory.clone(), Vec::new()] {
+                    c.directory = directory;
+                    let refusal = single(run, r, &library, &c, &call)?;
+                    if refusal != 3 {
+                        return Err(format!("{call:?}: refusal {refusal}"));
+                    }
+                }
+            }
+        }
+        Ok(())
+    })
+}
+
+pub const TESTS: &[(&str, Test)] = &[
+    ("broken input, each fault alone", alone),
+    ("broken input, two faults", pairs),
+    ("broken input, any directory", any_directory),
+    ("broken input, weights and yields at their limits", values),
+    ("broken input, slice lengths", slice_lengths),
+    ("broken input, nothing lent", nothing_lent),
+];

@@ -1,0 +1,96 @@
+//! Slices lent to a call, in one allocation with guard elements around each.
+
+use crate::random::Random;
+
+/// Most guard elements beside a slice.
+const GUARDS: usize = 8;
+
+#[derive(Debug)]
+pub struct Memory {
+    cells: Vec<u32>,
+    /// First cell and the cell past the last of each slice.
+    spans: Vec<(usize, usize)>,
+}
+
+impl Clone for Memory {
+    fn clone(&self) -> Memory {
+        Memory {
+            cells: self.cells.clone(),
+            spans: self.spans.clone(),
+        }
+    }
+
+    fn clone_from(&mut self, other: &Memory) {
+        self.cells.clone_from(&other.cells);
+        self.spans.clone_from(&other.spans);
+    }
+}
+
+/// Guards hold numbers of the slice beside them, or any number: a read past
+/// a slice then changes the answer, and a write past it is seen.
+fn push_guards(r: &mut Random, cells: &mut Vec<u32>, beside: &[u32]) {
+    for _ in 0..r.within(1, GUARDS) {
+        let guard = if beside.is_empty() || r.one_in(2) {
+            r.next() as u32
+        } else {
+            beside[r.below(beside.len())]
+        };
+        cells.push(guard);
+    }
+}
+
+impl Memory {
+    pub fn new(r: &mut Random, slices: &[&[u32]]) -> Memory {
+        let total: usize = slices.iter().map(|s| s.len()).sum();
+        let mut cells = Vec::with_capacity(total + GUARDS * (slices.len() + 1));
+        let mut spans = Vec::with_capacity(slices.len());
+        for slice in slices {
+            push_guards(r, &mut cells, slice);
+            let first = cells.len();
+            cells.extend_from_slice(slice);
+            spans.push((first, cells.len()));
+        }
+        push_guards(r, &mut cells, slices.last().unwrap_or(&&[][..]));
+        Memory { cells, spans }
+    }
+
+    pub fn slice(&self, i: usize) -> &[u32] {
+        let (first, past) = self.spans[i];
+        &self.cells[first..past]
+    }
+
+    /// The first N slices, to be lent to one call.
+    pub fn lend<const N: usize>(&mut self) -> [&mut [u32]; N] {
+        let mut rest = self.cells.as_mut_slice();
+        let mut at = 0;
+        std::array::from_fn(|i| {
+            let (first, past) = self.spans[i];
+            let (head, tail) = std::mem::take(&mut rest).split_at_mut(past - at);
+            let slice = &mut head[first - at..];
+            rest = tail;
+            at = past;
+            slice
+        })
+    }
+
+    /// Whether slices and guards are the same. The memory may have been
+    /// written anywhere meanwhile.
+    pub fn equals(&self, other: &Memory) -> bool {
+        std::hint::black_box(&self.cells) == std::hint::black_box(&other.cells)
+    }
+
+    /// The first cell that differs from the second implementation's.
+    pub fn difference(&self, second: &Memory, names: &[&str]) -> Option<String> {
+        let at = (0..self.cells.len()).find(|&i| self.cells[i] != second.cells[i])?;
+        let values = format!("{} for {}", self.cells[at], second.cells[at]);
+        for (&(first, past), name) in self.spans.iter().zip(names) {
+            if at < first {
+                return Some(format!("guard {} before {name}: {values}", first - at));
+            }
+            if at < past {
+                return Some(format!("{name}[{}]: {values}", at - first));
+            }
+        }
+        Some(format!("guard after the last slice: {values}"))
+    }
+}

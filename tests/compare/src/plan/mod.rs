@@ -1,0 +1,525 @@
+//! Recorder, cost and planner: the second stage of the comparison.
+
+mod calls;
+mod library;
+pub mod seen;
+
+use crate::inputs::{self, Set};
+use crate::layouts::{self, Fault, END_FAULTS, SET_FAULTS};
+use crate::meltusk::{Empty, Library};
+use crate::random::Random;
+use crate::{Run, Test};
+use calls::{cost, plan, record_second, By, Case, Recorded, Recorder};
+use second::recorder::count_index;
+use second::{Delivery, Limits, PriceCard, COUNT_LIMIT, HISTOGRAMS, HISTOGRAM_LEN, LIMIT_LIMIT};
+
+fn card(r: &mut Random) -> PriceCard {
+    match r.below(5) {
+        0 => PriceCard::FACTORY,
+        1 => PriceCard::new(1, 1, 1),
+        2 => PriceCard::new(1_000, 1_000, 1_000),
+        3 => PriceCard::new(
+            r.edge(1, 1_000) as u32,
+            r.edge(1, 1_000) as u32,
+            r.edge(1, 1_000) as u32,
+        ),
+        _ => PriceCard::new(
+            r.within(1, 12) as u32,
+            r.within(1, 6) as u32,
+            r.within(1, 12) as u32,
+        ),
+    }
+}
+
+/// Limits around those at which they begin to bind.
+fn limits(r: &mut Random, card: &PriceCard, blocks: usize) -> Limits {
+    let read = match r.below(4) {
+        0 | 1 => LIMIT_LIMIT,
+        2 => card.rr + r.below(card.sr as usize * (blocks + 2)) as u32,
+        _ => card.rr + card.sr * r.within(1, blocks) as u32 - r.below(2) as u32,
+    };
+    let insert = match r.below(4) {
+        0 | 1 => LIMIT_LIMIT,
+        2 => r.below((card.rr + card.rw) as usize * (blocks + 3)) as u32,
+        _ => (card.rr + card.rw) * r.within(2, blocks + 1) as u32 - r.below(2) as u32,
+    };
+    Limits::new(read.min(LIMIT_LIMIT), insert.min(LIMIT_LIMIT))
+}
+
+/// A grower by those of the set, or one of the ends.
+fn near(r: &mut Random, set: &Set) -> u32 {
+    match r.below(6) {
+        0 => r.pick(&[0, u32::MAX]),
+        1 => r.next() as u32,
+        n => {
+            let g = set.growers[r.below(set.used as usize)];
+            match n {
+                2 => g.wrapping_add(1),
+                3 => g.wrapping_sub(1),
+                _ => g,
+            }
+        }
+    }
+}
+
+fn delivery(r: &mut Random, set: &Set) -> Delivery {
+    let i = r.below(set.used as usize);
+    let mut d = Delivery::new(set.growers[i], set.weights[i], set.yields[i]);
+    match r.below(20) {
+        0 => d.grower = near(r, set),
+        1 => d.weight = inputs::weight(r),
+        2 => d.oil_yield = inputs::oil_yield(r),
+        _ => {}
+    }
+    d
+}
+
+/// One of the five calls, weights and yields in range, lo at most hi.
+fn proper_call(r: &mut Random, set: &Set, which: usize) -> Recorded {
+    match which {
+        0 => Recorded::Find(near(r, set)),
+        1 => {
+            let (x, y) = (near(r, set), near(r, set));
+            Recorded::Range(x.min(y), x.max(y))
+        }
+        2 => Recorded::Insert(Delivery {
+            grower: near(r, set),
+            ..delivery(r, set)
+        }),
+        3 => Recorded::Delete(delivery(r, set)),
+        _ => Recorded::Move(delivery(r, set), near(r, set)),
+    }
+}
+
+fn any_call(r: &mut Random, set: &Set) -> Recorded {
+    let which = r.below(5);
+    let mut call = proper_call(r, set, which);
+    if r.one_in(12) {
+        let heavy = r.one_in(2);
+        match &mut call {
+            Recorded::Find(_) => {}
+            Recorded::Range(lo, hi) => std::mem::swap(lo, hi),
+            Recorded::Insert(d) | Recorded::Delete(d) | Recorded::Move(d, _) if heavy => {
+                d.weight = inputs::weight_out(r);
+            }
+            Recorded::Insert(d) | Recorded::Delete(d) | Recorded::Move(d, _) => {
+                d.oil_yield = inputs::oil_yield_out(r);
+            }
+        }
+    }
+    call
+}
+
+/// Histograms of a list of calls.
+fn recorded_histograms(r: &mut Random, set: &Set) -> Vec<u32> {
+    let mut histograms = vec![0; HISTOGRAM_LEN];
+    for _ in 0..r.pick(&[0, 3, 20, 100]) {
+        let call = any_call(r, set);
+        record_second(&set.second(), &mut histograms, &call);
+    }
+    histograms
+}
+
+/// Histograms that no list made; small counts so that costs tie.
+fn raw_histograms(r: &mut Random) -> Vec<u32> {
+    let most = r.pick(&[0, 1, 1, 3, COUNT_LIMIT as usize]);
+    let rare = r.within(1, 6);
+    // In some, only the histograms that lower a cost.
+    let lowering = r.one_in(4);
+    (0..HISTOGRAM_LEN)
+        .map(|i| {
+            let kept = !lowering || i / 64 == 7 || i / 64 == 8;
+            if kept && r.one_in(rare) {
+                r.edge(0, most) as u32
+            } else {
+                0
+            }
+        })
+        .collect()
+}
+
+fn histograms(r: &mut Random, set: &Set) -> Vec<u32> {
+    if r.one_in(2) {
+        recorded_histograms(r, set)
+    } else {
+        raw_histograms(r)
+    }
+}
+
+/// Counts at which the limit is near.
+fn high_histograms(r: &mut Random) -> Vec<u32> {
+    (0..HISTOGRAM_LEN)
+        .map(|_| COUNT_LIMIT - r.below(6) as u32)
+        .collect()
+}
+
+/// The output slice: exact, longer or, in few, too short.
+fn room(r: &mut Random, blocks: usize) -> Vec<u32> {
+    let length = match r.below(12) {
+        0 => r.below(blocks + 1),
+        1 => 0,
+        2..=5 => blocks,
+        _ => r.pick(&[64, 65, 70]),
+    };
+    (0..length).map(|_| r.next() as u32).collect()
+}
+
+fn case(r: &mut Random, most_blocks: usize) -> Case {
+    let free = r.within(1, 3);
+    let set = inputs::set(r, most_blocks, free);
+    let blocks = set.second().blocks();
+    let card = card(r);
+    let which = r.below(5);
+    Case {
+        limits: limits(r, &card, blocks),
+        card,
+        ends: inputs::layout(r, &set.second()),
+        histograms: histograms(r, &set),
+        room: room(r, blocks),
+        call: proper_call(r, &set, which),
+        set,
+    }
+}
+
+fn recorder(run: &mut Run) -> Result<(), String> {
+    run.cases(40, 5_000, |run, r| {
+        let library = inputs::library(r);
+        let most_blocks = r.pick(&[3, 10, 64]);
+        let free = r.below(3);
+        let set = inputs::set(r, most_blocks, free);
+        let first = match r.below(4) {
+            0 => raw_histograms(r),
+            1 => high_histograms(r),
+            _ => vec![0; HISTOGRAM_LEN],
+        };
+        let mut recorder = Recorder::new(r, &set, &first);
+        for i in 0..30 {
+            let call = any_call(r, &set);
+            recorder
+                .record(&mut run.planned, &library, &call)
+                .map_err(|why| format!("call {i}: {why}"))?;
+        }
+        Ok(())
+    })
+}
+
+fn costs(run: &mut Run) -> Result<(), String> {
+    run.cases(41, 10_000, |run, r| {
+        let library = inputs::library(r);
+        let most_blocks = r.pick(&[3, 12, 64]);
+        let mut case = case(r, most_blocks);
+        if r.one_in(4) {
+            case.ends = inputs::any_ends(r, case.set.second().blocks());
+        }
+        cost(r, &mut run.planned, &library, &case).map(|_| ())
+    })
+}
+
+/// A plan, and the cost of the ends that it gives.
+fn plans(run: &mut Run, test: u64, count: u64, most_blocks: usize, by: By) -> Result<(), String> {
+    run.cases(test, count, |run, r| {
+        let library = inputs::library(r);
+        let mut case = case(r, most_blocks);
+        let (planned, ends) = plan(r, &mut run.planned, &library, &case, by)?;
+        if planned.refusal == 0 {
+            case.ends = ends;
+            let costed = cost(r, &mut run.planned, &library, &case)?;
+            if costed.refusal != 0 || costed.cost != planned.cost {
+                return Err(format!("{planned:?}, but {costed:?} for {:?}", case.ends));
+            }
+        }
+        Ok(())
+    })
+}
+
+fn plans_by_listing(run: &mut Run) -> Result<(), String> {
+    plans(run, 42, 3_000, 12, By::Listing)
+}
+
+fn plans_by_table(run: &mut Run) -> Result<(), String> {
+    plans(run, 43, 2_000, 64, By::Table)
+}
+
+/// One change of what the calls are given.
+#[derive(Clone, Copy, Debug, PartialEq, Eq)]
+enum CaseFault {
+    Price(usize, u32),
+    Limit(usize, u32),
+    /// Limits that permit no layout.
+    ReadBelow,
+    InsertBelow,
+    Room(usize),
+    RangeFalls,
+    OfferedWeight(u32),
+    OfferedYield(u32),
+    /// Every count at its limit.
+    CountsAtLimit,
+    CountOver(u32),
+    HistogramLength(usize),
+    OfSet(Fault),
+    OfEnds(Fault),
+}
+
+use CaseFault::*;
+
+/// Those of the set come last: a call is made from a proper set.
+fn case_faults() -> Vec<CaseFault> {
+    let mut all = vec![
+        ReadBelow,
+        InsertBelow,
+        Limit(0, LIMIT_LIMIT + 1),
+        Limit(1, LIMIT_LIMIT + 1),
+        Limit(0, u32::MAX),
+        Limit(1, u32::MAX),
+        Room(0),
+        RangeFalls,
+        OfferedWeight(100_001),
+        OfferedWeight(u32::MAX),
+        OfferedYield(10_001),
+        OfferedYield(u32::MAX),
+        CountsAtLimit,
+        CountOver(COUNT_LIMIT + 1),
+        CountOver(u32::MAX),
+        HistogramLength(0),
+        HistogramLength(639),
+        HistogramLength(641),
+    ];
+    for which in 0..3 {
+        all.extend([0, 1_001, u32::MAX].map(|price| Price(which, price)));
+    }
+    all.extend(SET_FAULTS.iter().map(|&fault| OfSet(fault)));
+    all.extend(END_FAULTS.iter().map(|&fault| OfEnds(fault)));
+    all
+}
+
+/// The call that is made of a case.
+#[derive(Clone, Copy, PartialEq, Eq)]
+enum Target {
+    Record,
+    Cost,
+    Plan,
+}
+
+impl CaseFault {
+    fn is_large(self) -> bool {
+        matches!(self, OfSet(fault) if fault.is_large())
+    }
+
+    fn put(self, r: &mut Random, case: &mut Case) -> bool {
+        match self {
+            Price(0, price) => case.card.rr = price,
+            Price(1, price) => case.card.sr = price,
+            Price(_, price) => case.card.rw = price,
+            Limit(0, limit) => case.limits.read = limit,
+            Limit(_, limit) => case.limits.insert = limit,
+            ReadBelow => case.limits.read = case.card.rr + case.card.sr - 1,
+            InsertBelow => case.limits.insert = 2 * (case.card.rr + case.card.rw) - 1,
+            Room(n) => case.room.truncate(n),
+            RangeFalls => match &mut case.call {
+                Recorded::Range(lo, hi) if *lo < *hi => std::mem::swap(lo, hi),
+                _ => return false,
+            },
+            OfferedWeight(weight) => match &mut case.call {
+                Recorded::Insert(d) | Recorded::Delete(d) | Recorded::Move(d, _) => {
+                    d.weight = weight;
+                }
+                _ => return false,
+            },
+            OfferedYield(oil_yield) => match &mut case.call {
+                Recorded::Insert(d) | Recorded::Delete(d) | Recorded::Move(d, _) => {
+                    d.oil_yield = oil_yield;
+                }
+                _ => return false,
+            },
+            CountsAtLimit => case.histograms.fill(COUNT_LIMIT),
+            // In a used block or a later one.
+            CountOver(count) => {
+                let at = count_index(r.below(HISTOGRAMS), r.edge(0, 63));
+                case.histograms[at] = count;
+            }
+            HistogramLength(n) => case.histograms.resize(n, 0),
+            OfSet(fault) | OfEnds(fault) => {
+                return fault.put(r, &mut case.set, &mut case.ends);
+            }
+        }
+        true
+    }
+
+    /// The refusal of an else accepted call with this fault alone.
+    fn expected(self, target: Target) -> u32 {
+        let on = |yes: bool, number: u32| if yes { number } else { 0 };
+        match self {
+            Price(..) => on(target != Target::Record, 1),
+            Limit(..) => on(target == Target::Plan, 1),
+            ReadBelow | InsertBelow => on(target == Target::Plan, 11),
+            Room(_) => on(target == Target::Plan, 15),
+            RangeFalls => on(target == Target::Record, 7),
+            OfferedWeight(_) | OfferedYield(_) => on(target == Target::Record, 8),
+            CountsAtLimit => on(target == Target::Record, 10),
+            CountOver(_) | HistogramLength(_) => 9,
+            OfSet(fault) => fault.expected(),
+            OfEnds(fault) => on(target == Target::Cost, fault.expected()),
+        }
+    }
+}
+
+/// A case that all three targets accept.
+fn accepted(r: &mut Random, which: usize) -> Case {
+    let set = layouts::base(r);
+    let card = card(r);
+    Case {
+        limits: Limits::new(LIMIT_LIMIT, LIMIT_LIMIT),
+        card,
+        ends: inputs::layout(r, &set.second()),
+        histograms: recorded_histograms(r, &set),
+        room: vec![7; 64],
+        call: proper_call(r, &set, which),
+        set,
+    }
+}
+
+fn made(
+    run: &mut Run,
+    r: &mut Random,
+    library: &Library,
+    case: &Case,
+    target: Target,
+) -> Result<u32, String> {
+    let seen = &mut run.planned;
+    match target {
+        Target::Record => {
+            Recorder::new(r, &case.set, &case.histograms).record(seen, library, &case.call)
+        }
+        Target::Cost => cost(r, seen, library, case).map(|a| a.refusal),
+        Target::Plan => plan(r, seen, library, case, By::Table).map(|(a, _)| a.refusal),
+    }
+}
+
+/// The five recorded calls, the cost and the plan.
+const TARGETS: [(Target, usize); 7] = [
+    (Target::Record, 0),
+    (Target::Record, 1),
+    (Target::Record, 2),
+    (Target::Record, 3),
+    (Target::Record, 4),
+    (Target::Cost, 0),
+    (Target::Plan, 0),
+];
+
+fn alone(run: &mut Run) -> Result<(), String> {
+    let faults = case_faults();
+    run.cases(44, 20, |run, r| {
+        let library = inputs::library(r);
+        for fault in &faults {
+            for (target, which) in TARGETS {
+                let mut case = accepted(r, which);
+                if fault.is_large() && !r.one_in(4) || !fault.put(r, &mut case) {
+                    continue;
+                }
+                let with = |why| format!("{fault:?}: {why}");
+                let refusal = made(run, r, &library, &case, target).map_err(with)?;
+                if refusal != fault.expected(target) {
+                    return Err(format!("{fault:?}, {:?}: refusal {refusal}", case.call));
+                }
+            }
+        }
+        Ok(())
+    })
+}
+
+fn pairs(run: &mut Run) -> Result<(), String> {
+    let faults = case_faults();
+    run.cases(45, 3, |run, r| {
+        let library = inputs::library(r);
+        for (i, first) in faults.iter().enumerate() {
+            for second in &faults[i + 1..] {
+                for (target, which) in TARGETS {
+                    if (first.is_large() || second.is_large()) && !r.one_in(8) {
+                        continue;
+                    }
+                    let mut case = accepted(r, which);
+                    first.put(r, &mut case);
+                    second.put(r, &mut case);
+                    let with = |why| format!("{first:?} and {second:?}: {why}");
+                    made(run, r, &library, &case, target).map_err(with)?;
+                }
+            }
+        }
+        Ok(())
+    })
+}
+
+/// The answers that 01 states of the main case.
+fn examples(run: &mut Run) -> Result<(), String> {
+    let library = Library { empty: Empty::Null };
+    let mut r = Random::new(0);
+    let mut set = Set {
+        block: 2,
+        used: 8,
+        growers: (1..=8).map(|i| 10 * i).collect(),
+        weights: vec![100; 8],
+        yields: vec![2_000; 8],
+    };
+    set.resize(9);
+    let mut recorder = Recorder::new(&mut r, &set, &[0; HISTOGRAM_LEN]);
+    let insert = Recorded::Insert(Delivery::new(15, 100, 2_000));
+    for call in [Recorded::Find(30); 5].iter().chain(&[insert]) {
+        let refusal = recorder.record(&mut run.planned, &library, call)?;
+        if refusal != 0 {
+            return Err(format!("{call:?}: refusal {refusal}"));
+        }
+    }
+    let mut case = Case {
+        card: PriceCard::FACTORY,
+        limits: Limits::new(100, 100),
+        ends: Vec::new(),
+        histograms: recorder.histograms().to_vec(),
+        room: vec![9; 4],
+        call: insert,
+        set,
+    };
+    // Read limit, insert limit, refusal, cost, ends.
+    let stated: [(u32, u32, u32, i64, &[u32]); 5] = [
+        (100, 100, 0, 35, &[1, 3]),
+        (100, 15, 0, 35, &[1, 3]),
+        (100, 14, 0, 40, &[3]),
+        (4, 100, 0, 40, &[0, 1, 2, 3]),
+        (4, 20, 11, 0, &[]),
+    ];
+    for (read, insert, refusal, cost, ends) in stated {
+        case.limits = Limits::new(read, insert);
+        let (a, given) = plan(&mut r, &mut run.planned, &library, &case, By::Listing)?;
+        if (a.refusal, a.cost, &given[..]) != (refusal, cost, ends) {
+            return Err(format!("limits {read} and {insert}: {a:?}, ends {given:?}"));
+        }
+    }
+    for (ends, stated) in [(&[3][..], 40), (&[1, 3], 35), (&[0, 1, 3], 35)] {
+        case.ends = ends.to_vec();
+        let a = cost(&mut r, &mut run.planned, &library, &case)?;
+        if a.refusal != 0 || a.cost != stated {
+            return Err(format!("cost of {ends:?}: {a:?}"));
+        }
+    }
+    Ok(())
+}
+
+fn every_answer(run: &mut Run) -> Result<(), String> {
+    run.planned.complete()
+}
+
+pub const TESTS: &[(&str, Test)] = &[
+    ("plan: examples of 01", examples),
+    ("plan: recorder, lists of calls", recorder),
+    ("plan: cost, sets, layouts and histograms", costs),
+    (
+        "plan: planner against every layout, N to 12",
+        plans_by_listing,
+    ),
+    ("plan: planner against the table, N to 64", plans_by_table),
+    ("plan: broken input, each fault alone", alone),
+    ("plan: broken input, two faults", pairs),
+    (
+        "plan: every answer of every call has occurred",
+        every_answer,
+    ),
+];
