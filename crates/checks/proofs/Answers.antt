@@ -1,17 +1,19 @@
 -- Tests one after the other, and lists of checks answered by the first "no". Assumes nothing.
 use Prim.Native.Nat.{ℕ, suc, _≤_, _<_}
 use mathlib.Core.Path.{_≡_, refl, sym, ap, _∙_}
-use mathlib.Core.Bool.{Bool, true, false, cond, not, _&&_, _||_}
+use mathlib.Core.Bool.{Bool, true, false, cond, _&&_}
 use mathlib.Core.List.{List, [], _∷_}
-use lib.Dec.{leb, eqb, eqb·suc-zero}
+use lib.Dec.{leb, eqb·suc-zero}
 use borrow.Author.Tests.{lt-leb, le-leb, eq-eqb, ne-eqb}
 use lib.ListN.{length, getD}
 use Rattle.model.specs.Lists.{sumOf}
 use Rattle.model.specs.Checks.{Check, ask, firstFailed}
 use Rattle.model.specs.Blocks.{blockLengthOk, slotsOk, slicesOk}
+use Rattle.model.specs.Place.{place}
+use Rattle.model.specs.Partitions.{startOf}
 use Rattle.model.specs.Directory.{directoryOf, directoryBlockOk, directoryOk}
 use Rattle.checks.specs.declared.Shape.{Shape}
-use Rattle.checks.specs.Lent.{judgedOf, shapeFrom}
+use Rattle.checks.specs.Lent.{notShaped, shapeAt, judgedOf, shapeFrom}
 
 pub and-no : (a b : Bool) → a ≡ false → false ≡ a && b
 and-no a b e = rw e
@@ -39,20 +41,39 @@ pub none-failed : 0 ≡ firstFailed []
 unfolding firstFailed
 none-failed = refl
 
-module _ (ns : List ℕ) where
+module _ (ns : List ℕ) (g : ℕ) where
   -- a refusal's shape
-  pub shape-refused : (n : ℕ) (cs : List Check) → suc n ≡ firstFailed cs → _≡_ {A = Shape} (record { refusal = suc n; used = 0 }) (shapeFrom cs ns)
+  pub shape-refused : (n : ℕ) (cs : List Check) → suc n ≡ firstFailed cs → notShaped (suc n) ≡ shapeFrom cs ns g
   unfolding shapeFrom
   shape-refused n cs e = rw (sym e, eqb·suc-zero)
 
   -- a list that ends with check 6
-  pub shape-judged : (c : ℕ) (cs : List Check) → firstFailed cs ≡ firstFailed (ask 6 (directoryOk 64 c ns) ∷ []) → judgedOf c ns ≡ shapeFrom cs ns
-  unfolding shapeFrom judgedOf firstFailed
+  pub shape-judged : (c : ℕ) (cs : List Check) → firstFailed cs ≡ firstFailed (ask 6 (directoryOk 64 c ns) ∷ []) → judgedOf c ns g ≡ shapeFrom cs ns g
+  unfolding shapeFrom judgedOf shapeAt firstFailed
   shape-judged c cs e = go (directoryOk 64 c ns) e
     where
-      go : (b : Bool) → firstFailed cs ≡ firstFailed (ask 6 b ∷ []) → cond b (record { refusal = 0; used = sumOf (directoryOf 64 ns .lengths) }) (record { refusal = 6; used = 0 }) ≡ shapeFrom cs ns
+      go : (b : Bool) → firstFailed cs ≡ firstFailed (ask 6 b ∷ []) → cond b (shapeAt ns g) (notShaped 6) ≡ shapeFrom cs ns g
       go true h = rw h
       go false h = rw h
+
+-- what a shape carries on
+pub record Carried (cs : List Check) (ns : List ℕ) (g : ℕ) (s : Shape) : Type 0 where
+  pub passed : firstFailed cs ≡ 0
+  pub used : s .used ≡ sumOf (directoryOf 64 ns .lengths)
+  pub target : s .target ≡ place (directoryOf 64 ns .fences) g
+  pub start : s .start ≡ startOf (directoryOf 64 ns .lengths) (place (directoryOf 64 ns .fences) g)
+
+module _ (cs : List Check) (ns : List ℕ) (g : ℕ) (s : Shape) (e : s ≡ shapeFrom cs ns g) where
+  pub shape-refusal : s .refusal ≡ firstFailed cs
+  unfolding shapeFrom
+  shape-refusal = ap (λ (x : Shape). x .refusal) e
+
+  pub carried : s .refusal ≡ 0 → Carried cs ns g s
+  unfolding shapeFrom shapeAt
+  carried z =
+      let p : firstFailed cs ≡ 0 = sym shape-refusal ∙ z in
+      let f = rw p at e in
+      record { passed = p; used = ap (λ (x : Shape). x .used) f; target = ap (λ (x : Shape). x .target) f; start = ap (λ (x : Shape). x .start) f }
 
 -- Check 3 of three slices, test by test.
 module _ (g w y : List ℕ) where

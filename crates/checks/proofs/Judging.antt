@@ -1,28 +1,32 @@
 -- Check 6 of a directory, test by test. Assumes nothing.
-use Prim.Native.Nat.{ℕ, _+_, _-_, _≤_, _<_}
-use mathlib.Core.Path.{_≡_, refl, sym, ap, _∙_, subst}
-use mathlib.Core.Bool.{Bool, true, false, cond, _&&_}
+use Prim.Native.Nat.{ℕ, _+_, _-_, _≤_}
+use mathlib.Core.Path.{_≡_, sym, ap, _∙_}
+use mathlib.Core.Bool.{Bool, _&&_}
 use mathlib.Core.List.{List, [], _∷_, _++_}
 use native.Mathlib.Omega.{arith}
 use lib.Dec.{T, eqb}
 use lib.ListN.{length, getD, take, drop, length-drop}
 use lib.Seq.{drop-drop, take-all}
-use Rattle.model.specs.Lists.{sumOf, every, rising}
-use Rattle.model.specs.Directory.{partitionCount, directoryOf, unusedNumbers, directoryOk}
-use Rattle.model.proofs.Tests.{and-fst, and-snd, and-mk, of-true, is-true, is-false}
+use Rattle.model.specs.Lists.{sumOf, every}
+use Rattle.model.specs.Place.{place}
+use Rattle.model.specs.Partitions.{startOf}
+use Rattle.model.specs.Directory.{directoryOf, unusedNumbers, directoryOk}
+use Rattle.model.proofs.Tests.{and-fst, and-snd, and-mk, is-true, is-false}
 use Rattle.model.proofs.ListLaws.{drop-take}
 use Rattle.model.proofs.DirectoryLaws.{Shaped, shaped, shaped-passes, every-append}
 use Rattle.checks.specs.declared.Shape.{Shape}
-use Rattle.checks.specs.Lent.{judgedOf}
+use Rattle.checks.specs.Lent.{notShaped, shapeAt, judgedOf}
 
 -- refused, since the directory cannot pass
-pub judged-not : (c : ℕ) (ns : List ℕ) → (Shaped 64 c ns → ⊥) → _≡_ {A = Shape} (record { refusal = 6; used = 0 }) (judgedOf c ns)
+pub judged-not : (c : ℕ) (ns : List ℕ) (g : ℕ) → (Shaped 64 c ns → ⊥) → notShaped 6 ≡ judgedOf c ns g
 unfolding judgedOf
-judged-not c ns h = rw (is-false (directoryOk 64 c ns) (λ t. h (shaped 64 c ns t)))
+judged-not c ns g h = rw (is-false (directoryOk 64 c ns) (λ t. h (shaped 64 c ns t)))
 
-pub judged-yes : (c : ℕ) (ns : List ℕ) → Shaped 64 c ns → _≡_ {A = Shape} (record { refusal = 0; used = sumOf (directoryOf 64 ns .lengths) }) (judgedOf c ns)
-unfolding judgedOf
-judged-yes c ns s = rw (is-true (directoryOk 64 c ns) (shaped-passes 64 c ns s))
+pub judged-yes : (c : ℕ) (ns : List ℕ) (g used target start : ℕ) → Shaped 64 c ns
+    → used ≡ sumOf (directoryOf 64 ns .lengths) → target ≡ place (directoryOf 64 ns .fences) g → start ≡ startOf (directoryOf 64 ns .lengths) (place (directoryOf 64 ns .fences) g)
+    → _≡_ {A = Shape} (record { refusal = 0; used = used; target = target; start = start }) (judgedOf c ns g)
+unfolding judgedOf shapeAt
+judged-yes c ns g used target start s eu et es = rw (is-true (directoryOk 64 c ns) (shaped-passes 64 c ns s), eu, et, es)
 
 every-split : {A : Type 0} (f : A → Bool) (a b : List A) → T (every f (a ++ b)) → T (every f a) × T (every f b)
 unfolding every
@@ -54,15 +58,19 @@ module _ (ns : List ℕ) (size : length ns ≡ 130) (few : getD ns 1 0 ≤ 64) w
   unfolding directoryOf
   fences-part = let e : 66 + k - 66 ≡ k = omega arith in rw (e, drop-drop 64 2 ns)
 
-  -- the two tests for 0 are the one of the unused numbers
-  pub unused-both : T (every (eqb 0) (take (66 - (2 + k)) (drop (2 + k) ns))) → T (every (eqb 0) (take (130 - (66 + k)) (drop (66 + k) ns))) → T (every (eqb 0) (unusedNumbers 64 ns))
-  unfolding unusedNumbers
-  unused-both a b = every-append (eqb 0) (drop k (take 64 (drop 2 ns))) (drop k (drop 64 (drop 2 ns))) (rw unused-lengths at a) (rw unused-fences at b)
+  -- the test of both parts for 0 is the one of the unused numbers
+  abbrev bothZero : Bool
+  bothZero = every (eqb 0) (take (66 - (2 + k)) (drop (2 + k) ns)) && every (eqb 0) (take (130 - (66 + k)) (drop (66 + k) ns))
 
-  pub unused-first : T (every (eqb 0) (unusedNumbers 64 ns)) → T (every (eqb 0) (take (66 - (2 + k)) (drop (2 + k) ns)))
+  pub unused-both : T bothZero → T (every (eqb 0) (unusedNumbers 64 ns))
   unfolding unusedNumbers
-  unused-first t = rw unused-lengths (every-split (eqb 0) (drop k (take 64 (drop 2 ns))) (drop k (drop 64 (drop 2 ns))) t .0)
+  unused-both t =
+      let a = and-fst (every (eqb 0) (take (66 - (2 + k)) (drop (2 + k) ns))) (every (eqb 0) (take (130 - (66 + k)) (drop (66 + k) ns))) t in
+      let b = and-snd (every (eqb 0) (take (66 - (2 + k)) (drop (2 + k) ns))) (every (eqb 0) (take (130 - (66 + k)) (drop (66 + k) ns))) t in
+      every-append (eqb 0) (drop k (take 64 (drop 2 ns))) (drop k (drop 64 (drop 2 ns))) (rw unused-lengths at a) (rw unused-fences at b)
 
-  pub unused-second : T (every (eqb 0) (unusedNumbers 64 ns)) → T (every (eqb 0) (take (130 - (66 + k)) (drop (66 + k) ns)))
+  pub unused-parts : T (every (eqb 0) (unusedNumbers 64 ns)) → T bothZero
   unfolding unusedNumbers
-  unused-second t = rw unused-fences (every-split (eqb 0) (drop k (take 64 (drop 2 ns))) (drop k (drop 64 (drop 2 ns))) t .1)
+  unused-parts t =
+      let r = every-split (eqb 0) (drop k (take 64 (drop 2 ns))) (drop k (drop 64 (drop 2 ns))) t in
+      rw (unused-lengths, unused-fences) (and-mk (every (eqb 0) (drop k (take 64 (drop 2 ns)))) (every (eqb 0) (drop k (drop 64 (drop 2 ns)))) (r .0) (r .1))

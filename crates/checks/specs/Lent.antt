@@ -1,13 +1,14 @@
 -- The lent slices as one record, and what checking them answers.
 use Prim.Native.Nat.{ℕ, _*_, _≤_}
 use mathlib.Core.Bool.{Bool, cond, _&&_}
-use mathlib.Core.List.{List, [], _∷_}
-use lib.ListN.{length}
+use mathlib.Core.List.{List}
 use lib.Dec.{leb, eqb}
 use Rattle.model.specs.Lists.{sumOf, every}
 use Rattle.model.specs.Checks.{Check, firstFailed}
 use Rattle.model.specs.Blocks.{Set}
-use Rattle.model.specs.Directory.{directoryOf, directoryOk}
+use Rattle.model.specs.Place.{place}
+use Rattle.model.specs.Partitions.{startOf}
+use Rattle.model.specs.Directory.{Directory, directoryOf, directoryOk}
 use Rattle.model.specs.Column.{Column}
 use Rattle.model.specs.Questions.{setChecks, lentChecks, partitionChecks}
 use Rattle.checks.specs.declared.Shape.{Shape}
@@ -23,19 +24,32 @@ setOf b m gs ws ys = record { block = b; used = m; growers = gs; weights = ws; y
 abbrev pub allValuesOk : List ℕ → List ℕ → Bool
 allValuesOk ws ys = every (λ (n : ℕ). leb n 100000) ws && every (λ (n : ℕ). leb n 10000) ys
 
--- check 6, and the used slots
-unfoldable pub judgedOf : ℕ → List ℕ → Shape
-judgedOf c ns = cond (directoryOk 64 c ns) (record { refusal = 0; used = sumOf (directoryOf 64 ns .lengths) }) (record { refusal = 6; used = 0 })
+abbrev pub notShaped : ℕ → Shape
+notShaped n = record { refusal = n; used = 0; target = 0; start = 0 }
 
--- the answer to a list of checks, and the used slots where it is 0
-unfoldable pub shapeFrom : List Check → List ℕ → Shape
-shapeFrom cs ns = let n : ℕ = firstFailed cs in record { refusal = n; used = cond (eqb n 0) (sumOf (directoryOf 64 ns .lengths)) 0 }
+-- the used slots of a proper directory, a grower's partition and where that starts
+unfoldable pub shapeAt : List ℕ → ℕ → Shape
+shapeAt ns g =
+    let d : Directory = directoryOf 64 ns in
+    let t : ℕ = place (d .fences) g in
+    record { refusal = 0; used = sumOf (d .lengths); target = t; start = startOf (d .lengths) t }
 
-abbrev pub shapeOf : Column → Shape
-shapeOf c = shapeFrom (lentChecks 64 c) (c .directory)
+-- check 6
+unfoldable pub judgedOf : ℕ → List ℕ → ℕ → Shape
+judgedOf c ns g = cond (directoryOk 64 c ns) (shapeAt ns g) (notShaped 6)
 
-abbrev pub growersShapeOf : List ℕ → List ℕ → Shape
-growersShapeOf ns gs = shapeFrom (partitionChecks 64 ns gs) ns
+-- the answer to a list of checks, and the rest where it is 0
+unfoldable pub shapeFrom : List Check → List ℕ → ℕ → Shape
+shapeFrom cs ns g =
+    let n : ℕ = firstFailed cs in
+    let s : Shape = cond (eqb n 0) (shapeAt ns g) (notShaped n) in
+    record { refusal = n; used = s .used; target = s .target; start = s .start }
+
+abbrev pub shapeOf : Column → ℕ → Shape
+shapeOf c g = shapeFrom (lentChecks 64 c) (c .directory) g
+
+abbrev pub growersShapeOf : List ℕ → List ℕ → ℕ → Shape
+growersShapeOf ns gs g = shapeFrom (partitionChecks 64 ns gs) ns g
 
 -- checks 2 to 5 of a set
 abbrev pub setRefusalOf : Set → ℕ

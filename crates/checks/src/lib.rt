@@ -11,21 +11,25 @@ ghost use Rattle.model.specs.Blocks.{blockStop, lastGrower, blockLengthOk, slot
 ghost use Rattle.model.specs.Histograms.{countsOk};
 ghost use Rattle.model.specs.Directory.{directoryBlockOk};
 ghost use Rattle.model.specs.Layouts.{separatesNone, layoutOk};
-ghost use Rattle.checks.specs.Lent.{Sized, setOf, columnOf, allValuesOk, judgedOf, shapeOf, growersShapeOf, setRefusalOf};
+ghost use Rattle.checks.specs.Lent.{Sized, setOf, columnOf, allValuesOk, notShaped, judgedOf, shapeOf, growersShapeOf, setRefusalOf};
 use model::Delivery;
 
-// The refusal number of checks 2, 3 and 6 of a directory and its slices, and the slots that its partitions use.
+// The refusal number of checks 2, 3 and 6 of a directory and its slices; the slots that its partitions use; and of a grower its partition and where that starts.
 pub struct Shape {
     pub refusal: u32,
-    pub used: u64,
+    pub used: usize,
+    pub target: usize,
+    pub start: usize,
 }
 
 fn refused(n: u32) -> Shape
-    ensures { λ r. ⌜ r ≡ record { refusal = n; used = 0 } ⌝ }
+    ensures { λ r. ⌜ r ≡ notShaped n ⌝ }
 {
     Shape {
         refusal: n,
         used: 0,
+        target: 0,
+        start: 0,
     }
 }
 
@@ -82,9 +86,9 @@ pub fn values_ok(w: &[u32], y: &[u32]) -> bool
     false
 }
 
-// Check 6 of a directory for c slots; the total of its lengths is carried on.
-fn judged(directory: &[u32], c: usize) -> Shape
-    ensures { λ r. ⌜ r ≡ judgedOf c (now (directory .entry)) ⌝ }
+// Check 6 of a directory for c slots, in one pass over its numbers; what the pass finds is carried on.
+fn judged(directory: &[u32], c: usize, grower: u32) -> Shape
+    ensures { λ r. ⌜ r ≡ judgedOf c (now (directory .entry)) grower ⌝ }
 {
     if directory.len() != 130 {
         return refused(6);
@@ -98,20 +102,22 @@ fn judged(directory: &[u32], c: usize) -> Shape
     }
     let a = 2 + k;
     let f = 66 + k;
-    if !slices::zeros(&directory[a..66]) {
+    if !slices::zeros(&directory[a..66], &directory[f..130]) {
         return refused(6);
     }
-    if !slices::zeros(&directory[f..130]) {
+    let s = slices::surveyed(&directory[2..a], &directory[66..f], grower);
+    if !s.rising {
         return refused(6);
     }
-    if !slices::strictly_rising(&directory[66..f]) {
+    if c < s.used {
         return refused(6);
     }
-    let used = slices::total(&directory[2..a]);
-    if (c as u64) < used {
-        return refused(6);
+    Shape {
+        refusal: 0,
+        used: s.used,
+        target: s.target,
+        start: s.start,
     }
-    Shape { refusal: 0, used }
 }
 
 // Check 2 of a directory's B; a slice of another length holds none.
@@ -125,8 +131,8 @@ fn directory_block_ok(directory: &[u32]) -> bool
 }
 
 // Checks 2, 3 and 6 of a directory and the three slices.
-pub fn lent(directory: &[u32], g: &[u32], w: &[u32], y: &[u32]) -> Shape
-    ensures { λ r. ⌜ r ≡ shapeOf (columnOf (now (directory .entry)) (now (g .entry)) (now (w .entry)) (now (y .entry))) ⌝ }
+pub fn lent(directory: &[u32], g: &[u32], w: &[u32], y: &[u32], grower: u32) -> Shape
+    ensures { λ r. ⌜ r ≡ shapeOf (columnOf (now (directory .entry)) (now (g .entry)) (now (w .entry)) (now (y .entry))) grower ⌝ }
 {
     if !directory_block_ok(directory) {
         return refused(2);
@@ -134,12 +140,12 @@ pub fn lent(directory: &[u32], g: &[u32], w: &[u32], y: &[u32]) -> Shape
     if !slices_ok(g, w, y) {
         return refused(3);
     }
-    judged(directory, g.len())
+    judged(directory, g.len(), grower)
 }
 
 // Checks 2, 3 and 6 of a directory and the growers alone.
-pub fn lent_growers(directory: &[u32], g: &[u32]) -> Shape
-    ensures { λ r. ⌜ r ≡ growersShapeOf (now (directory .entry)) (now (g .entry)) ⌝ }
+pub fn lent_growers(directory: &[u32], g: &[u32], grower: u32) -> Shape
+    ensures { λ r. ⌜ r ≡ growersShapeOf (now (directory .entry)) (now (g .entry)) grower ⌝ }
 {
     if !directory_block_ok(directory) {
         return refused(2);
@@ -147,7 +153,7 @@ pub fn lent_growers(directory: &[u32], g: &[u32]) -> Shape
     if !slots_ok(g.len()) {
         return refused(3);
     }
-    judged(directory, g.len())
+    judged(directory, g.len(), grower)
 }
 
 // Check 4 of m used slots among c.

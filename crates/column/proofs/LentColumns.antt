@@ -1,8 +1,8 @@
 -- A directory and slices that pass checks 2, 3 and 6. Assumes nothing.
 use Prim.Native.Nat.{ℕ, _+_, _-_, _≤_, _<_}
-use mathlib.Core.Path.{_≡_, refl, sym, ap, _∙_}
-use mathlib.Core.Bool.{Bool, true, false, not, _&&_, _||_}
-use mathlib.Core.List.{List, [], _∷_}
+use mathlib.Core.Path.{_≡_, sym, ap, _∙_}
+use mathlib.Core.Bool.{_&&_}
+use mathlib.Core.List.{List}
 use native.Mathlib.Omega.{arith}
 use lib.Dec.{T, leb, eqb, leb→le, eqb→eq}
 use lib.ListN.{length, getD, take, drop}
@@ -15,12 +15,11 @@ use Rattle.model.specs.Partitions.{startOf}
 use Rattle.model.specs.Directory.{directoryOf, directoryBlockOk, directoryOk}
 use Rattle.model.specs.Column.{Column, lengthsOf, fencesOf}
 use Rattle.model.specs.Questions.{lentChecks}
-use Rattle.model.proofs.Tests.{and-fst, and-snd, yes-first, is-true}
+use Rattle.model.proofs.Tests.{and-fst, and-snd, yes-first}
 use Rattle.model.proofs.DirectoryLaws.{Shaped, shaped, shaped-passes, length-lengths, length-fences}
 use Rattle.model.proofs.ListLaws.{elem-le}
 use Rattle.model.proofs.Parts.{start-le}
 use Rattle.column.specs.Answers.{Held}
-use Rattle.checks.specs.Lent.{shapeFrom, shapeOf}
 use Rattle.checks.proofs.Judging.{lengths-part, fences-part}
 
 pub record LentColumn (c : Column) : Type 0 where
@@ -52,11 +51,6 @@ lent-column c h =
       even-weights = eqb→eq (length (c .weights)) n (and-fst (eqb (length (c .weights)) n) (eqb (length (c .yields)) n) e);
       even-yields = eqb→eq (length (c .yields)) n (and-snd (eqb (length (c .weights)) n) (eqb (length (c .yields)) n) e);
     }
-
--- the total that the checks carry on
-pub used-is : (c : Column) → firstFailed (lentChecks 64 c) ≡ 0 → shapeOf c .used ≡ sumOf (lengthsOf 64 c)
-unfolding shapeFrom
-used-is c h = rw h
 
 module _ (c : Column) (l : LentColumn c) where
   abbrev k : ℕ

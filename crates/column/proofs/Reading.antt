@@ -1,11 +1,11 @@
 -- find and range. Assumes nothing.
-use Prim.Native.Nat.{ℕ, zero, suc, _+_, _-_, _≤_, _<_}
+use Prim.Native.Nat.{ℕ, _+_, _-_, _≤_, _<_}
 use mathlib.Core.Path.{_≡_, refl, sym, ap, ap₂, _∙_, subst}
 use mathlib.Core.Bool.{Bool, true, false, cond}
 use mathlib.Core.List.{List, [], _∷_, map}
 use native.Mathlib.Omega.{arith}
 use lib.ListN.{length, getD, take, drop, length-take, length-drop}
-use lib.Dec.{T, leb}
+use lib.Dec.{T}
 use borrow.Author.Tests.{le-leb, lt-leb}
 use Rattle.model.specs.declared.Delivery.{Delivery}
 use Rattle.model.specs.declared.Answer.{Answer}
@@ -13,21 +13,23 @@ use Rattle.model.specs.declared.Counts.{Counts}
 use Rattle.model.specs.declared.Totals.{Totals}
 use Rattle.model.specs.Lists.{sumOf, every}
 use Rattle.model.specs.Checks.{firstFailed}
-use Rattle.model.specs.Place.{place}
 use Rattle.model.specs.Deliveries.{inRange, totalsBetween}
 use Rattle.model.specs.Calls.{range}
-use Rattle.model.specs.Partitions.{between}
+use Rattle.model.specs.Partitions.{startOf, between}
 use Rattle.model.specs.Directory.{directoryOf}
 use Rattle.model.specs.Column.{Column, slots, lengthsOf, fencesOf, target, scannedOk}
 use Rattle.model.specs.Accesses.{noCounts, blocksOf, readsOf, scanCounts, blocksScanned, callCounts}
 use Rattle.model.specs.Questions.{lentChecks, callChecks}
 use Rattle.model.specs.ColumnCalls.{columnRefusal, callTotals, columnCall}
 use Rattle.model.proofs.Places.{placed, placed-mono}
+use Rattle.model.proofs.Parts.{stop-le}
+use Rattle.checks.specs.declared.Shape.{Shape}
+use Rattle.checks.proofs.Answers.{Carried}
 use Rattle.scan.specs.declared.Scan.{Scan}
 use Rattle.scan.specs.Scans.{badScan, recordsIn, scanOf}
 use Rattle.scan.proofs.Blocks.{blocks-least}
-use Rattle.column.specs.Answers.{refusedWith}
-use Rattle.column.proofs.LentColumns.{LentColumn, lent-column, count-lengths, count-fences}
+use Rattle.column.specs.Answers.{refusedWith, Held}
+use Rattle.column.proofs.LentColumns.{LentColumn, lent-column, count-lengths, count-fences, held}
 use Rattle.column.proofs.Answering.{lent-yes, refused-call, accepted-call}
 
 -- what a scan that came out good or bad says
@@ -100,3 +102,29 @@ module _ (c : Column) (h : firstFailed (lentChecks 64 c) ≡ 0) where
         let g = good-scan _ _ _ _ lo hi (slots c) s e f in
         ap₂ (λ (t : Totals) (m : Counts). record { refusal = 0; totals = t; counts = m }) (g .totals) (i ∙ ap readsOf (g .blocks))
         ∙ ap (λ (r : Rattle.model.specs.ColumnCalls.Called). r .answer) (accepted-call c (range lo hi) (answered true (g .values)))
+
+-- a grower's partition, which the checks have found, lies in the three slices
+pub record Near (c : Column) (g a n : ℕ) : Type 0 where
+  pub start : a ≡ startOf (lengthsOf 64 c) (target 64 c g)
+  pub count : n ≡ getD (lengthsOf 64 c) (target 64 c g) 0
+  pub inside : a + n ≤ length (c .growers)
+  pub most : length (c .growers) ≤ 262144
+  pub even-weights : length (c .weights) ≡ length (c .growers)
+  pub even-yields : length (c .yields) ≡ length (c .growers)
+
+module _ (c : Column) (g : ℕ) (s : Shape) (w : Carried (lentChecks 64 c) (c .directory) g s) where
+  pub near-held : Held (c .directory) (s .target)
+  near-held = rw (w .target) (held c (lent-column c (w .passed)) (target 64 c g) (target-there c (w .passed) g))
+
+  pub near : (n : ℕ) → n ≡ getD (lengthsOf 64 c) (s .target) 0 → Near c g (s .start) n
+  near n e =
+      let l = lent-column c (w .passed) in
+      let k : n ≡ getD (lengthsOf 64 c) (target 64 c g) 0 = e ∙ ap (λ (t : ℕ). getD (lengthsOf 64 c) t 0) (w .target) in
+      record {
+        start = w .start;
+        count = k;
+        inside = omega (arith, w .start, stop-le (lengthsOf 64 c) (target 64 c g) (target-there c (w .passed) g), l .shape .room);
+        most = l .most;
+        even-weights = l .even-weights;
+        even-yields = l .even-yields;
+      }

@@ -1,8 +1,8 @@
 // The laid column (01): find, range, insert, delete, move and the partition call, over three lent slices and the lent directory of 130 numbers.
 // No call trusts what it is lent: each puts its checks first, and a refused call writes to no slice.
 ghost use mathlib.Core.Path.{_≡_};
-ghost use Prim.Native.Nat.{ℕ, _+_, _-_, _≤_, _<_};
-ghost use lib.ListN.{length, take, drop, getD};
+ghost use Prim.Native.Nat.{_+_, _-_, _≤_, _<_};
+ghost use lib.ListN.{length, getD};
 ghost use lib.Dec.{T};
 ghost use Rattle.model.specs.Lists.{sumOf};
 ghost use Rattle.model.specs.Deliveries.{rows};
@@ -61,15 +61,23 @@ fn length_of(directory: &[u32], t: usize) -> usize
     directory[2 + t] as usize
 }
 
-// The partitions from lo's to hi's, once checks 2, 3, 6 and 7 are passed.
-fn read(directory: &[u32], g: &[u32], w: &[u32], y: &[u32], lo: u32, hi: u32) -> Answer
-    requires { ⌜ (firstFailed (lentChecks 64 (columnOf (now directory) (now g) (now w) (now y))) ≡ 0) × (lo ≤ hi) ⌝ }
+// The partitions from p, which is lo's and starts at a, to hi's, once checks 2, 3, 6 and 7 are passed.
+fn read(
+    directory: &[u32],
+    g: &[u32],
+    w: &[u32],
+    y: &[u32],
+    p: usize,
+    a: usize,
+    lo: u32,
+    hi: u32,
+) -> Answer
+    requires { ⌜ (firstFailed (lentChecks 64 (columnOf (now directory) (now g) (now w) (now y))) ≡ 0) × (lo ≤ hi) × (p ≡ place (directoryOf 64 (now directory) .fences) lo) × (a ≡ startOf (directoryOf 64 (now directory) .lengths) p) ⌝ }
     ensures { λ r. ⌜ r ≡ columnCall 64 (columnOf (now (directory .entry)) (now (g .entry)) (now (w .entry)) (now (y .entry))) (range lo hi) .answer ⌝ }
 {
-    let a = 2 + directory[1] as usize;
-    let p = partition_of(directory, lo);
+    let l = 2 + directory[1] as usize;
     let q = partition_of(directory, hi);
-    let s = scan::scan_parts(g, w, y, &directory[2..a], p, q, directory[0], lo, hi);
+    let s = scan::scan_parts(g, w, y, &directory[2..l], p, q, a, directory[0], lo, hi);
     if !s.good {
         return refused(8);
     }
@@ -93,7 +101,7 @@ pub fn range(
 ) -> Answer
     ensures { λ r. ⌜ r ≡ columnCall 64 (columnOf (now (directory .entry)) (now (growers .entry)) (now (weights .entry)) (now (yields .entry))) (range lo hi) .answer ⌝ }
 {
-    let shape = checks::lent(directory, growers, weights, yields);
+    let shape = checks::lent(directory, growers, weights, yields, lo);
     let n = shape.refusal;
     if n != 0 {
         return refused(n);
@@ -101,7 +109,16 @@ pub fn range(
     if hi < lo {
         return refused(7);
     }
-    read(directory, growers, weights, yields, lo, hi)
+    read(
+        directory,
+        growers,
+        weights,
+        yields,
+        shape.target,
+        shape.start,
+        lo,
+        hi,
+    )
 }
 
 // The records of one grower.
@@ -143,6 +160,19 @@ fn not_located(n: u32) -> Located
     }
 }
 
+// A 13: the partition was scanned, and the delivery is not in it.
+fn missed(scanned: Counts) -> Located
+    ensures { λ r. ⌜ r ≡ notLocated 13 scanned ⌝ }
+{
+    Located {
+        refusal: 13,
+        target: 0,
+        start: 0,
+        slot: 0,
+        counts: scanned,
+    }
+}
+
 // Checks 8 and 13 in partition t, which starts at a, of which it is handed its part of each slice.
 fn search_part(g: &[u32], w: &[u32], y: &[u32], b: u32, t: usize, a: usize, d: Delivery) -> Located
     requires { ⌜ (length (now g) ≤ 262144) × (length (now w) ≡ length (now g)) × (length (now y) ≡ length (now g)) × (1 ≤ b) ⌝ }
@@ -162,20 +192,14 @@ fn search_part(g: &[u32], w: &[u32], y: &[u32], b: u32, t: usize, a: usize, d: D
             counts,
         };
     }
-    Located {
-        refusal: 13,
-        target: 0,
-        start: 0,
-        slot: 0,
-        counts,
-    }
+    missed(counts)
 }
 
 // Checks 2, 3, 6, 8 and 13 of delete and move.
 fn locate(directory: &[u32], g: &[u32], w: &[u32], y: &[u32], d: Delivery) -> Located
     ensures { λ r. ⌜ r ≡ locatedOf (columnOf (now (directory .entry)) (now (g .entry)) (now (w .entry)) (now (y .entry))) d ⌝ }
 {
-    let shape = checks::lent(directory, g, w, y);
+    let shape = checks::lent(directory, g, w, y, d.grower);
     let n = shape.refusal;
     if n != 0 {
         return not_located(n);
@@ -183,8 +207,8 @@ fn locate(directory: &[u32], g: &[u32], w: &[u32], y: &[u32], d: Delivery) -> Lo
     if !checks::in_range(d) {
         return not_located(8);
     }
-    let t = partition_of(directory, d.grower);
-    let a = start_of(directory, t);
+    let t = shape.target;
+    let a = shape.start;
     let e = a + length_of(directory, t);
     search_part(&g[a..e], &w[a..e], &y[a..e], directory[0], t, a, d)
 }
@@ -230,7 +254,7 @@ fn not_opened(n: u32) -> Opened
 fn open(directory: &[u32], g: &[u32], w: &[u32], y: &[u32], d: Delivery) -> Opened
     ensures { λ r. ⌜ r ≡ openedOf (columnOf (now (directory .entry)) (now (g .entry)) (now (w .entry)) (now (y .entry))) d ⌝ }
 {
-    let shape = checks::lent(directory, g, w, y);
+    let shape = checks::lent(directory, g, w, y, d.grower);
     let n = shape.refusal;
     if n != 0 {
         return not_opened(n);
@@ -238,16 +262,14 @@ fn open(directory: &[u32], g: &[u32], w: &[u32], y: &[u32], d: Delivery) -> Open
     if !checks::in_range(d) {
         return not_opened(8);
     }
-    let used = shape.used as usize;
+    let used = shape.used;
     if g.len() <= used {
         return not_opened(12);
     }
-    let target = partition_of(directory, d.grower);
-    let start = start_of(directory, target);
     Opened {
         refusal: 0,
-        target,
-        start,
+        target: shape.target,
+        start: shape.start,
         used,
     }
 }
@@ -507,14 +529,13 @@ fn no_partition(n: u32) -> PartitionSlice
 pub fn partition(directory: &[u32], growers: &[u32], grower: u32) -> PartitionSlice
     ensures { λ r. ⌜ r ≡ partitionCall 64 (now (directory .entry)) (now (growers .entry)) grower ⌝ }
 {
-    let shape = checks::lent_growers(directory, growers);
+    let shape = checks::lent_growers(directory, growers, grower);
     let n = shape.refusal;
     if n != 0 {
         return no_partition(n);
     }
-    let t = partition_of(directory, grower);
-    let start = start_of(directory, t);
-    let count = length_of(directory, t);
+    let start = shape.start;
+    let count = length_of(directory, shape.target);
     PartitionSlice {
         refusal: 0,
         start: start as u32,

@@ -1,80 +1,29 @@
 -- A scan of partitions, one after the other. Assumes nothing.
-use Prim.Native.Nat.{ℕ, zero, suc, _+_, _-_, _*_, _≤_, _<_}
-use mathlib.Core.Path.{_≡_, refl, sym, ap, ap₂, _∙_, subst}
+use Prim.Native.Nat.{ℕ, _+_, _-_, _≤_, _<_}
+use mathlib.Core.Path.{_≡_, refl, sym, ap, _∙_, subst}
 use mathlib.Core.Bool.{Bool, true, false, cond, _&&_}
 use mathlib.Core.List.{List, [], _∷_, _++_, append-nil, map, map-append, flatten}
 use native.Mathlib.Omega.{arith}
 use native.Mathlib.Numerals.{add-one}
-use native.Mathlib.Nat.{mul-le-mul}
-use lib.Dec.{T, leb, leb→le}
-use lib.ListN.{length, getD, take, drop, length-append, length-take, length-drop}
+use lib.Dec.{T, leb}
+use lib.ListN.{length, getD, take, drop, length-take, length-drop}
 use lib.Seq.{take-suc, getD-drop}
 use Rattle.model.specs.declared.Delivery.{Delivery}
 use Rattle.model.specs.declared.Totals.{Totals}
 use Rattle.model.specs.Lists.{sumOf, every, keep}
-use Rattle.model.specs.Deliveries.{inRange, matches, noTotals, totalsOf, totalsBetween, rows}
+use Rattle.model.specs.Deliveries.{inRange, noTotals, totalsOf, totalsBetween, rows}
 use Rattle.model.specs.Partitions.{parts, part, startOf}
 use Rattle.model.specs.Accesses.{blocksOf}
-use Rattle.model.proofs.Tests.{and-fst, and-snd, of-true, is-true}
-use Rattle.model.proofs.ListLaws.{sum-append, sum-cut, sum-take-le, flatten-append, keep-append, every-joined, keep-fewer}
+use Rattle.model.proofs.Tests.{and-fst, and-snd, of-true}
+use Rattle.model.proofs.ListLaws.{sum-append, sum-cut, sum-take-le, flatten-append, every-joined}
 use Rattle.model.proofs.Parts.{flatten-parts, take-parts, drop-parts, part-parts, length-parts, length-part, start-next}
-use Rattle.model.proofs.Deliveries.{values-rows, rows-part, length-rows}
+use Rattle.model.proofs.Deliveries.{values-rows, rows-part}
 use Rattle.checks.specs.Lent.{allValuesOk}
 use Rattle.scan.specs.declared.Scan.{Scan}
-use Rattle.scan.specs.Scans.{badScan, plusTotals, scanMore, recordsIn, scanOf, Light}
+use Rattle.slices.specs.Slices.{Measured, plusTotals}
+use Rattle.slices.proofs.Sums.{totals-joined, totals-light}
+use Rattle.scan.specs.Scans.{badScan, scanMore, recordsIn, scanOf, Light}
 use Rattle.scan.proofs.Blocks.{blocks-most}
-
--- Totals of records that were joined.
-
-totals-joined : (lo hi : ℕ) (a b : List Delivery) → totalsBetween lo hi (a ++ b) ≡ plusTotals (totalsBetween lo hi a) (totalsBetween lo hi b)
-unfolding totalsOf
-totals-joined lo hi a b =
-    simp (keep-append, length-append, map-append, sum-append)
-
--- Totals of records in range.
-
-weights-most : (ds : List Delivery) → T (every inRange ds) → sumOf (map (λ (d : Delivery). d .weight) ds) ≤ 100000 * length ds
-unfolding sumOf every
-weights-most [] t = omega arith
-weights-most (d ∷ ds) t =
-    let h = and-fst (inRange d) (every inRange ds) t in
-    omega (arith, leb→le (d .weight) 100000 (and-fst (leb (d .weight) 100000) (leb (d .«oil_yield») 10000) h), weights-most ds (and-snd (inRange d) (every inRange ds) t))
-
-oil-most : (ds : List Delivery) → T (every inRange ds) → sumOf (map (λ (d : Delivery). d .weight * d .«oil_yield») ds) ≤ 1000000000 * length ds
-unfolding sumOf every
-oil-most [] t = omega arith
-oil-most (d ∷ ds) t =
-    let h = and-fst (inRange d) (every inRange ds) t in
-    let w : d .weight ≤ 100000 = leb→le (d .weight) 100000 (and-fst (leb (d .weight) 100000) (leb (d .«oil_yield») 10000) h) in
-    let y : d .«oil_yield» ≤ 10000 = leb→le (d .«oil_yield») 10000 (and-snd (leb (d .weight) 100000) (leb (d .«oil_yield») 10000) h) in
-    let p : d .weight * d .«oil_yield» ≤ 100000 * 10000 = mul-le-mul w y in
-    omega (arith, oil-most ds (and-snd (inRange d) (every inRange ds) t))
-
-every-kept : (p : Delivery → Bool) (ds : List Delivery) → T (every inRange ds) → T (every inRange (keep p ds))
-unfolding every keep
-every-kept p [] t = tt
-every-kept p (d ∷ ds) t = go (p d) (every-kept p ds (and-snd (inRange d) (every inRange ds) t))
-  where
-    go : (b : Bool) → T (every inRange (keep p ds)) → T (every inRange (cond b (d ∷ keep p ds) (keep p ds)))
-    go true h = subst T (sym (ap (λ (x : Bool). x && every inRange (keep p ds)) (is-true (inRange d) (and-fst (inRange d) (every inRange ds) t)))) h
-    go false h = h
-
--- totals of at most m records
-pub record LightTotals (m : ℕ) (t : Totals) : Type 0 where
-  pub few : t .records ≤ m
-  pub light : t .weight ≤ 100000 * m
-  pub little : t .oil ≤ 1000000000 * m
-
-pub totals-light : (lo hi m : ℕ) (ds : List Delivery) → T (every inRange ds) → length ds ≤ m → LightTotals m (totalsBetween lo hi ds)
-unfolding totalsOf
-totals-light lo hi m ds t h =
-    let k = every-kept (matches lo hi) ds t in
-    let n = keep-fewer (matches lo hi) ds in
-    record {
-      few = omega arith;
-      light = omega (arith, weights-most (keep (matches lo hi) ds) k);
-      little = omega (arith, oil-most (keep (matches lo hi) ds) k);
-    }
 
 -- One more partition.
 
@@ -87,21 +36,22 @@ module _ (b lo hi : ℕ) (s : Scan) (g w y : List ℕ) (p : length w ≡ length 
   unfolding scanMore
   more-bad e f = rw (e, values-rows g w y p q, f)
 
-  pub more-good : (t : Totals) (k : ℕ) → s .good ≡ true → allValuesOk w y ≡ true → t ≡ totalsBetween lo hi (rows g w y) → k ≡ blocksOf b (length (rows g w y))
-      → _≡_ {A = Scan} (record { good = true; totals = plusTotals (s .totals) t; blocks = s .blocks + k }) (scanMore b lo hi s (rows g w y))
+  pub more-good : (t : Totals) (k : ℕ) → s .good ≡ true → allValuesOk w y ≡ true → t ≡ plusTotals (s .totals) (totalsBetween lo hi (rows g w y)) → k ≡ blocksOf b (length (rows g w y))
+      → _≡_ {A = Scan} (record { good = true; totals = t; blocks = s .blocks + k }) (scanMore b lo hi s (rows g w y))
   unfolding scanMore
   more-good t k e f h i = rw (e, values-rows g w y p q, f, h, i)
 
--- both slices pass
-pub values-both : (w y : List ℕ) → allValuesOk w y ≡ true → T (every (λ (n : ℕ). leb n 100000) w) × T (every (λ (n : ℕ). leb n 10000) y)
-values-both w y e =
-    let h : T (allValuesOk w y) = of-true (allValuesOk w y) e in
-    (and-fst (every (λ (n : ℕ). leb n 100000) w) (every (λ (n : ℕ). leb n 10000) y) h, and-snd (every (λ (n : ℕ). leb n 100000) w) (every (λ (n : ℕ). leb n 10000) y) h)
-
--- the totals of one partition are small
-pub new-light : (lo hi : ℕ) (g w y : List ℕ) (t : Totals) → length g ≤ 262144 → length w ≡ length g → length y ≡ length g → allValuesOk w y ≡ true → t ≡ totalsBetween lo hi (rows g w y) → LightTotals 262144 t
-new-light lo hi g w y t h p q e f =
-    subst (LightTotals 262144) (sym f) (totals-light lo hi 262144 (rows g w y) (of-true _ (values-rows g w y p q ∙ e)) (omega (arith, length-rows g w y p q)))
+-- slices that pass check 8 may be totalled
+pub measured : (g w y : List ℕ) → length g ≤ 262144 → length w ≡ length g → length y ≡ length g → allValuesOk w y ≡ true → Measured g w y
+measured g w y h p q e =
+    let t : T (allValuesOk w y) = of-true (allValuesOk w y) e in
+    record {
+      few = h;
+      even-weights = p;
+      even-yields = q;
+      good-weights = and-fst (every (λ (n : ℕ). leb n 100000) w) (every (λ (n : ℕ). leb n 10000) y) t;
+      good-yields = and-snd (every (λ (n : ℕ). leb n 100000) w) (every (λ (n : ℕ). leb n 10000) y) t;
+    }
 
 -- parts of even slices are even
 pub even-parts : (n at : ℕ) (g w y : List ℕ) → length g ≤ 262144 → length w ≡ length g → length y ≡ length g
@@ -172,9 +122,8 @@ scan-light b ns p n lo hi ds h room few short = go (every inRange (recordsIn ns 
     go : (t : Bool) → every inRange (recordsIn ns p n ds) ≡ t
         → Light 262144 64 (cond t (record { good = true; totals = totalsBetween lo hi (recordsIn ns p n ds); blocks = sumOf (map (blocksOf b) (take n (drop p ns))) }) badScan)
     go true e =
-        let l = totals-light lo hi 262144 (recordsIn ns p n ds) (of-true _ e) (omega (arith, len)) in
-        record { few = l .few; light = l .light; little = l .little; short = omega (arith, sum, blocks-sum b (take n (drop p ns)) h) }
-    go false e = record { few = omega arith; light = omega arith; little = omega arith; short = omega arith }
+        record { light = totals-light lo hi 262144 (recordsIn ns p n ds) (of-true _ e) (omega (arith, len)); short = omega (arith, sum, blocks-sum b (take n (drop p ns)) h) }
+    go false e = record { light = record { few = omega arith; light = omega arith; little = omega arith }; short = omega arith }
 
 -- The loop.
 

@@ -1,22 +1,19 @@
 -- What a scan says of partitions, in the model's terms.
-use Prim.Native.Nat.{ℕ, _+_, _*_, _≤_}
-use mathlib.Core.Bool.{Bool, true, false, cond, _&&_}
+use Prim.Native.Nat.{ℕ, _+_, _≤_}
+use mathlib.Core.Bool.{true, false, cond, _&&_}
 use mathlib.Core.List.{List, map, flatten}
 use lib.ListN.{length, take, drop}
 use Rattle.model.specs.declared.Delivery.{Delivery}
-use Rattle.model.specs.declared.Totals.{Totals}
 use Rattle.model.specs.Lists.{sumOf, every}
 use Rattle.model.specs.Deliveries.{inRange, noTotals, totalsBetween}
 use Rattle.model.specs.Partitions.{parts}
 use Rattle.model.specs.Accesses.{blocksOf}
+use Rattle.slices.specs.Slices.{LightTotals, plusTotals}
 use Rattle.scan.specs.declared.Scan.{Scan}
 
 -- a scan that met a value out of range
 abbrev pub badScan : Scan
 badScan = record { good = false; totals = noTotals; blocks = 0 }
-
-abbrev pub plusTotals : Totals → Totals → Totals
-plusTotals a b = record { records = a .records + b .records; weight = a .weight + b .weight; oil = a .oil + b .oil }
 
 -- a scan that goes on to a partition of the records ds
 unfoldable pub scanMore : ℕ → ℕ → ℕ → Scan → List Delivery → Scan
@@ -38,7 +35,5 @@ scanOf b ns p n lo hi ds =
 
 -- a scan of at most m records in at most k partitions
 pub record Light (m k : ℕ) (s : Scan) : Type 0 where
-  pub few : s .totals .records ≤ m
-  pub light : s .totals .weight ≤ 100000 * m
-  pub little : s .totals .oil ≤ 1000000000 * m
+  pub light : LightTotals m (s .totals)
   pub short : s .blocks ≤ m + k

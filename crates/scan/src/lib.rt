@@ -1,23 +1,14 @@
 // Scans of a column's partitions (01): each is handed only its partition's part of each slice.
 ghost use mathlib.Core.Path.{_≡_};
-ghost use Prim.Native.Nat.{ℕ, _+_, _-_, _≤_, _<_};
+ghost use Prim.Native.Nat.{_+_, _-_, _≤_, _<_};
 ghost use lib.ListN.{length};
 ghost use Rattle.model.specs.Lists.{sumOf};
-ghost use Rattle.model.specs.Deliveries.{rows, noTotals};
+ghost use Rattle.model.specs.Deliveries.{rows};
+ghost use Rattle.model.specs.Partitions.{startOf};
 ghost use Rattle.model.specs.Accesses.{blocksOf, readsOf};
 ghost use Rattle.scan.specs.Scans.{badScan, scanMore, scanOf, Light};
 use model::Counts;
 use model::Totals;
-
-pub fn no_totals() -> Totals
-    ensures { λ r. ⌜ r ≡ noTotals ⌝ }
-{
-    Totals {
-        records: 0,
-        weight: 0,
-        oil: 0,
-    }
-}
 
 // How many blocks a partition of n records counts as.
 pub fn blocks_of(n: usize, b: u32) -> u64
@@ -53,7 +44,7 @@ pub struct Scan {
 fn bad_scan() -> Scan
     ensures { λ r. ⌜ r ≡ badScan ⌝ }
 {
-    let totals = no_totals();
+    let totals = slices::no_totals();
     Scan {
         good: false,
         totals,
@@ -72,14 +63,9 @@ fn scan_more(s: Scan, g: &[u32], w: &[u32], y: &[u32], b: u32, lo: u32, hi: u32)
     if !checks::values_ok(w, y) {
         return bad_scan();
     }
-    let old = s.totals;
-    let new = slices::totals(g, w, y, lo, hi);
+    let more = slices::totals(g, w, y, lo, hi);
+    let totals = slices::plus(s.totals, more);
     let blocks = s.blocks + blocks_of(g.len(), b);
-    let totals = Totals {
-        records: old.records + new.records,
-        weight: old.weight + new.weight,
-        oil: old.oil + new.oil,
-    };
     Scan {
         good: true,
         totals,
@@ -87,7 +73,7 @@ fn scan_more(s: Scan, g: &[u32], w: &[u32], y: &[u32], b: u32, lo: u32, hi: u32)
     }
 }
 
-// Partitions p to q, one after the other.
+// Partitions p to q, one after the other; p starts at start.
 pub fn scan_parts(
     g: &[u32],
     w: &[u32],
@@ -95,17 +81,18 @@ pub fn scan_parts(
     lens: &[u32],
     p: usize,
     q: usize,
+    start: usize,
     b: u32,
     lo: u32,
     hi: u32,
 ) -> Scan
-    requires { ⌜ (p ≤ q) × (q < length (now lens)) × (length (now lens) ≤ 64) × (sumOf (now lens) ≤ length (now g)) × (1 ≤ b) ⌝ }
+    requires { ⌜ (p ≤ q) × (q < length (now lens)) × (length (now lens) ≤ 64) × (sumOf (now lens) ≤ length (now g)) × (1 ≤ b) × (start ≡ startOf (now lens) p) ⌝ }
     requires { ⌜ (length (now g) ≤ 262144) × (length (now w) ≡ length (now g)) × (length (now y) ≡ length (now g)) ⌝ }
     ensures { λ r. ⌜ r ≡ scanOf b (now (lens .entry)) p (q + 1 - p) lo hi (rows (now (g .entry)) (now (w .entry)) (now (y .entry))) ⌝ }
 {
-    let mut at = slices::total(&lens[..p]) as usize;
+    let mut at = start;
     let mut i = p;
-    let none = no_totals();
+    let none = slices::no_totals();
     let mut s = Scan {
         good: true,
         totals: none,

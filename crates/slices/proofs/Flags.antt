@@ -1,12 +1,13 @@
 -- Loops that keep a flag: every number of a slice, or every two neighbours, pass a test. Assumes nothing.
 use Prim.Native.Nat.{ℕ, zero, suc, _+_, _≤_, _<_}
-use mathlib.Core.Path.{_≡_, refl, sym, ap, _∙_}
+use mathlib.Core.Path.{_≡_, refl, sym, ap, _∙_, subst}
 use mathlib.Core.Bool.{Bool, true, false, _&&_}
 use mathlib.Core.List.{List, [], _∷_}
 use native.Mathlib.Omega.{arith}
 use native.Mathlib.Numerals.{add-one}
 use borrow.Author.Tests.{eq-eqb, ne-eqb}
 use lib.Dec.{leb, ltb, eqb}
+use lib.Bits.{bitOr, or-add-and, and-le-l, and-le-r}
 use lib.ListN.{length, getD, drop, drop-of-length-le}
 use lib.Seq.{drop-cons}
 use Rattle.model.specs.Lists.{every, rising, neverFalls}
@@ -89,6 +90,11 @@ module _ (r : ℕ → ℕ → Bool) (s : List ℕ) (good : Bool) (i : ℕ) (h : 
   pub chain-bad : r (getD s i 0) (getD s (i + 1) 0) ≡ false → Chained r s false (i + 1)
   chain-bad e = record { at = omega arith; so-far = sym (and-false good) ∙ ap (λ (b : Bool). good && b) (sym (two false e)) ∙ w .so-far }
 
+  -- a flag that the test may have put out
+  pub chain-by : (b t : Bool) → r (getD s i 0) (getD s (i + 1) 0) ≡ b → t ≡ b && good → Chained r s t (i + 1)
+  chain-by true t e k = subst (λ (x : Bool). Chained r s x (i + 1)) (sym k) (chain-good e)
+  chain-by false t e k = subst (λ (x : Bool). Chained r s x (i + 1)) (sym k) (chain-bad e)
+
 short : (r : ℕ → ℕ → Bool) (s : List ℕ) (i : ℕ) → length s ≤ i + 1 → chain r (drop i s) ≡ true
 unfolding chain
 short r [] zero h = refl
@@ -106,3 +112,47 @@ zero-test n h = eq-eqb 0 n (omega arith)
 
 pub positive-test : (n : ℕ) → 0 < n → eqb 0 n ≡ false
 positive-test n h = ne-eqb 0 n (λ e. omega arith)
+
+-- two slices at once
+pub record BothZero (s u : List ℕ) (good : Bool) (i : ℕ) : Type 0 where
+  pub at : i ≤ length s
+  pub so-far : good && (every (eqb 0) (drop i s) && every (eqb 0) (drop i u)) ≡ every (eqb 0) s && every (eqb 0) u
+
+pub both-start : (s u : List ℕ) → BothZero s u true 0
+both-start s u = record { at = omega arith; so-far = refl }
+
+pairs : (a b c d : Bool) → a && c && (b && d) ≡ a && b && (c && d)
+pairs true true c d = refl
+pairs true false true d = refl
+pairs true false false d = refl
+pairs false b c d = refl
+
+module _ (s u : List ℕ) (good : Bool) (i : ℕ) (h : i < length s) (k : length u ≡ length s) (w : BothZero s u good i) where
+  next-two : every (eqb 0) (drop i s) && every (eqb 0) (drop i u) ≡ eqb 0 (getD s i 0) && eqb 0 (getD u i 0) && (every (eqb 0) (drop (i + 1) s) && every (eqb 0) (drop (i + 1) u))
+  unfolding every
+  next-two = rw (cons-at s i h, cons-at u i (omega arith)) (pairs (eqb 0 (getD s i 0)) (eqb 0 (getD u i 0)) (every (eqb 0) (drop (i + 1) s)) (every (eqb 0) (drop (i + 1) u)))
+
+  pub both-good : bitOr (getD s i 0) (getD u i 0) ≤ 0 → BothZero s u good (i + 1)
+  both-good z =
+      let a = or-add-and (getD s i 0) (getD u i 0) in
+      let l = and-le-l (getD s i 0) (getD u i 0) in
+      let r = and-le-r (getD s i 0) (getD u i 0) in
+      let e : every (eqb 0) (drop i s) && every (eqb 0) (drop i u) ≡ every (eqb 0) (drop (i + 1) s) && every (eqb 0) (drop (i + 1) u)
+      = next-two ∙ rw (zero-test (getD s i 0) (omega arith), zero-test (getD u i 0) (omega arith)) in
+      record { at = omega arith; so-far = ap (λ (b : Bool). good && b) (sym e) ∙ w .so-far }
+
+  one-not : (a b : ℕ) → 0 < bitOr a b → eqb 0 a && eqb 0 b ≡ false
+  one-not zero zero z = absurd (omega (arith, or-add-and 0 0))
+  one-not zero (suc b) z = rw (positive-test (suc b) (omega arith))
+  one-not (suc a) b z = rw (positive-test (suc a) (omega arith))
+
+  pub both-bad : 0 < bitOr (getD s i 0) (getD u i 0) → BothZero s u false (i + 1)
+  both-bad z =
+      let e : every (eqb 0) (drop i s) && every (eqb 0) (drop i u) ≡ false = next-two ∙ rw (one-not (getD s i 0) (getD u i 0) z) in
+      record { at = omega arith; so-far = sym (and-false good) ∙ ap (λ (b : Bool). good && b) (sym e) ∙ w .so-far }
+
+pub both-end : (s u : List ℕ) (good : Bool) (i : ℕ) → length s ≤ i → length u ≡ length s → BothZero s u good i → good ≡ every (eqb 0) s && every (eqb 0) u
+unfolding every
+both-end s u good i h k w =
+    let e : every (eqb 0) (drop i s) && every (eqb 0) (drop i u) ≡ true = rw (drop-of-length-le s h, drop-of-length-le u {i = i} (omega arith)) in
+    sym (and-true good) ∙ ap (λ (b : Bool). good && b) (sym e) ∙ w .so-far

@@ -2,3 +2,4 @@
 pub mod Flags
 pub mod Places
 pub mod Scans
+pub mod Sums

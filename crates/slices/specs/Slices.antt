@@ -1,11 +1,13 @@
--- Tests of all numbers of a slice, and of one record.
-use Prim.Native.Nat.{ℕ}
-use mathlib.Core.Bool.{Bool}
+-- Tests of all numbers of a slice and of one record, and totals.
+use Prim.Native.Nat.{ℕ, _+_, _*_, _≤_}
+use mathlib.Core.Path.{_≡_}
+use mathlib.Core.Bool.{Bool, _&&_}
 use mathlib.Core.List.{List}
-use lib.ListN.{getD}
-use lib.Dec.{leb, eqb}
+use lib.ListN.{length, getD}
+use lib.Dec.{T, leb, eqb}
 use Rattle.model.specs.declared.Delivery.{Delivery}
-use Rattle.model.specs.Lists.{every}
+use Rattle.model.specs.declared.Totals.{Totals}
+use Rattle.model.specs.Lists.{every, keep}
 use Rattle.model.specs.Deliveries.{delivery, same}
 
 -- none is above m
@@ -19,3 +21,24 @@ allZero s = every (eqb 0) s
 -- record i of three slices is the delivery
 abbrev pub sameAt : Delivery → List ℕ → List ℕ → List ℕ → ℕ → Bool
 sameAt d g w y i = same d (delivery (getD g i 0) (getD w i 0) (getD y i 0))
+
+-- how many are lo to hi
+abbrev pub countBetween : ℕ → ℕ → List ℕ → ℕ
+countBetween lo hi s = length (keep (λ (n : ℕ). leb lo n && leb n hi) s)
+
+-- three slices of one length, every weight and yield in range
+pub record Measured (g w y : List ℕ) : Type 0 where
+  pub few : length g ≤ 262144
+  pub even-weights : length w ≡ length g
+  pub even-yields : length y ≡ length g
+  pub good-weights : T (allWithin 100000 w)
+  pub good-yields : T (allWithin 10000 y)
+
+-- totals of at most m records
+pub record LightTotals (m : ℕ) (t : Totals) : Type 0 where
+  pub few : t .records ≤ m
+  pub light : t .weight ≤ 100000 * m
+  pub little : t .oil ≤ 1000000000 * m
+
+abbrev pub plusTotals : Totals → Totals → Totals
+plusTotals a b = record { records = a .records + b .records; weight = a .weight + b .weight; oil = a .oil + b .oil }

@@ -1,12 +1,14 @@
 // Loops over slices of numbers that several crates share. Each flag loop has one test and no early return, so that it is vectorised.
 ghost use mathlib.Core.Path.{_≡_};
-ghost use Prim.Native.Nat.{ℕ, _+_, _≤_, _<_};
-ghost use lib.ListN.{length, getD};
+ghost use mathlib.Core.Bool.{_&&_};
+ghost use Prim.Native.Nat.{_+_, _≤_, _<_};
+ghost use lib.ListN.{length};
 ghost use lib.Dec.{T};
 ghost use Rattle.model.specs.Lists.{sumOf, rising, neverFalls};
 ghost use Rattle.model.specs.Place.{place};
-ghost use Rattle.model.specs.Deliveries.{rows, totalsBetween, firstMatch};
-ghost use Rattle.slices.specs.Slices.{allWithin, allZero, sameAt};
+ghost use Rattle.model.specs.Partitions.{startOf};
+ghost use Rattle.model.specs.Deliveries.{rows, noTotals, totalsOf, totalsBetween, firstMatch};
+ghost use Rattle.slices.specs.Slices.{allWithin, allZero, sameAt, countBetween, Measured, LightTotals, plusTotals};
 use model::Delivery;
 use model::Totals;
 
@@ -26,14 +28,15 @@ pub fn within(s: &[u32], most: u32) -> bool
     good
 }
 
-// Whether all of s are 0.
-pub fn zeros(s: &[u32]) -> bool
-    ensures { λ r. ⌜ r ≡ allZero (now (s .entry)) ⌝ }
+// Whether all of two slices of one length are 0.
+pub fn zeros(s: &[u32], u: &[u32]) -> bool
+    requires { ⌜ length (now u) ≡ length (now s) ⌝ }
+    ensures { λ r. ⌜ r ≡ allZero (now (s .entry)) && allZero (now (u .entry)) ⌝ }
 {
     let mut good = true;
     let mut i = 0;
     while i < s.len() {
-        let x = s[i];
+        let x = s[i] | u[i];
         i += 1;
         if 0 < x {
             good = false;
@@ -92,11 +95,11 @@ pub fn total(s: &[u32]) -> u64
 
 // The place of g among rising keys: how many of all but the last are less.
 pub fn place_of(keys: &[u32], g: u32) -> usize
-    requires { ⌜ (1 ≤ length (now keys)) × T (rising (now keys)) ⌝ }
+    requires { ⌜ (1 ≤ length (now keys)) × (length (now keys) ≤ 64) × T (rising (now keys)) ⌝ }
     ensures { λ r. ⌜ r ≡ place (now (keys .entry)) g ⌝ }
 {
     let last = keys.len() - 1;
-    let mut t: usize = 0;
+    let mut t: u32 = 0;
     let mut i = 0;
     while i < last {
         let k = keys[i];
@@ -105,13 +108,117 @@ pub fn place_of(keys: &[u32], g: u32) -> usize
             t += 1;
         }
     }
-    t
+    t as usize
 }
 
-// The records whose grower is lo to hi: how many, their weight and their oil.
-pub fn totals(g: &[u32], w: &[u32], y: &[u32], lo: u32, hi: u32) -> Totals
-    requires { ⌜ (length (now g) ≤ 262144) × (length (now w) ≡ length (now g)) × (length (now y) ≡ length (now g)) ⌝ }
-    requires { ⌜ T (allWithin 100000 (now w)) × T (allWithin 10000 (now y)) ⌝ }
+// What one pass over the lengths and fences of partitions finds: do the fences rise, how many slots are used, and of a grower its partition and where that starts.
+pub struct Survey {
+    pub rising: bool,
+    pub used: usize,
+    pub target: usize,
+    pub start: usize,
+}
+
+// Each sum has its own test, so that the pass is vectorised.
+pub fn surveyed(lens: &[u32], fences: &[u32], g: u32) -> Survey
+    requires { ⌜ (1 ≤ length (now lens)) × (length (now lens) ≤ 64) × (length (now fences) ≡ length (now lens)) ⌝ }
+    ensures { λ r. ⌜ (r .rising ≡ rising (now (fences .entry))) × (r .used ≡ sumOf (now (lens .entry)))
+        × (T (rising (now (fences .entry))) → (r .target ≡ place (now (fences .entry)) g) × (r .start ≡ startOf (now (lens .entry)) (place (now (fences .entry)) g))) ⌝ }
+{
+    let mut rising = true;
+    let mut used: usize = 0;
+    let mut target: u32 = 0;
+    let mut start: usize = 0;
+    let mut i = 0;
+    while i + 1 < fences.len() {
+        let n = lens[i] as usize;
+        let x = fences[i];
+        i += 1;
+        let z = fences[i];
+        used += n;
+        if z <= x {
+            rising = false;
+        }
+        if x < g {
+            target += 1;
+            start += n;
+        }
+    }
+    Survey {
+        rising,
+        used: used + lens[i] as usize,
+        target: target as usize,
+        start,
+    }
+}
+
+pub fn no_totals() -> Totals
+    ensures { λ r. ⌜ r ≡ noTotals ⌝ }
+{
+    Totals {
+        records: 0,
+        weight: 0,
+        oil: 0,
+    }
+}
+
+// The totals of two lists of records.
+pub fn plus(a: Totals, b: Totals) -> Totals
+    requires { ⌜ LightTotals 262144 a × LightTotals 262144 b ⌝ }
+    ensures { λ r. ⌜ r ≡ plusTotals a b ⌝ }
+{
+    Totals {
+        records: a.records + b.records,
+        weight: a.weight + b.weight,
+        oil: a.oil + b.oil,
+    }
+}
+
+// How many growers are lo to hi.
+fn count_between(g: &[u32], lo: u32, hi: u32) -> usize
+    requires { ⌜ length (now g) ≤ 262144 ⌝ }
+    ensures { λ r. ⌜ r ≡ countBetween lo hi (now (g .entry)) ⌝ }
+{
+    let mut n: u32 = 0;
+    let mut i = 0;
+    while i < g.len() {
+        let x = g[i];
+        i += 1;
+        if lo <= x {
+            if x <= hi {
+                n += 1;
+            }
+        }
+    }
+    n as usize
+}
+
+// All records: how many, their weight and their oil.
+fn total_all(g: &[u32], w: &[u32], y: &[u32]) -> Totals
+    requires { ⌜ Measured (now g) (now w) (now y) ⌝ }
+    ensures { λ r. ⌜ r ≡ totalsOf (rows (now (g .entry)) (now (w .entry)) (now (y .entry))) ⌝ }
+{
+    let mut weight: u64 = 0;
+    let mut oil: u64 = 0;
+    let mut i = 0;
+    while i < g.len() {
+        let a = w[i] as u64;
+        let b = y[i] as u64;
+        let c = a * b;
+        i += 1;
+        weight += a;
+        oil += c;
+    }
+    Totals {
+        records: i as u64,
+        weight,
+        oil,
+    }
+}
+
+// The records whose grower is lo to hi, each tested.
+fn total_tested(g: &[u32], w: &[u32], y: &[u32], lo: u32, hi: u32) -> Totals
+    requires { ⌜ Measured (now g) (now w) (now y) ⌝ }
     ensures { λ r. ⌜ r ≡ totalsBetween lo hi (rows (now (g .entry)) (now (w .entry)) (now (y .entry))) ⌝ }
 {
     let mut records: u64 = 0;
@@ -137,6 +244,39 @@ pub fn totals(g: &[u32], w: &[u32], y: &[u32], lo: u32, hi: u32) -> Totals
         weight,
         oil,
     }
+}
+
+// The records whose grower is lo to hi. Counting is cheaper than adding: where none is, or all are, no record is tested again.
+fn total_stride(g: &[u32], w: &[u32], y: &[u32], lo: u32, hi: u32) -> Totals
+    requires { ⌜ Measured (now g) (now w) (now y) ⌝ }
+    ensures { λ r. ⌜ r ≡ totalsBetween lo hi (rows (now (g .entry)) (now (w .entry)) (now (y .entry))) ⌝ }
+{
+    let n = count_between(g, lo, hi);
+    if n < 1 {
+        return no_totals();
+    }
+    if n == g.len() {
+        return total_all(g, w, y);
+    }
+    total_tested(g, w, y, lo, hi)
+}
+
+// The records whose grower is lo to hi: how many, their weight and their oil; 64 at a time.
+pub fn totals(g: &[u32], w: &[u32], y: &[u32], lo: u32, hi: u32) -> Totals
+    requires { ⌜ Measured (now g) (now w) (now y) ⌝ }
+    ensures { λ r. ⌜ r ≡ totalsBetween lo hi (rows (now (g .entry)) (now (w .entry)) (now (y .entry))) ⌝ }
+{
+    let mut t = no_totals();
+    let mut i = 0;
+    while 64 <= g.len() - i {
+        let e = i + 64;
+        let u = total_stride(&g[i..e], &w[i..e], &y[i..e], lo, hi);
+        t = plus(t, u);
+        i = e;
+    }
+    let e = g.len();
+    let u = total_tested(&g[i..e], &w[i..e], &y[i..e], lo, hi);
+    plus(t, u)
 }
 
 // Whether record i is the delivery.

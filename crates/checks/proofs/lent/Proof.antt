@@ -1,9 +1,6 @@
 -- `checks::lent` meets its contract. Assumes nothing.
-use Prim.Native.Nat.{ℕ, _+_, _-_, _*_, _≤_, _<_}
-use mathlib.Core.Path.{_≡_, refl, sym, ap, _∙_}
-use native.Mathlib.Omega.{arith}
+use mathlib.Core.Path.{refl, sym, _∙_}
 use borrow.Author.Needs.{needs}
-use mathlib.Core.Bool.{Bool, true, false, not}
 use borrow.Author.Tests.{not-true, not-false}
 use lib.ListN.{length}
 use Rattle.checks.proofs.Answers.{fails, passes, shape-refused, shape-judged}
@@ -17,7 +14,7 @@ refused-requires : tie.Need-refused-requires
 refused-requires c κs = search needs
 
 returns : tie.Need-returns
-returns c = let g = c .before .before .before .before .before .before .before .args in c .refused .ensures ∙ shape-refused (g .directory .now) 1 _ (fails 2 _ _ (sym (c .before .before .directory-block-ok .ensures) ∙ not-true _ (c .before .if1 .taken)))
+returns c = let g = c .before .before .before .before .before .before .before .args in c .refused .ensures ∙ shape-refused (g .directory .now) (g .grower) 1 _ (fails 2 _ _ (sym (c .before .before .directory-block-ok .ensures) ∙ not-true _ (c .before .if1 .taken)))
 
 slices-ok-requires : tie.Need-slices-ok-requires
 slices-ok-requires c κs = search needs
@@ -26,13 +23,13 @@ refused-requires-2 : tie.Need-refused-requires-2
 refused-requires-2 c κs = search needs
 
 returns-2 : tie.Need-returns-2
-returns-2 c = let g = c .before .before .before .before .before .before .before .before .before .args in c .refused2 .ensures ∙ shape-refused (g .directory .now) 2 _ (passes 2 3 _ _ (sym (c .before .before .before .before .directory-block-ok .ensures) ∙ not-false _ (c .before .before .before .if1 .left)) (fails 3 _ _ (sym (c .before .before .slices-ok .ensures) ∙ not-true _ (c .before .if2 .taken))))
+returns-2 c = let g = c .before .before .before .before .before .before .before .before .before .args in c .refused2 .ensures ∙ shape-refused (g .directory .now) (g .grower) 2 _ (passes 2 3 _ _ (sym (c .before .before .before .before .directory-block-ok .ensures) ∙ not-false _ (c .before .before .before .if1 .left)) (fails 3 _ _ (sym (c .before .before .slices-ok .ensures) ∙ not-true _ (c .before .if2 .taken))))
 
 judged-requires : tie.Need-judged-requires
 judged-requires c κs = search needs
 
 returns-3 : tie.Need-returns-3
-returns-3 c = let g = c .before .before .before .before .before .before .before .before .before .args in c .judged .ensures ∙ shape-judged (g .directory .now) (length (g .g .now)) _ (sym (passes 2 _ _ _ (sym (c .before .before .before .before .directory-block-ok .ensures) ∙ not-false _ (c .before .before .before .if1 .left)) (passes 3 _ _ _ (sym (c .before .before .slices-ok .ensures) ∙ not-false _ (c .before .if2 .left)) refl)))
+returns-3 c = let g = c .before .before .before .before .before .before .before .before .before .args in c .judged .ensures ∙ shape-judged (g .directory .now) (g .grower) (length (g .g .now)) _ (sym (passes 2 _ _ _ (sym (c .before .before .before .before .directory-block-ok .ensures) ∙ not-false _ (c .before .before .before .if1 .left)) (passes 3 _ _ _ (sym (c .before .before .slices-ok .ensures) ∙ not-false _ (c .before .if2 .left)) refl)))
 
 pub lent-spec : {M : Type 1} → statement M
 lent-spec =

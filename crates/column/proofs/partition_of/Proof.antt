@@ -1,14 +1,11 @@
 -- `column::partition_of` meets its contract. Assumes nothing.
-use Prim.Native.Nat.{ℕ, _+_, _-_, _*_, _≤_, _<_}
-use mathlib.Core.Path.{_≡_, refl, sym, ap, _∙_}
+use Prim.Native.Nat.{ℕ}
+use mathlib.Core.Path.{ap, _∙_}
 use native.Mathlib.Omega.{arith}
 use borrow.Author.Needs.{needs}
 use mathlib.Core.List.{List}
-use lib.Dec.{T}
-use lib.ListN.{length, getD, take, drop, length-take, length-drop}
-use Rattle.model.specs.Lists.{sumOf, rising}
 use Rattle.model.specs.Place.{place}
-use Rattle.column.proofs.LentColumns.{LentColumn, lent-column, the-lengths, count-lengths, count-fences, held-directory, held, dir-size, dir-some, dir-few, dir-fences, dir-count, dir-rises, dir-ahead, dir-length, dir-start, dir-fits}
+use Rattle.column.proofs.LentColumns.{dir-size, dir-some, dir-few, dir-fences, dir-count, dir-rises}
 use Rattle.column.proofs.partition_of.Statement.{statement}
 use Rattle.column.proofs.partition_of.Tie as tie
 
@@ -31,7 +28,7 @@ part-place-of-end : tie.Need-part-place-of-end
 part-place-of-end c = let g = c .before .before .args in omega (arith, dir-size (g .directory .now) (c .before .before .pre), dir-few (g .directory .now) (c .before .before .pre))
 
 place-of-requires : tie.Need-place-of-requires
-place-of-requires c κs = let g = c .before .before .before .args in let ns = g .directory .now in rw (dir-fences ns (c .before .before .before .pre)) (omega (arith, dir-count ns (c .before .before .before .pre), dir-some ns (c .before .before .before .pre)), dir-rises ns (c .before .before .before .pre))
+place-of-requires c κs = let g = c .before .before .before .args in let ns = g .directory .now in rw (dir-fences ns (c .before .before .before .pre)) (omega (arith, dir-count ns (c .before .before .before .pre), dir-some ns (c .before .before .before .pre)), omega (arith, dir-count ns (c .before .before .before .pre), dir-few ns (c .before .before .before .pre)), dir-rises ns (c .before .before .before .pre))
 
 returns : tie.Need-returns
 returns c = let g = c .before .before .before .before .args in c .place-of .ensures ∙ ap (λ (l : List ℕ). place l (g .g)) (dir-fences (g .directory .now) (c .before .before .before .before .pre))

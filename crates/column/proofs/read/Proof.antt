@@ -1,39 +1,29 @@
 -- `column::read` meets its contract. Assumes nothing.
-use Prim.Native.Nat.{ℕ, _+_, _-_, _*_, _≤_, _<_}
-use mathlib.Core.Path.{_≡_, refl, sym, ap, _∙_}
+use Prim.Native.Nat.{_+_, _-_}
+use mathlib.Core.Path.{_≡_, _∙_}
 use native.Mathlib.Omega.{arith}
 use borrow.Author.Needs.{needs}
-use lib.Dec.{T}
-use lib.ListN.{length, getD, take, drop, length-take, length-drop}
-use Rattle.model.specs.Lists.{sumOf, rising}
-use Rattle.model.specs.Place.{place}
-use Rattle.column.proofs.LentColumns.{LentColumn, lent-column, the-lengths, count-lengths, count-fences, held-directory, held, dir-size, dir-some, dir-few, dir-fences, dir-count, dir-rises, dir-ahead, dir-length, dir-start, dir-fits}
-use mathlib.Core.Bool.{Bool, true, false}
 use borrow.Author.Tests.{not-true, not-false}
-use Rattle.model.specs.Deliveries.{rows}
-use Rattle.model.specs.Column.{lengthsOf}
+use lib.ListN.{getD}
+use Rattle.model.specs.Column.{slots, lengthsOf, target}
 use Rattle.checks.specs.Lent.{columnOf}
-use Rattle.scan.specs.declared.Scan.{Scan}
 use Rattle.scan.specs.Scans.{scanOf}
+use Rattle.column.proofs.LentColumns.{lent-column, the-lengths, count-lengths, held-directory}
 use Rattle.column.proofs.Reading.{good-scan, blocks-some, target-there, targets-ordered, range-bad, range-good}
-use Rattle.model.specs.Column.{target}
 use Rattle.column.proofs.read.Statement.{statement}
 use Rattle.column.proofs.read.Tie as tie
 
-shared-slice-read-a : tie.Need-shared-slice-read-a
-shared-slice-read-a c = let g = c .before .before .before .before .before .args in let col = columnOf (g .directory .now) (g .g .now) (g .w .now) (g .y .now) in let l = lent-column col (c .before .before .before .before .before .pre .0) in omega (arith, l .shape .size, l .shape .few)
+shared-slice-read-l : tie.Need-shared-slice-read-l
+shared-slice-read-l c = let g = c .before .before .before .before .before .args in let col = columnOf (g .directory .now) (g .g .now) (g .w .now) (g .y .now) in let p = c .before .before .before .before .before .pre in let l = lent-column col (p .0) in omega (arith, l .shape .size, l .shape .few)
 
-cast-a : tie.Need-cast-a
-cast-a c = let g = c .before .before .before .before .before .args in let col = columnOf (g .directory .now) (g .g .now) (g .w .now) (g .y .now) in let l = lent-column col (c .before .before .before .before .before .pre .0) in omega (arith, l .shape .size, l .shape .few)
+cast-l : tie.Need-cast-l
+cast-l c = let g = c .before .before .before .before .before .args in let col = columnOf (g .directory .now) (g .g .now) (g .w .now) (g .y .now) in let p = c .before .before .before .before .before .pre in let l = lent-column col (p .0) in omega (arith, l .shape .size, l .shape .few)
 
-add-a : tie.Need-add-a
-add-a c = let g = c .before .before .before .before .before .args in let col = columnOf (g .directory .now) (g .g .now) (g .w .now) (g .y .now) in let l = lent-column col (c .before .before .before .before .before .pre .0) in omega (arith, l .shape .size, l .shape .few)
+add-l : tie.Need-add-l
+add-l c = let g = c .before .before .before .before .before .args in let col = columnOf (g .directory .now) (g .g .now) (g .w .now) (g .y .now) in let p = c .before .before .before .before .before .pre in let l = lent-column col (p .0) in omega (arith, l .shape .size, l .shape .few)
 
 partition-of-requires : tie.Need-partition-of-requires
-partition-of-requires c κs = let g = c .before .before .before .before .before .args in let col = columnOf (g .directory .now) (g .g .now) (g .w .now) (g .y .now) in let l = lent-column col (c .before .before .before .before .before .pre .0) in held-directory col l
-
-partition-of-requires-2 : tie.Need-partition-of-requires-2
-partition-of-requires-2 c κs = let g = c .before .before .before .before .before .before .args in let col = columnOf (g .directory .now) (g .g .now) (g .w .now) (g .y .now) in let l = lent-column col (c .before .before .before .before .before .before .pre .0) in held-directory col l
+partition-of-requires c κs = let g = c .before .before .before .before .before .args in let col = columnOf (g .directory .now) (g .g .now) (g .w .now) (g .y .now) in let p = c .before .before .before .before .before .pre in let l = lent-column col (p .0) in held-directory col l
 
 sub-scan-parts : tie.Need-sub-scan-parts
 sub-scan-parts c = search needs
@@ -42,38 +32,34 @@ part-scan-parts-start : tie.Need-part-scan-parts-start
 part-scan-parts-start c = search needs
 
 part-scan-parts-end : tie.Need-part-scan-parts-end
-part-scan-parts-end c = let g = c .before .before .before .before .before .before .before .args in let col = columnOf (g .directory .now) (g .g .now) (g .w .now) (g .y .now) in let l = lent-column col (c .before .before .before .before .before .before .before .pre .0) in omega (arith, l .shape .size, l .shape .few)
+part-scan-parts-end c = let g = c .before .before .before .before .before .before .args in let col = columnOf (g .directory .now) (g .g .now) (g .w .now) (g .y .now) in let p = c .before .before .before .before .before .before .pre in let l = lent-column col (p .0) in omega (arith, l .shape .size, l .shape .few)
 
 shared-slice-read-scan-parts : tie.Need-shared-slice-read-scan-parts
-shared-slice-read-scan-parts c = let g = c .before .before .before .before .before .before .before .before .before .args in let col = columnOf (g .directory .now) (g .g .now) (g .w .now) (g .y .now) in let l = lent-column col (c .before .before .before .before .before .before .before .before .before .pre .0) in omega (arith, l .shape .size, l .shape .few)
+shared-slice-read-scan-parts c = let g = c .before .before .before .before .before .before .before .before .args in let col = columnOf (g .directory .now) (g .g .now) (g .w .now) (g .y .now) in let p = c .before .before .before .before .before .before .before .before .pre in let l = lent-column col (p .0) in omega (arith, l .shape .size, l .shape .few)
 
 scan-parts-requires : tie.Need-scan-parts-requires
-scan-parts-requires c κs = let g = c .before .before .before .before .before .before .before .before .before .args in let col = columnOf (g .directory .now) (g .g .now) (g .w .now) (g .y .now) in let l = lent-column col (c .before .before .before .before .before .before .before .before .before .pre .0) in let h = c .before .before .before .before .before .before .before .before .before .pre .0 in rw (the-lengths col l, c .before .before .before .partition-of .ensures, c .before .before .partition-of2 .ensures) ((targets-ordered col h (g .lo) (g .hi) (c .before .before .before .before .before .before .before .before .before .pre .1), target-there col h (g .hi), omega (arith, count-lengths col l, l .shape .few), l .shape .room, l .block), (l .most, l .even-weights, l .even-yields))
+scan-parts-requires c κs = let g = c .before .before .before .before .before .before .before .before .args in let col = columnOf (g .directory .now) (g .g .now) (g .w .now) (g .y .now) in let p = c .before .before .before .before .before .before .before .before .pre in let l = lent-column col (p .0) in rw (the-lengths col l, c .before .before .partition-of .ensures) ((rw (p .2) (targets-ordered col (p .0) (g .lo) (g .hi) (p .1)), target-there col (p .0) (g .hi), omega (arith, count-lengths col l, l .shape .few), l .shape .room, l .block, p .3), (l .most, l .even-weights, l .even-yields))
 
 refused-requires : tie.Need-refused-requires
 refused-requires c κs = search needs
 
 returns : tie.Need-returns
-returns c = let g = c .before .before .before .before .before .before .before .before .before .before .before .before .before .args in let col = columnOf (g .directory .now) (g .g .now) (g .w .now) (g .y .now) in let l = lent-column col (c .before .before .before .before .before .before .before .before .before .before .before .before .before .pre .0) in let e : c .before .before .before .scan-parts .result ≡ scanOf (getD (g .directory .now) 0 0) (lengthsOf 64 col) (target 64 col (g .lo)) (target 64 col (g .hi) + 1 - target 64 col (g .lo)) (g .lo) (g .hi) (rows (g .g .now) (g .w .now) (g .y .now))
-    = rw (the-lengths col l, c .before .before .before .before .before .before .before .partition-of .ensures, c .before .before .before .before .before .before .partition-of2 .ensures) at (c .before .before .before .scan-parts .ensures) in c .refused .ensures ∙ range-bad col (c .before .before .before .before .before .before .before .before .before .before .before .before .before .pre .0) (g .lo) (g .hi) (c .before .before .before .before .before .before .before .before .before .before .before .before .before .pre .1) _ e (not-true _ (c .before .if1 .taken))
+returns c = let g = c .before .before .before .before .before .before .before .before .before .before .before .before .args in let col = columnOf (g .directory .now) (g .g .now) (g .w .now) (g .y .now) in let p = c .before .before .before .before .before .before .before .before .before .before .before .before .pre in let l = lent-column col (p .0) in let e : c .before .before .before .scan-parts .result ≡ scanOf (getD (g .directory .now) 0 0) (lengthsOf 64 col) (target 64 col (g .lo)) (target 64 col (g .hi) + 1 - target 64 col (g .lo)) (g .lo) (g .hi) (slots col) = rw (the-lengths col l, p .2, c .before .before .before .before .before .before .partition-of .ensures) at (c .before .before .before .scan-parts .ensures) in c .refused .ensures ∙ range-bad col (p .0) (g .lo) (g .hi) (p .1) _ e (not-true _ (c .before .if1 .taken))
 
 reads-of-requires : tie.Need-reads-of-requires
-reads-of-requires c κs = let g = c .before .before .before .before .before .before .before .before .before .before .before .before .args in let col = columnOf (g .directory .now) (g .g .now) (g .w .now) (g .y .now) in let l = lent-column col (c .before .before .before .before .before .before .before .before .before .before .before .before .pre .0) in let e : c .before .before .scan-parts .result ≡ scanOf (getD (g .directory .now) 0 0) (lengthsOf 64 col) (target 64 col (g .lo)) (target 64 col (g .hi) + 1 - target 64 col (g .lo)) (g .lo) (g .hi) (rows (g .g .now) (g .w .now) (g .y .now))
-    = rw (the-lengths col l, c .before .before .before .before .before .before .partition-of .ensures, c .before .before .before .before .before .partition-of2 .ensures) at (c .before .before .scan-parts .ensures) in rw (good-scan _ _ _ _ (g .lo) (g .hi) _ _ e (not-false _ (c .if1 .left)) .blocks) (blocks-some _ (lengthsOf 64 col) (target 64 col (g .lo)) (target 64 col (g .hi)) (targets-ordered col (c .before .before .before .before .before .before .before .before .before .before .before .before .pre .0) (g .lo) (g .hi) (c .before .before .before .before .before .before .before .before .before .before .before .before .pre .1)) (target-there col (c .before .before .before .before .before .before .before .before .before .before .before .before .pre .0) (g .hi)))
+reads-of-requires c κs = let g = c .before .before .before .before .before .before .before .before .before .before .before .args in let col = columnOf (g .directory .now) (g .g .now) (g .w .now) (g .y .now) in let p = c .before .before .before .before .before .before .before .before .before .before .before .pre in let l = lent-column col (p .0) in let e : c .before .before .scan-parts .result ≡ scanOf (getD (g .directory .now) 0 0) (lengthsOf 64 col) (target 64 col (g .lo)) (target 64 col (g .hi) + 1 - target 64 col (g .lo)) (g .lo) (g .hi) (slots col) = rw (the-lengths col l, p .2, c .before .before .before .before .before .partition-of .ensures) at (c .before .before .scan-parts .ensures) in rw (good-scan _ _ _ _ (g .lo) (g .hi) _ _ e (not-false _ (c .if1 .left)) .blocks) (blocks-some _ (lengthsOf 64 col) (target 64 col (g .lo)) (target 64 col (g .hi)) (targets-ordered col (p .0) (g .lo) (g .hi) (p .1)) (target-there col (p .0) (g .hi)))
 
 returns-2 : tie.Need-returns-2
-returns-2 c = let g = c .before .before .before .before .before .before .before .before .before .before .before .before .before .before .args in let col = columnOf (g .directory .now) (g .g .now) (g .w .now) (g .y .now) in let l = lent-column col (c .before .before .before .before .before .before .before .before .before .before .before .before .before .before .pre .0) in let e : c .before .before .before .before .scan-parts .result ≡ scanOf (getD (g .directory .now) 0 0) (lengthsOf 64 col) (target 64 col (g .lo)) (target 64 col (g .hi) + 1 - target 64 col (g .lo)) (g .lo) (g .hi) (rows (g .g .now) (g .w .now) (g .y .now))
-    = rw (the-lengths col l, c .before .before .before .before .before .before .before .before .partition-of .ensures, c .before .before .before .before .before .before .before .partition-of2 .ensures) at (c .before .before .before .before .scan-parts .ensures) in range-good col (c .before .before .before .before .before .before .before .before .before .before .before .before .before .before .pre .0) (g .lo) (g .hi) (c .before .before .before .before .before .before .before .before .before .before .before .before .before .before .pre .1) _ e _ (not-false _ (c .before .before .if1 .left)) (c .before .reads-of .ensures)
+returns-2 c = let g = c .before .before .before .before .before .before .before .before .before .before .before .before .before .args in let col = columnOf (g .directory .now) (g .g .now) (g .w .now) (g .y .now) in let p = c .before .before .before .before .before .before .before .before .before .before .before .before .before .pre in let l = lent-column col (p .0) in let e : c .before .before .before .before .scan-parts .result ≡ scanOf (getD (g .directory .now) 0 0) (lengthsOf 64 col) (target 64 col (g .lo)) (target 64 col (g .hi) + 1 - target 64 col (g .lo)) (g .lo) (g .hi) (slots col) = rw (the-lengths col l, p .2, c .before .before .before .before .before .before .before .partition-of .ensures) at (c .before .before .before .before .scan-parts .ensures) in range-good col (p .0) (g .lo) (g .hi) (p .1) _ e _ (not-false _ (c .before .before .if1 .left)) (c .before .reads-of .ensures)
 
 pub read-spec : {M : Type 1} → statement M
 read-spec =
     tie.close
     (tie.spec
-    shared-slice-read-a
-    cast-a
-    add-a
+    shared-slice-read-l
+    cast-l
+    add-l
     partition-of-requires
-    partition-of-requires-2
     sub-scan-parts
     part-scan-parts-start
     part-scan-parts-end

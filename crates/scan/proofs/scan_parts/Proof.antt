@@ -1,41 +1,26 @@
 -- `scan::scan_parts` meets its contract. Assumes nothing.
-use Prim.Native.Nat.{ℕ, _+_, _-_, _*_, _≤_, _<_}
-use mathlib.Core.Path.{_≡_, refl, sym, ap, _∙_}
+use Prim.Native.Nat.{_+_, _-_}
 use native.Mathlib.Omega.{arith}
 use borrow.Author.Needs.{needs}
-use mathlib.Core.Bool.{true}
-use lib.ListN.{length, take, drop, getD, length-take, length-drop}
-use lib.Seq.{length-take-le}
-use Rattle.model.specs.Lists.{sumOf}
-use Rattle.model.specs.Deliveries.{rows, noTotals}
-use Rattle.model.specs.Partitions.{startOf}
-use Rattle.model.proofs.Parts.{start-is, stop-le}
+use lib.ListN.{getD}
+use Rattle.model.specs.Deliveries.{rows}
+use Rattle.model.proofs.Parts.{stop-le}
 use Rattle.model.proofs.Deliveries.{length-rows}
-use Rattle.scan.specs.declared.Scan.{Scan}
-use Rattle.model.specs.declared.Totals.{Totals}
 use Rattle.scan.proofs.Scanning.{Scanning, even-parts, scanning-start, scanning-next, scanning-light, scanning-end}
 use Rattle.scan.proofs.scan_parts.Statement.{statement}
 use Rattle.scan.proofs.scan_parts.Tie as tie
 
 abbrev Inv-loop : tie.InvT-loop
-Inv-loop g w y lens p q b lo hi at₀ i₀ s₀ at i s = Scanning b lens p q lo hi (rows g w y) at i s
+Inv-loop g w y lens p q start b lo hi at₀ i₀ s₀ at i s = Scanning b lens p q lo hi (rows g w y) at i s
 
 abbrev μ-loop : tie.MeasureT-loop
-μ-loop g w y lens p q b lo hi at₀ i₀ s₀ at i s = q + 1 - i
-
-slice-aggregate-total : tie.Need-slice-aggregate-total Inv-loop μ-loop
-slice-aggregate-total c = let g = c .before .before .before .before .before .args in sym (length-take-le (g .p) (g .lens .now) (omega arith))
-
-total-requires : tie.Need-total-requires Inv-loop μ-loop
-total-requires c κs = simp length-take (omega arith)
+μ-loop g w y lens p q start b lo hi at₀ i₀ s₀ at i s = q + 1 - i
 
 no-totals-requires : tie.Need-no-totals-requires Inv-loop μ-loop
-no-totals-requires c κs = omega arith
+no-totals-requires c κs = search needs
 
 loop-holds : tie.Need-loop-holds Inv-loop μ-loop
-loop-holds c =
-    let g = c .before .before .before .before .before .before .before .args in
-    rw (c .no-totals .ensures) (scanning-start (g .b) (g .lens .now) (g .p) (g .q) (g .lo) (g .hi) (rows (g .g .now) (g .w .now) (g .y .now)) _ (omega arith) (c .before .total .ensures ∙ start-is (g .lens .now) (g .p)))
+loop-holds c = let g = c .before .before .before .before .before .args in rw (c .no-totals .ensures) (scanning-start (g .b) (g .lens .now) (g .p) (g .q) (g .lo) (g .hi) (rows (g .g .now) (g .w .now) (g .y .now)) (g .start) (omega arith) (c .before .before .before .before .before .pre .0 .5))
 
 mul-e : tie.Need-mul-e Inv-loop μ-loop
 mul-e c = search needs
@@ -47,49 +32,49 @@ cast-e : tie.Need-cast-e Inv-loop μ-loop
 cast-e c = omega (arith, c .shared-slice-known5 .given (c .before .before .loop .i))
 
 add-e : tie.Need-add-e Inv-loop μ-loop
-add-e c = let g = c .before .before .before .before .before .before .before .before .before .before .args in let w = c .before .before .loop in omega (arith, w .inv .here, stop-le (g .lens .now) (w .i) (omega arith))
+add-e c = let g = c .before .before .before .before .before .before .before .before .args in let w = c .before .before .loop in omega (arith, w .inv .here, stop-le (g .lens .now) (w .i) (omega arith))
 
 mul-scan-more : tie.Need-mul-scan-more Inv-loop μ-loop
-mul-scan-more c = let g = c .before .before .before .before .before .before .before .before .before .before .args in let w = c .before .before .loop in omega (arith, w .inv .here, stop-le (g .lens .now) (w .i) (omega arith))
+mul-scan-more c = let g = c .before .before .before .before .before .before .before .before .args in let w = c .before .before .loop in omega (arith, w .inv .here, stop-le (g .lens .now) (w .i) (omega arith))
 
 sub-scan-more : tie.Need-sub-scan-more Inv-loop μ-loop
-sub-scan-more c = let g = c .before .before .before .before .before .before .before .before .before .before .args in let w = c .before .before .loop in omega (arith, w .inv .here, stop-le (g .lens .now) (w .i) (omega arith))
+sub-scan-more c = let g = c .before .before .before .before .before .before .before .before .args in let w = c .before .before .loop in omega (arith, w .inv .here, stop-le (g .lens .now) (w .i) (omega arith))
 
 part-scan-more-start : tie.Need-part-scan-more-start Inv-loop μ-loop
-part-scan-more-start c = let g = c .before .before .before .before .before .before .before .before .before .before .args in let w = c .before .before .loop in omega (arith, w .inv .here, stop-le (g .lens .now) (w .i) (omega arith))
+part-scan-more-start c = let g = c .before .before .before .before .before .before .before .before .args in let w = c .before .before .loop in omega (arith, w .inv .here, stop-le (g .lens .now) (w .i) (omega arith))
 
 part-scan-more-end : tie.Need-part-scan-more-end Inv-loop μ-loop
-part-scan-more-end c = let g = c .before .before .before .before .before .before .before .before .before .before .args in let w = c .before .before .loop in omega (arith, w .inv .here, stop-le (g .lens .now) (w .i) (omega arith))
+part-scan-more-end c = let g = c .before .before .before .before .before .before .before .before .args in let w = c .before .before .loop in omega (arith, w .inv .here, stop-le (g .lens .now) (w .i) (omega arith))
 
 mul-scan-more-2 : tie.Need-mul-scan-more-2 Inv-loop μ-loop
-mul-scan-more-2 c = let g = c .before .before .before .before .before .before .before .before .before .before .before .args in let w = c .before .before .before .loop in omega (arith, w .inv .here, stop-le (g .lens .now) (w .i) (omega arith))
+mul-scan-more-2 c = let g = c .before .before .before .before .before .before .before .before .before .args in let w = c .before .before .before .loop in omega (arith, w .inv .here, stop-le (g .lens .now) (w .i) (omega arith))
 
 sub-scan-more-2 : tie.Need-sub-scan-more-2 Inv-loop μ-loop
-sub-scan-more-2 c = let g = c .before .before .before .before .before .before .before .before .before .before .before .args in let w = c .before .before .before .loop in omega (arith, w .inv .here, stop-le (g .lens .now) (w .i) (omega arith))
+sub-scan-more-2 c = let g = c .before .before .before .before .before .before .before .before .before .args in let w = c .before .before .before .loop in omega (arith, w .inv .here, stop-le (g .lens .now) (w .i) (omega arith))
 
 part-scan-more-start-2 : tie.Need-part-scan-more-start-2 Inv-loop μ-loop
-part-scan-more-start-2 c = let g = c .before .before .before .before .before .before .before .before .before .before .before .args in let w = c .before .before .before .loop in omega (arith, w .inv .here, stop-le (g .lens .now) (w .i) (omega arith))
+part-scan-more-start-2 c = let g = c .before .before .before .before .before .before .before .before .before .args in let w = c .before .before .before .loop in omega (arith, w .inv .here, stop-le (g .lens .now) (w .i) (omega arith))
 
 part-scan-more-end-2 : tie.Need-part-scan-more-end-2 Inv-loop μ-loop
-part-scan-more-end-2 c = let g = c .before .before .before .before .before .before .before .before .before .before .before .args in let w = c .before .before .before .loop in omega (arith, w .inv .here, stop-le (g .lens .now) (w .i) (omega arith))
+part-scan-more-end-2 c = let g = c .before .before .before .before .before .before .before .before .before .args in let w = c .before .before .before .loop in omega (arith, w .inv .here, stop-le (g .lens .now) (w .i) (omega arith))
 
 mul-scan-more-3 : tie.Need-mul-scan-more-3 Inv-loop μ-loop
-mul-scan-more-3 c = let g = c .before .before .before .before .before .before .before .before .before .before .before .before .args in let w = c .before .before .before .before .loop in omega (arith, w .inv .here, stop-le (g .lens .now) (w .i) (omega arith))
+mul-scan-more-3 c = let g = c .before .before .before .before .before .before .before .before .before .before .args in let w = c .before .before .before .before .loop in omega (arith, w .inv .here, stop-le (g .lens .now) (w .i) (omega arith))
 
 sub-scan-more-3 : tie.Need-sub-scan-more-3 Inv-loop μ-loop
-sub-scan-more-3 c = let g = c .before .before .before .before .before .before .before .before .before .before .before .before .args in let w = c .before .before .before .before .loop in omega (arith, w .inv .here, stop-le (g .lens .now) (w .i) (omega arith))
+sub-scan-more-3 c = let g = c .before .before .before .before .before .before .before .before .before .before .args in let w = c .before .before .before .before .loop in omega (arith, w .inv .here, stop-le (g .lens .now) (w .i) (omega arith))
 
 part-scan-more-start-3 : tie.Need-part-scan-more-start-3 Inv-loop μ-loop
-part-scan-more-start-3 c = let g = c .before .before .before .before .before .before .before .before .before .before .before .before .args in let w = c .before .before .before .before .loop in omega (arith, w .inv .here, stop-le (g .lens .now) (w .i) (omega arith))
+part-scan-more-start-3 c = let g = c .before .before .before .before .before .before .before .before .before .before .args in let w = c .before .before .before .before .loop in omega (arith, w .inv .here, stop-le (g .lens .now) (w .i) (omega arith))
 
 part-scan-more-end-3 : tie.Need-part-scan-more-end-3 Inv-loop μ-loop
-part-scan-more-end-3 c = let g = c .before .before .before .before .before .before .before .before .before .before .before .before .args in let w = c .before .before .before .before .loop in omega (arith, w .inv .here, stop-le (g .lens .now) (w .i) (omega arith))
+part-scan-more-end-3 c = let g = c .before .before .before .before .before .before .before .before .before .before .args in let w = c .before .before .before .before .loop in omega (arith, w .inv .here, stop-le (g .lens .now) (w .i) (omega arith))
 
 scan-more-requires : tie.Need-scan-more-requires Inv-loop μ-loop
 scan-more-requires c κs =
-    let g = c .before .before .before .before .before .before .before .before .before .before .before .before .before .args in
+    let g = c .before .before .before .before .before .before .before .before .before .before .before .args in
     let w = c .before .before .before .before .before .loop in
-    let r = length-rows (g .g .now) (g .w .now) (g .y .now) (c .before .before .before .before .before .before .before .before .before .before .before .before .before .pre .1 .1) (c .before .before .before .before .before .before .before .before .before .before .before .before .before .pre .1 .2) in
+    let r = length-rows (g .g .now) (g .w .now) (g .y .now) (c .before .before .before .before .before .before .before .before .before .before .before .pre .1 .1) (c .before .before .before .before .before .before .before .before .before .before .before .pre .1 .2) in
     let e = even-parts (w .at + getD (g .lens .now) (w .i) 0 - w .at) (w .at) (g .g .now) (g .w .now) (g .y .now) (omega arith) (omega arith) (omega arith) in
     let l = scanning-light (g .b) (g .lens .now) (g .p) (g .q) (g .lo) (g .hi) (g .g .now) (g .w .now) (g .y .now) (w .at) (w .i) (w .s) (w .inv) (omega arith) (omega arith) (omega arith) (omega arith) in
     (e .0, e .1, e .2, omega arith, l)
@@ -102,13 +87,13 @@ loop-less c = omega (arith, c .before .before .before .before .before .before .l
 
 loop-again : tie.Need-loop-again Inv-loop μ-loop
 loop-again c =
-    let g = c .before .before .before .before .before .before .before .before .before .before .before .before .before .before .args in
+    let g = c .before .before .before .before .before .before .before .before .before .before .before .before .args in
     let w = c .before .before .before .before .before .before .loop in
-    let r = length-rows (g .g .now) (g .w .now) (g .y .now) (c .before .before .before .before .before .before .before .before .before .before .before .before .before .before .pre .1 .1) (c .before .before .before .before .before .before .before .before .before .before .before .before .before .before .pre .1 .2) in
+    let r = length-rows (g .g .now) (g .w .now) (g .y .now) (c .before .before .before .before .before .before .before .before .before .before .before .before .pre .1 .1) (c .before .before .before .before .before .before .before .before .before .before .before .before .pre .1 .2) in
     scanning-next (g .b) (g .lens .now) (g .p) (g .q) (g .lo) (g .hi) (g .g .now) (g .w .now) (g .y .now) (w .at) (w .i) (w .s) (w .inv) (omega arith) (omega arith) (omega arith) _ (c .scan-more .ensures)
 
 returns : tie.Need-returns Inv-loop μ-loop
-returns c = let g = c .before .before .before .before .before .before .before .before .before .args in scanning-end (g .b) (g .lens .now) (g .p) (g .q) (g .lo) (g .hi) (g .g .now) (g .w .now) (g .y .now) _ _ _ (c .before .loop .inv) (c .loop-test .left)
+returns c = let g = c .before .before .before .before .before .before .before .args in scanning-end (g .b) (g .lens .now) (g .p) (g .q) (g .lo) (g .hi) (g .g .now) (g .w .now) (g .y .now) _ _ _ (c .before .loop .inv) (c .loop-test .left)
 
 pub scan-parts-spec : {M : Type 1} → statement M
 scan-parts-spec =
@@ -116,8 +101,6 @@ scan-parts-spec =
     (tie.spec
     Inv-loop
     μ-loop
-    slice-aggregate-total
-    total-requires
     no-totals-requires
     loop-holds
     mul-e

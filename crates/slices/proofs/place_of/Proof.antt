@@ -1,5 +1,5 @@
 -- `slices::place_of` meets its contract. Assumes nothing.
-use Prim.Native.Nat.{ℕ, _+_, _-_, _≤_, _<_}
+use Prim.Native.Nat.{_+_, _-_}
 use mathlib.Core.Path.{_≡_}
 use native.Mathlib.Omega.{arith}
 use borrow.Author.Needs.{needs}
@@ -36,13 +36,16 @@ loop-less : tie.Need-loop-less Inv-loop μ-loop
 loop-less c = omega arith
 
 loop-again : tie.Need-loop-again Inv-loop μ-loop
-loop-again c = (count-less _ _ _ _ (c .before .before .before .before .pre .1) (omega arith) (c .before .before .before .loop .inv .0) (c .if1 .taken), omega arith)
+loop-again c = (count-less _ _ _ _ (c .before .before .before .before .pre .2) (omega arith) (c .before .before .before .loop .inv .0) (c .if1 .taken), omega arith)
 
 loop-less-2 : tie.Need-loop-less-2 Inv-loop μ-loop
 loop-less-2 c = omega arith
 
 loop-again-2 : tie.Need-loop-again-2 Inv-loop μ-loop
-loop-again-2 c = (count-not _ _ _ _ (c .before .before .before .before .pre .1) (omega arith) (c .before .before .before .loop .inv .0) (c .if1 .left), omega arith)
+loop-again-2 c = (count-not _ _ _ _ (c .before .before .before .before .pre .2) (omega arith) (c .before .before .before .loop .inv .0) (c .if1 .left), omega arith)
+
+cast-result : tie.Need-cast-result Inv-loop μ-loop
+cast-result c = omega (arith, c .before .loop .inv .0 .at, c .before .loop .inv .0 .is)
 
 returns : tie.Need-returns Inv-loop μ-loop
 returns c = count-end _ _ _ _ (omega arith) (c .before .loop .inv .0)
@@ -63,4 +66,5 @@ place-of-spec =
     loop-again
     loop-less-2
     loop-again-2
+    cast-result
     returns)

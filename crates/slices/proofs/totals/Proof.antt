@@ -1,81 +1,123 @@
 -- `slices::totals` meets its contract. Assumes nothing.
-use Prim.Native.Nat.{ℕ, _+_, _-_, _*_, _≤_, _<_}
-use mathlib.Core.Path.{_≡_, refl, sym, ap, _∙_}
+use Prim.Native.Nat.{_+_, _-_}
+use mathlib.Core.Path.{_≡_}
 use native.Mathlib.Omega.{arith}
 use borrow.Author.Needs.{needs}
 use lib.ListN.{length}
-use Rattle.slices.proofs.Scans.{Running, within-at, oil-most, running-start, running-take, running-below, running-above, running-end}
+use Rattle.slices.proofs.Sums.{Adding, measured-light, measured-part, adding-start, adding-light, adding-next, adding-end}
 use Rattle.slices.proofs.totals.Statement.{statement}
 use Rattle.slices.proofs.totals.Tie as tie
 
 abbrev Inv-loop : tie.InvT-loop
-Inv-loop g w y lo hi records₀ weight₀ oil₀ i₀ records weight oil i = Running lo hi g w y records weight oil i
+Inv-loop g w y lo hi t₀ i₀ t i = Adding lo hi g w y t i
 
 abbrev μ-loop : tie.MeasureT-loop
-μ-loop g w y lo hi records₀ weight₀ oil₀ i₀ records weight oil i = length g - i
+μ-loop g w y lo hi t₀ i₀ t i = length g - i
+
+no-totals-requires : tie.Need-no-totals-requires Inv-loop μ-loop
+no-totals-requires c κs = search needs
 
 loop-holds : tie.Need-loop-holds Inv-loop μ-loop
-loop-holds c = running-start _ _ _ _ _
+loop-holds c = adding-start _ _ _ _ _ _ (c .no-totals .ensures)
 
-mul-x : tie.Need-mul-x Inv-loop μ-loop
-mul-x c = search needs
+sub-loop : tie.Need-sub-loop Inv-loop μ-loop
+sub-loop c = omega (arith, c .loop .inv .at)
 
-shared-slice-read-x : tie.Need-shared-slice-read-x Inv-loop μ-loop
-shared-slice-read-x c = omega arith
+add-e : tie.Need-add-e Inv-loop μ-loop
+add-e c = omega (arith, c .before .loop .inv .at)
 
-mul-a : tie.Need-mul-a Inv-loop μ-loop
-mul-a c = search needs
+mul-total-stride : tie.Need-mul-total-stride Inv-loop μ-loop
+mul-total-stride c = omega (arith, c .before .before .before .before .before .before .pre .even-weights, c .before .before .before .before .before .before .pre .even-yields, c .before .loop .inv .at)
 
-shared-slice-read-a : tie.Need-shared-slice-read-a Inv-loop μ-loop
-shared-slice-read-a c = omega arith
+sub-total-stride : tie.Need-sub-total-stride Inv-loop μ-loop
+sub-total-stride c = omega (arith, c .before .before .before .before .before .before .pre .even-weights, c .before .before .before .before .before .before .pre .even-yields, c .before .loop .inv .at)
 
-cast-a : tie.Need-cast-a Inv-loop μ-loop
-cast-a c = omega (arith, c .shared-slice-known2 .given (c .before .before .before .loop .i))
+part-total-stride-start : tie.Need-part-total-stride-start Inv-loop μ-loop
+part-total-stride-start c = omega (arith, c .before .before .before .before .before .before .pre .even-weights, c .before .before .before .before .before .before .pre .even-yields, c .before .loop .inv .at)
 
-mul-b : tie.Need-mul-b Inv-loop μ-loop
-mul-b c = search needs
+part-total-stride-end : tie.Need-part-total-stride-end Inv-loop μ-loop
+part-total-stride-end c = omega (arith, c .before .before .before .before .before .before .pre .even-weights, c .before .before .before .before .before .before .pre .even-yields, c .before .loop .inv .at)
 
-shared-slice-read-b : tie.Need-shared-slice-read-b Inv-loop μ-loop
-shared-slice-read-b c = omega arith
+mul-total-stride-2 : tie.Need-mul-total-stride-2 Inv-loop μ-loop
+mul-total-stride-2 c = omega (arith, c .before .before .before .before .before .before .before .pre .even-weights, c .before .before .before .before .before .before .before .pre .even-yields, c .before .before .loop .inv .at)
 
-cast-b : tie.Need-cast-b Inv-loop μ-loop
-cast-b c = omega (arith, c .shared-slice-known3 .given (c .before .before .before .before .loop .i))
+sub-total-stride-2 : tie.Need-sub-total-stride-2 Inv-loop μ-loop
+sub-total-stride-2 c = omega (arith, c .before .before .before .before .before .before .before .pre .even-weights, c .before .before .before .before .before .before .before .pre .even-yields, c .before .before .loop .inv .at)
 
-mul-c : tie.Need-mul-c Inv-loop μ-loop
-mul-c c = let p = c .before .before .before .before .before .pre .1 in let i = c .before .before .before .before .loop .i in omega (arith, oil-most _ _ (within-at _ _ (p .0) i) (within-at _ _ (p .1) i))
+part-total-stride-start-2 : tie.Need-part-total-stride-start-2 Inv-loop μ-loop
+part-total-stride-start-2 c = omega (arith, c .before .before .before .before .before .before .before .pre .even-weights, c .before .before .before .before .before .before .before .pre .even-yields, c .before .before .loop .inv .at)
 
-add-i : tie.Need-add-i Inv-loop μ-loop
-add-i c = omega arith
+part-total-stride-end-2 : tie.Need-part-total-stride-end-2 Inv-loop μ-loop
+part-total-stride-end-2 c = omega (arith, c .before .before .before .before .before .before .before .pre .even-weights, c .before .before .before .before .before .before .before .pre .even-yields, c .before .before .loop .inv .at)
 
-add-records : tie.Need-add-records Inv-loop μ-loop
-add-records c = omega arith
+mul-total-stride-3 : tie.Need-mul-total-stride-3 Inv-loop μ-loop
+mul-total-stride-3 c = omega (arith, c .before .before .before .before .before .before .before .before .pre .even-weights, c .before .before .before .before .before .before .before .before .pre .even-yields, c .before .before .before .loop .inv .at)
 
-add-weight : tie.Need-add-weight Inv-loop μ-loop
-add-weight c = let i = c .before .before .before .before .before .before .loop .i in omega (arith, within-at _ _ (c .before .before .before .before .before .before .before .pre .1 .0) i)
+sub-total-stride-3 : tie.Need-sub-total-stride-3 Inv-loop μ-loop
+sub-total-stride-3 c = omega (arith, c .before .before .before .before .before .before .before .before .pre .even-weights, c .before .before .before .before .before .before .before .before .pre .even-yields, c .before .before .before .loop .inv .at)
 
-add-oil : tie.Need-add-oil Inv-loop μ-loop
-add-oil c = let i = c .before .before .before .before .before .before .loop .i in omega (arith, oil-most _ _ (within-at _ _ (c .before .before .before .before .before .before .before .pre .1 .0) i) (within-at _ _ (c .before .before .before .before .before .before .before .pre .1 .1) i))
+part-total-stride-start-3 : tie.Need-part-total-stride-start-3 Inv-loop μ-loop
+part-total-stride-start-3 c = omega (arith, c .before .before .before .before .before .before .before .before .pre .even-weights, c .before .before .before .before .before .before .before .before .pre .even-yields, c .before .before .before .loop .inv .at)
+
+part-total-stride-end-3 : tie.Need-part-total-stride-end-3 Inv-loop μ-loop
+part-total-stride-end-3 c = omega (arith, c .before .before .before .before .before .before .before .before .pre .even-weights, c .before .before .before .before .before .before .before .before .pre .even-yields, c .before .before .before .loop .inv .at)
+
+total-stride-requires : tie.Need-total-stride-requires Inv-loop μ-loop
+total-stride-requires c κs = let g = c .before .before .before .before .before .before .before .before .before .args in let l = c .before .before .before .before .loop in measured-part (g .g .now) (g .w .now) (g .y .now) (l .i + 64 - l .i) (l .i) (omega (arith, l .inv .at)) (c .before .before .before .before .before .before .before .before .before .pre)
+
+plus-requires : tie.Need-plus-requires Inv-loop μ-loop
+plus-requires c κs = let g = c .before .before .before .before .before .before .before .before .before .before .args in let l = c .before .before .before .before .before .loop in (adding-light (g .lo) (g .hi) (g .g .now) (g .w .now) (g .y .now) (c .before .before .before .before .before .before .before .before .before .before .pre) (l .t) (l .i) (l .inv), measured-light (g .lo) (g .hi) _ _ _ (measured-part (g .g .now) (g .w .now) (g .y .now) (l .i + 64 - l .i) (l .i) (omega (arith, l .inv .at)) (c .before .before .before .before .before .before .before .before .before .before .pre)) _ (c .total-stride .ensures))
 
 loop-less : tie.Need-loop-less Inv-loop μ-loop
-loop-less c = omega arith
+loop-less c = omega (arith, c .before .before .before .before .before .before .loop .inv .at)
 
 loop-again : tie.Need-loop-again Inv-loop μ-loop
-loop-again c = let p = c .before .before .before .before .before .before .before .pre in let l = c .before .before .before .before .before .before .loop in running-take _ _ _ _ _ _ _ _ _ (c .before .before .before .before .before .loop-test .taken) (p .0 .1) (p .0 .2) (l .inv) (within-at _ _ (p .1 .0) (l .i)) (within-at _ _ (p .1 .1) (l .i)) (c .before .if1 .taken) (c .if2 .taken)
+loop-again c = let g = c .before .before .before .before .before .before .before .before .before .before .before .args in let l = c .before .before .before .before .before .before .loop in let e : l .i + 64 - l .i ≡ 64 = omega arith in adding-next (g .lo) (g .hi) (g .g .now) (g .w .now) (g .y .now) (c .before .before .before .before .before .before .before .before .before .before .before .pre) (l .t) (l .i) (l .inv) 64 _ _ (omega (arith, l .inv .at)) (rw e at (c .before .total-stride .ensures)) (c .plus .ensures)
 
-loop-less-2 : tie.Need-loop-less-2 Inv-loop μ-loop
-loop-less-2 c = omega arith
+mul-total-tested : tie.Need-mul-total-tested Inv-loop μ-loop
+mul-total-tested c = omega (arith, c .before .before .before .before .before .before .pre .even-weights, c .before .before .before .before .before .before .pre .even-yields, c .before .loop .inv .at)
 
-loop-again-2 : tie.Need-loop-again-2 Inv-loop μ-loop
-loop-again-2 c = let p = c .before .before .before .before .before .before .before .pre in running-above _ _ _ _ _ _ _ _ _ (c .before .before .before .before .before .loop-test .taken) (p .0 .1) (p .0 .2) (c .before .before .before .before .before .before .loop .inv) (c .before .if1 .taken) (c .if2 .left)
+sub-total-tested : tie.Need-sub-total-tested Inv-loop μ-loop
+sub-total-tested c = omega (arith, c .before .before .before .before .before .before .pre .even-weights, c .before .before .before .before .before .before .pre .even-yields, c .before .loop .inv .at)
 
-loop-less-3 : tie.Need-loop-less-3 Inv-loop μ-loop
-loop-less-3 c = omega arith
+part-total-tested-start : tie.Need-part-total-tested-start Inv-loop μ-loop
+part-total-tested-start c = omega (arith, c .before .before .before .before .before .before .pre .even-weights, c .before .before .before .before .before .before .pre .even-yields, c .before .loop .inv .at)
 
-loop-again-3 : tie.Need-loop-again-3 Inv-loop μ-loop
-loop-again-3 c = let p = c .before .before .before .before .before .before .pre in running-below _ _ _ _ _ _ _ _ _ (c .before .before .before .before .loop-test .taken) (p .0 .1) (p .0 .2) (c .before .before .before .before .before .loop .inv) (c .if1 .left)
+part-total-tested-end : tie.Need-part-total-tested-end Inv-loop μ-loop
+part-total-tested-end c = omega (arith, c .before .before .before .before .before .before .pre .even-weights, c .before .before .before .before .before .before .pre .even-yields, c .before .loop .inv .at)
+
+mul-total-tested-2 : tie.Need-mul-total-tested-2 Inv-loop μ-loop
+mul-total-tested-2 c = omega (arith, c .before .before .before .before .before .before .before .pre .even-weights, c .before .before .before .before .before .before .before .pre .even-yields, c .before .before .loop .inv .at)
+
+sub-total-tested-2 : tie.Need-sub-total-tested-2 Inv-loop μ-loop
+sub-total-tested-2 c = omega (arith, c .before .before .before .before .before .before .before .pre .even-weights, c .before .before .before .before .before .before .before .pre .even-yields, c .before .before .loop .inv .at)
+
+part-total-tested-start-2 : tie.Need-part-total-tested-start-2 Inv-loop μ-loop
+part-total-tested-start-2 c = omega (arith, c .before .before .before .before .before .before .before .pre .even-weights, c .before .before .before .before .before .before .before .pre .even-yields, c .before .before .loop .inv .at)
+
+part-total-tested-end-2 : tie.Need-part-total-tested-end-2 Inv-loop μ-loop
+part-total-tested-end-2 c = omega (arith, c .before .before .before .before .before .before .before .pre .even-weights, c .before .before .before .before .before .before .before .pre .even-yields, c .before .before .loop .inv .at)
+
+mul-total-tested-3 : tie.Need-mul-total-tested-3 Inv-loop μ-loop
+mul-total-tested-3 c = omega (arith, c .before .before .before .before .before .before .before .before .pre .even-weights, c .before .before .before .before .before .before .before .before .pre .even-yields, c .before .before .before .loop .inv .at)
+
+sub-total-tested-3 : tie.Need-sub-total-tested-3 Inv-loop μ-loop
+sub-total-tested-3 c = omega (arith, c .before .before .before .before .before .before .before .before .pre .even-weights, c .before .before .before .before .before .before .before .before .pre .even-yields, c .before .before .before .loop .inv .at)
+
+part-total-tested-start-3 : tie.Need-part-total-tested-start-3 Inv-loop μ-loop
+part-total-tested-start-3 c = omega (arith, c .before .before .before .before .before .before .before .before .pre .even-weights, c .before .before .before .before .before .before .before .before .pre .even-yields, c .before .before .before .loop .inv .at)
+
+part-total-tested-end-3 : tie.Need-part-total-tested-end-3 Inv-loop μ-loop
+part-total-tested-end-3 c = omega (arith, c .before .before .before .before .before .before .before .before .pre .even-weights, c .before .before .before .before .before .before .before .before .pre .even-yields, c .before .before .before .loop .inv .at)
+
+total-tested-requires : tie.Need-total-tested-requires Inv-loop μ-loop
+total-tested-requires c κs = let g = c .before .before .before .before .before .before .before .before .before .args in let l = c .before .before .before .before .loop in measured-part (g .g .now) (g .w .now) (g .y .now) (length (g .g .now) - l .i) (l .i) (omega (arith, l .inv .at)) (c .before .before .before .before .before .before .before .before .before .pre)
+
+plus-requires-2 : tie.Need-plus-requires-2 Inv-loop μ-loop
+plus-requires-2 c κs = let g = c .before .before .before .before .before .before .before .before .before .before .args in let l = c .before .before .before .before .before .loop in (adding-light (g .lo) (g .hi) (g .g .now) (g .w .now) (g .y .now) (c .before .before .before .before .before .before .before .before .before .before .pre) (l .t) (l .i) (l .inv), measured-light (g .lo) (g .hi) _ _ _ (measured-part (g .g .now) (g .w .now) (g .y .now) (length (g .g .now) - l .i) (l .i) (omega (arith, l .inv .at)) (c .before .before .before .before .before .before .before .before .before .before .pre)) _ (c .total-tested .ensures))
 
 returns : tie.Need-returns Inv-loop μ-loop
-returns c = let l = c .before .loop in let g = c .before .before .args in running-end (g .lo) (g .hi) (g .g .now) (g .w .now) (g .y .now) (l .records) (l .weight) (l .oil) (l .i) (c .loop-test .left) (l .inv)
+returns c = let g = c .before .before .before .before .before .before .before .before .before .before .before .args in let l = c .before .before .before .before .before .before .loop in adding-end (g .lo) (g .hi) (g .g .now) (g .w .now) (g .y .now) (c .before .before .before .before .before .before .before .before .before .before .before .pre) _ _ (omega (arith, l .inv .at)) (adding-next (g .lo) (g .hi) (g .g .now) (g .w .now) (g .y .now) (c .before .before .before .before .before .before .before .before .before .before .before .pre) (l .t) (l .i) (l .inv) (length (g .g .now) - l .i) _ _ (omega (arith, l .inv .at)) (c .before .total-tested .ensures) (c .plus2 .ensures))
 
 pub totals-spec : {M : Type 1} → statement M
 totals-spec =
@@ -83,24 +125,38 @@ totals-spec =
     (tie.spec
     Inv-loop
     μ-loop
+    no-totals-requires
     loop-holds
-    mul-x
-    shared-slice-read-x
-    mul-a
-    shared-slice-read-a
-    cast-a
-    mul-b
-    shared-slice-read-b
-    cast-b
-    mul-c
-    add-i
-    add-records
-    add-weight
-    add-oil
+    sub-loop
+    add-e
+    mul-total-stride
+    sub-total-stride
+    part-total-stride-start
+    part-total-stride-end
+    mul-total-stride-2
+    sub-total-stride-2
+    part-total-stride-start-2
+    part-total-stride-end-2
+    mul-total-stride-3
+    sub-total-stride-3
+    part-total-stride-start-3
+    part-total-stride-end-3
+    total-stride-requires
+    plus-requires
     loop-less
     loop-again
-    loop-less-2
-    loop-again-2
-    loop-less-3
-    loop-again-3
+    mul-total-tested
+    sub-total-tested
+    part-total-tested-start
+    part-total-tested-end
+    mul-total-tested-2
+    sub-total-tested-2
+    part-total-tested-start-2
+    part-total-tested-end-2
+    mul-total-tested-3
+    sub-total-tested-3
+    part-total-tested-start-3
+    part-total-tested-end-3
+    total-tested-requires
+    plus-requires-2
     returns)

@@ -1,0 +1,156 @@
+-- Totals: of joined records, of records in range, of parts. Assumes nothing.
+use Prim.Native.Nat.{ℕ, suc, _+_, _*_, _≤_, _<_}
+use mathlib.Core.Path.{_≡_, refl, sym, ap, _∙_, subst}
+use mathlib.Core.Bool.{Bool, true, false, cond, _&&_}
+use mathlib.Core.List.{List, [], _∷_, _++_, map, map-append}
+use native.Mathlib.Omega.{arith}
+use native.Mathlib.Nat.{mul-le-mul}
+use lib.Dec.{T, leb, leb→le}
+use lib.ListN.{length, take, drop, length-append, length-take, length-drop}
+use lib.Seq.{take-add, take-all}
+use Rattle.model.specs.declared.Delivery.{Delivery}
+use Rattle.model.specs.declared.Totals.{Totals}
+use Rattle.model.specs.Lists.{sumOf, every, keep}
+use Rattle.model.specs.Deliveries.{inRange, matches, rows, noTotals, totalsOf, totalsBetween}
+use Rattle.model.proofs.Tests.{and-fst, and-snd, and-mk, is-true}
+use Rattle.model.proofs.ListLaws.{sum-append, keep-append, every-part, keep-fewer}
+use Rattle.model.proofs.Deliveries.{values-rows, rows-part, length-rows}
+use Rattle.slices.specs.Slices.{allWithin, countBetween, Measured, LightTotals, plusTotals}
+
+-- Totals of records that were joined.
+
+pub totals-joined : (lo hi : ℕ) (a b : List Delivery) → totalsBetween lo hi (a ++ b) ≡ plusTotals (totalsBetween lo hi a) (totalsBetween lo hi b)
+unfolding totalsOf
+totals-joined lo hi a b =
+    simp (keep-append, length-append, map-append, sum-append)
+
+-- Totals of records in range.
+
+weights-most : (ds : List Delivery) → T (every inRange ds) → sumOf (map (λ (d : Delivery). d .weight) ds) ≤ 100000 * length ds
+unfolding sumOf every
+weights-most [] t = omega arith
+weights-most (d ∷ ds) t =
+    let h = and-fst (inRange d) (every inRange ds) t in
+    omega (arith, leb→le (d .weight) 100000 (and-fst (leb (d .weight) 100000) (leb (d .«oil_yield») 10000) h), weights-most ds (and-snd (inRange d) (every inRange ds) t))
+
+oil-most : (ds : List Delivery) → T (every inRange ds) → sumOf (map (λ (d : Delivery). d .weight * d .«oil_yield») ds) ≤ 1000000000 * length ds
+unfolding sumOf every
+oil-most [] t = omega arith
+oil-most (d ∷ ds) t =
+    let h = and-fst (inRange d) (every inRange ds) t in
+    let w : d .weight ≤ 100000 = leb→le (d .weight) 100000 (and-fst (leb (d .weight) 100000) (leb (d .«oil_yield») 10000) h) in
+    let y : d .«oil_yield» ≤ 10000 = leb→le (d .«oil_yield») 10000 (and-snd (leb (d .weight) 100000) (leb (d .«oil_yield») 10000) h) in
+    let p : d .weight * d .«oil_yield» ≤ 100000 * 10000 = mul-le-mul w y in
+    omega (arith, oil-most ds (and-snd (inRange d) (every inRange ds) t))
+
+every-kept : (p : Delivery → Bool) (ds : List Delivery) → T (every inRange ds) → T (every inRange (keep p ds))
+unfolding every keep
+every-kept p [] t = tt
+every-kept p (d ∷ ds) t = go (p d) (every-kept p ds (and-snd (inRange d) (every inRange ds) t))
+  where
+    go : (b : Bool) → T (every inRange (keep p ds)) → T (every inRange (cond b (d ∷ keep p ds) (keep p ds)))
+    go true h = subst T (sym (ap (λ (x : Bool). x && every inRange (keep p ds)) (is-true (inRange d) (and-fst (inRange d) (every inRange ds) t)))) h
+    go false h = h
+
+pub totals-light : (lo hi m : ℕ) (ds : List Delivery) → T (every inRange ds) → length ds ≤ m → LightTotals m (totalsBetween lo hi ds)
+unfolding totalsOf
+totals-light lo hi m ds t h =
+    let k = every-kept (matches lo hi) ds t in
+    let n = keep-fewer (matches lo hi) ds in
+    record {
+      few = omega arith;
+      light = omega (arith, weights-most (keep (matches lo hi) ds) k);
+      little = omega (arith, oil-most (keep (matches lo hi) ds) k);
+    }
+
+-- Records that were counted.
+
+pub count-rows : (lo hi : ℕ) (g w y : List ℕ) → length w ≡ length g → length y ≡ length g → countBetween lo hi g ≡ length (keep (matches lo hi) (rows g w y))
+unfolding keep rows
+count-rows lo hi [] w y p q = refl
+count-rows lo hi (a ∷ g) [] y p q = let z : ⊥ = omega arith in absurd z
+count-rows lo hi (a ∷ g) (b ∷ w) [] p q = let z : ⊥ = omega arith in absurd z
+count-rows lo hi (a ∷ g) (b ∷ w) (d ∷ y) p q = go (leb lo a && leb a hi) (count-rows lo hi g w y (omega arith) (omega arith))
+  where
+    go : (t : Bool) → countBetween lo hi g ≡ length (keep (matches lo hi) (rows g w y))
+        → length (cond t (a ∷ keep (λ (n : ℕ). leb lo n && leb n hi) g) (keep (λ (n : ℕ). leb lo n && leb n hi) g))
+        ≡ length (cond t (record { grower = a; weight = b; «oil_yield» = d } ∷ keep (matches lo hi) (rows g w y)) (keep (matches lo hi) (rows g w y)))
+    go true e = ap suc e
+    go false e = e
+
+keep-none : (f : Delivery → Bool) (l : List Delivery) → length (keep f l) ≡ 0 → keep f l ≡ []
+keep-none f l e = empty (keep f l) e
+  where
+    empty : (k : List Delivery) → length k ≡ 0 → k ≡ []
+    empty [] h = refl
+    empty (d ∷ k) h = let z : ⊥ = omega arith in absurd z
+
+keep-full : (f : Delivery → Bool) (l : List Delivery) → length (keep f l) ≡ length l → keep f l ≡ l
+unfolding keep
+keep-full f [] e = refl
+keep-full f (d ∷ l) e = go (f d) (keep-full f l) (keep-fewer f l) e
+  where
+    go : (t : Bool) → (length (keep f l) ≡ length l → keep f l ≡ l) → length (keep f l) ≤ length l → length (cond t (d ∷ keep f l) (keep f l)) ≡ length (d ∷ l) → cond t (d ∷ keep f l) (keep f l) ≡ d ∷ l
+    go true r h k = ap (λ (x : List Delivery). d ∷ x) (r (omega arith))
+    go false r h k = let z : ⊥ = omega arith in absurd z
+
+module _ (lo hi : ℕ) (g w y : List ℕ) (m : Measured g w y) where
+  counted : countBetween lo hi g ≡ length (keep (matches lo hi) (rows g w y))
+  counted = count-rows lo hi g w y (m .even-weights) (m .even-yields)
+
+  pub none-between : countBetween lo hi g < 1 → noTotals ≡ totalsBetween lo hi (rows g w y)
+  unfolding totalsOf sumOf
+  none-between h = rw (keep-none (matches lo hi) (rows g w y) (omega (arith, counted)))
+
+  pub all-between : countBetween lo hi g ≡ length g → totalsOf (rows g w y) ≡ totalsBetween lo hi (rows g w y)
+  all-between h =
+      rw (keep-full (matches lo hi) (rows g w y) (omega (arith, counted, length-rows g w y (m .even-weights) (m .even-yields))))
+
+  values : T (every inRange (rows g w y))
+  values = subst T (sym (values-rows g w y (m .even-weights) (m .even-yields))) (and-mk (allWithin 100000 w) (allWithin 10000 y) (m .good-weights) (m .good-yields))
+
+  -- the totals of measured slices are small
+  pub measured-light : (t : Totals) → t ≡ totalsBetween lo hi (rows g w y) → LightTotals 262144 t
+  measured-light t e =
+      subst (LightTotals 262144) (sym e) (totals-light lo hi 262144 (rows g w y) values (omega (arith, m .few, length-rows g w y (m .even-weights) (m .even-yields))))
+
+within-part : (m a n : ℕ) (s : List ℕ) → a + n ≤ length s → T (allWithin m s) → T (allWithin m (take n (drop a s)))
+within-part m a n s h t = every-part (λ (x : ℕ). leb x m) a n (length s) s h (rw (take-all (length s) s (omega arith)) t)
+
+-- parts of measured slices
+pub measured-part : (g w y : List ℕ) (n a : ℕ) → a + n ≤ length g → Measured g w y → Measured (take n (drop a g)) (take n (drop a w)) (take n (drop a y))
+measured-part g w y n a h m =
+    record {
+      few = simp (length-take, length-drop) (omega (arith, m .few));
+      even-weights = simp (length-take, length-drop) (omega (arith, m .even-weights));
+      even-yields = simp (length-take, length-drop) (omega (arith, m .even-yields));
+      good-weights = within-part 100000 a n w (omega (arith, m .even-weights)) (m .good-weights);
+      good-yields = within-part 10000 a n y (omega (arith, m .even-yields)) (m .good-yields);
+    }
+
+-- The loop over strides.
+
+pub record Adding (lo hi : ℕ) (g w y : List ℕ) (t : Totals) (i : ℕ) : Type 0 where
+  pub at : i ≤ length g
+  pub so-far : t ≡ totalsBetween lo hi (take i (rows g w y))
+
+pub adding-start : (lo hi : ℕ) (g w y : List ℕ) (t : Totals) → t ≡ noTotals → Adding lo hi g w y t 0
+unfolding totalsOf sumOf keep
+adding-start lo hi g w y t e = record { at = omega arith; so-far = e }
+
+module _ (lo hi : ℕ) (g w y : List ℕ) (m : Measured g w y) (t : Totals) (i : ℕ) (k : Adding lo hi g w y t i) where
+  pub adding-light : LightTotals 262144 t
+  adding-light =
+      let e : rows (take i (drop 0 g)) (take i (drop 0 w)) (take i (drop 0 y)) ≡ take i (rows g w y) = rows-part i 0 g w y in
+      measured-light lo hi (take i (drop 0 g)) (take i (drop 0 w)) (take i (drop 0 y)) (measured-part g w y i 0 (omega (arith, k .at)) m) t (k .so-far ∙ ap (totalsBetween lo hi) (sym e))
+
+  pub adding-next : (n : ℕ) (u v : Totals) → i + n ≤ length g → u ≡ totalsBetween lo hi (rows (take n (drop i g)) (take n (drop i w)) (take n (drop i y))) → v ≡ plusTotals t u
+      → Adding lo hi g w y v (i + n)
+  adding-next n u v h e f =
+      let j : totalsBetween lo hi (take (i + n) (rows g w y)) ≡ plusTotals (totalsBetween lo hi (take i (rows g w y))) (totalsBetween lo hi (take n (drop i (rows g w y))))
+      = ap (totalsBetween lo hi) (take-add i n (rows g w y)) ∙ totals-joined lo hi (take i (rows g w y)) (take n (drop i (rows g w y))) in
+      let r : u ≡ totalsBetween lo hi (take n (drop i (rows g w y))) = e ∙ ap (totalsBetween lo hi) (rows-part n i g w y) in
+      record { at = h; so-far = f ∙ ap (λ (x : Totals). plusTotals x u) (k .so-far) ∙ ap (plusTotals (totalsBetween lo hi (take i (rows g w y)))) r ∙ sym j }
+
+pub adding-end : (lo hi : ℕ) (g w y : List ℕ) (m : Measured g w y) (t : Totals) (i : ℕ) → length g ≤ i → Adding lo hi g w y t i → t ≡ totalsBetween lo hi (rows g w y)
+adding-end lo hi g w y m t i h k = k .so-far ∙ ap (totalsBetween lo hi) (take-all i (rows g w y) (omega (arith, length-rows g w y (m .even-weights) (m .even-yields))))

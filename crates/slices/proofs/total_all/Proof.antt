@@ -1,0 +1,79 @@
+-- `slices::total_all` meets its contract. Assumes nothing.
+use Prim.Native.Nat.{_-_}
+use mathlib.Core.Path.{refl, ap, _∙_}
+use native.Mathlib.Omega.{arith}
+use borrow.Author.Needs.{needs}
+use lib.ListN.{length}
+use Rattle.model.specs.Deliveries.{rows, totalsOf}
+use Rattle.slices.proofs.Scans.{Running, modest, any, keep-any, running-start, running-take, running-end}
+use Rattle.slices.proofs.total_all.Statement.{statement}
+use Rattle.slices.proofs.total_all.Tie as tie
+
+abbrev Inv-loop : tie.InvT-loop
+Inv-loop g w y weight₀ oil₀ i₀ weight oil i = Running any g w y i weight oil i
+
+abbrev μ-loop : tie.MeasureT-loop
+μ-loop g w y weight₀ oil₀ i₀ weight oil i = length g - i
+
+loop-holds : tie.Need-loop-holds Inv-loop μ-loop
+loop-holds c = running-start _ _ _ _
+
+mul-a : tie.Need-mul-a Inv-loop μ-loop
+mul-a c = search needs
+
+shared-slice-read-a : tie.Need-shared-slice-read-a Inv-loop μ-loop
+shared-slice-read-a c = omega (arith, c .before .before .before .pre .even-weights)
+
+cast-a : tie.Need-cast-a Inv-loop μ-loop
+cast-a c = omega (arith, c .shared-slice-known .given (c .before .before .loop .i))
+
+mul-b : tie.Need-mul-b Inv-loop μ-loop
+mul-b c = search needs
+
+shared-slice-read-b : tie.Need-shared-slice-read-b Inv-loop μ-loop
+shared-slice-read-b c = omega (arith, c .before .before .before .before .pre .even-yields)
+
+cast-b : tie.Need-cast-b Inv-loop μ-loop
+cast-b c = omega (arith, c .shared-slice-known2 .given (c .before .before .before .loop .i))
+
+mul-c : tie.Need-mul-c Inv-loop μ-loop
+mul-c c = omega (arith, modest _ _ _ (c .before .before .before .loop .i) (c .before .before .before .before .pre) .oil)
+
+add-i : tie.Need-add-i Inv-loop μ-loop
+add-i c = omega arith
+
+add-weight : tie.Need-add-weight Inv-loop μ-loop
+add-weight c = omega (arith, c .before .before .before .before .pre .few, c .before .before .before .loop .inv .light, c .before .before .before .loop .inv .at, modest _ _ _ (c .before .before .before .loop .i) (c .before .before .before .before .pre) .weight)
+
+add-oil : tie.Need-add-oil Inv-loop μ-loop
+add-oil c = omega (arith, c .before .before .before .before .pre .few, c .before .before .before .loop .inv .little, c .before .before .before .loop .inv .at, modest _ _ _ (c .before .before .before .loop .i) (c .before .before .before .before .pre) .oil)
+
+loop-less : tie.Need-loop-less Inv-loop μ-loop
+loop-less c = omega arith
+
+loop-again : tie.Need-loop-again Inv-loop μ-loop
+loop-again c = running-take any _ _ _ (c .before .before .before .before .pre) _ _ _ _ (c .before .before .loop-test .taken) (c .before .before .before .loop .inv) refl
+
+returns : tie.Need-returns Inv-loop μ-loop
+returns c = let g = c .before .before .args in let l = c .before .loop in running-end any (g .g .now) (g .w .now) (g .y .now) (l .i) (l .weight) (l .oil) (l .i) (c .loop-test .left) (l .inv) ∙ ap totalsOf (keep-any (rows (g .g .now) (g .w .now) (g .y .now)))
+
+pub total-all-spec : {M : Type 1} → statement M
+total-all-spec =
+    tie.close
+    (tie.spec
+    Inv-loop
+    μ-loop
+    loop-holds
+    mul-a
+    shared-slice-read-a
+    cast-a
+    mul-b
+    shared-slice-read-b
+    cast-b
+    mul-c
+    add-i
+    add-weight
+    add-oil
+    loop-less
+    loop-again
+    returns)

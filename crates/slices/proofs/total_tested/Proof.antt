@@ -1,0 +1,106 @@
+-- `slices::total_tested` meets its contract. Assumes nothing.
+use Prim.Native.Nat.{_-_}
+use native.Mathlib.Omega.{arith}
+use borrow.Author.Needs.{needs}
+use lib.ListN.{length}
+use Rattle.model.specs.Deliveries.{matches}
+use Rattle.slices.proofs.Scans.{Running, modest, is-inside, is-below, is-above, running-start, running-take, running-pass, running-end}
+use Rattle.slices.proofs.total_tested.Statement.{statement}
+use Rattle.slices.proofs.total_tested.Tie as tie
+
+abbrev Inv-loop : tie.InvT-loop
+Inv-loop g w y lo hi records₀ weight₀ oil₀ i₀ records weight oil i = Running (matches lo hi) g w y records weight oil i
+
+abbrev μ-loop : tie.MeasureT-loop
+μ-loop g w y lo hi records₀ weight₀ oil₀ i₀ records weight oil i = length g - i
+
+loop-holds : tie.Need-loop-holds Inv-loop μ-loop
+loop-holds c = running-start _ _ _ _
+
+mul-x : tie.Need-mul-x Inv-loop μ-loop
+mul-x c = search needs
+
+shared-slice-read-x : tie.Need-shared-slice-read-x Inv-loop μ-loop
+shared-slice-read-x c = omega arith
+
+mul-a : tie.Need-mul-a Inv-loop μ-loop
+mul-a c = search needs
+
+shared-slice-read-a : tie.Need-shared-slice-read-a Inv-loop μ-loop
+shared-slice-read-a c = omega (arith, c .before .before .before .before .pre .even-weights)
+
+cast-a : tie.Need-cast-a Inv-loop μ-loop
+cast-a c = omega (arith, c .shared-slice-known2 .given (c .before .before .before .loop .i))
+
+mul-b : tie.Need-mul-b Inv-loop μ-loop
+mul-b c = search needs
+
+shared-slice-read-b : tie.Need-shared-slice-read-b Inv-loop μ-loop
+shared-slice-read-b c = omega (arith, c .before .before .before .before .before .pre .even-yields)
+
+cast-b : tie.Need-cast-b Inv-loop μ-loop
+cast-b c = omega (arith, c .shared-slice-known3 .given (c .before .before .before .before .loop .i))
+
+mul-c : tie.Need-mul-c Inv-loop μ-loop
+mul-c c = omega (arith, modest _ _ _ (c .before .before .before .before .loop .i) (c .before .before .before .before .before .pre) .oil)
+
+add-i : tie.Need-add-i Inv-loop μ-loop
+add-i c = omega arith
+
+add-records : tie.Need-add-records Inv-loop μ-loop
+add-records c = omega (arith, c .before .before .before .before .before .before .before .pre .few, c .before .before .before .before .before .before .loop .inv .few, c .before .before .before .before .before .before .loop .inv .at)
+
+add-weight : tie.Need-add-weight Inv-loop μ-loop
+add-weight c = omega (arith, c .before .before .before .before .before .before .before .pre .few, c .before .before .before .before .before .before .loop .inv .light, c .before .before .before .before .before .before .loop .inv .at, modest _ _ _ (c .before .before .before .before .before .before .loop .i) (c .before .before .before .before .before .before .before .pre) .weight)
+
+add-oil : tie.Need-add-oil Inv-loop μ-loop
+add-oil c = omega (arith, c .before .before .before .before .before .before .before .pre .few, c .before .before .before .before .before .before .loop .inv .little, c .before .before .before .before .before .before .loop .inv .at, modest _ _ _ (c .before .before .before .before .before .before .loop .i) (c .before .before .before .before .before .before .before .pre) .oil)
+
+loop-less : tie.Need-loop-less Inv-loop μ-loop
+loop-less c = omega arith
+
+loop-again : tie.Need-loop-again Inv-loop μ-loop
+loop-again c = running-take _ _ _ _ (c .before .before .before .before .before .before .before .pre) _ _ _ _ (c .before .before .before .before .before .loop-test .taken) (c .before .before .before .before .before .before .loop .inv) (is-inside _ _ _ (c .before .if1 .taken) (c .if2 .taken))
+
+loop-less-2 : tie.Need-loop-less-2 Inv-loop μ-loop
+loop-less-2 c = omega arith
+
+loop-again-2 : tie.Need-loop-again-2 Inv-loop μ-loop
+loop-again-2 c = running-pass _ _ _ _ (c .before .before .before .before .before .before .before .pre) _ _ _ _ (c .before .before .before .before .before .loop-test .taken) (c .before .before .before .before .before .before .loop .inv) (is-above _ _ _ (c .before .if1 .taken) (c .if2 .left))
+
+loop-less-3 : tie.Need-loop-less-3 Inv-loop μ-loop
+loop-less-3 c = omega arith
+
+loop-again-3 : tie.Need-loop-again-3 Inv-loop μ-loop
+loop-again-3 c = running-pass _ _ _ _ (c .before .before .before .before .before .before .pre) _ _ _ _ (c .before .before .before .before .loop-test .taken) (c .before .before .before .before .before .loop .inv) (is-below _ _ _ (c .if1 .left))
+
+returns : tie.Need-returns Inv-loop μ-loop
+returns c = let g = c .before .before .args in let l = c .before .loop in running-end (matches (g .lo) (g .hi)) (g .g .now) (g .w .now) (g .y .now) (l .records) (l .weight) (l .oil) (l .i) (c .loop-test .left) (l .inv)
+
+pub total-tested-spec : {M : Type 1} → statement M
+total-tested-spec =
+    tie.close
+    (tie.spec
+    Inv-loop
+    μ-loop
+    loop-holds
+    mul-x
+    shared-slice-read-x
+    mul-a
+    shared-slice-read-a
+    cast-a
+    mul-b
+    shared-slice-read-b
+    cast-b
+    mul-c
+    add-i
+    add-records
+    add-weight
+    add-oil
+    loop-less
+    loop-again
+    loop-less-2
+    loop-again-2
+    loop-less-3
+    loop-again-3
+    returns)
