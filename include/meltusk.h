@@ -72,8 +72,8 @@ typedef struct {
 /* What find, range, insert, delete and move answer. */
 typedef struct {
     uint32_t refusal;
-    meltusk_totals totals; /* of find and range */
     meltusk_counts counts;
+    meltusk_totals totals; /* of find and range */
 } meltusk_answer;
 
 /* What applying a layout answers: the directory, all 0 when refused. */

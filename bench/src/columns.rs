@@ -17,7 +17,7 @@ const LIBRARY: Library = Library {
     empty: Empty::Place,
 };
 
-/// The two sides; each has its own column.
+/// The two sides; each has its own column, exchanged after each repetition.
 const OURS: usize = 0;
 const SECOND: usize = 1;
 
@@ -236,6 +236,9 @@ pub fn run(partitions: usize) {
         for times in [&mut find, &mut range, &mut insert, &mut delete, &mut moved] {
             times.close();
         }
+        // The columns are equal and lie elsewhere in memory. Each side is timed
+        // on both, so that no side has the better place.
+        bench.columns.swap(OURS, SECOND);
     }
     find.print("find", partitions);
     range.print("range 1/8", partitions);

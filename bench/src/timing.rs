@@ -2,8 +2,8 @@
 
 use std::time::Instant;
 
-/// Repetitions, and rounds of each repetition.
-pub const REPETITIONS: usize = 5;
+/// Repetitions, as many on one column as on the other, and rounds of each.
+pub const REPETITIONS: usize = 6;
 pub const ROUNDS: usize = 21;
 
 /// Nanoseconds a call of one batch.

@@ -1,16 +1,12 @@
 -- A call's answer by its checks: refused by the first "no", or accepted. Assumes nothing.
 use Prim.Native.Nat.{ℕ}
-use mathlib.Core.Path.{_≡_, refl, sym, ap, _∙_}
-use mathlib.Core.Bool.{Bool, true, false, cond}
-use mathlib.Core.List.{List, [], _∷_, _++_}
+use mathlib.Core.Path.{_≡_, refl, sym}
+use mathlib.Core.Bool.{Bool, true, false}
+use mathlib.Core.List.{List, [], _∷_}
 use native.Mathlib.Omega.{arith}
 use lib.ListN.{length}
-use lib.Dec.{leb, eqb}
 use borrow.Author.Tests.{ne-eqb, le-leb}
-use Rattle.model.specs.declared.Answer.{Answer}
-use Rattle.model.specs.declared.Counts.{Counts}
 use Rattle.model.specs.Checks.{Check, ask, firstFailed}
-use Rattle.model.specs.Deliveries.{noTotals}
 use Rattle.model.specs.Calls.{Call, find, range}
 use Rattle.model.specs.Blocks.{slicesOk}
 use Rattle.model.specs.Directory.{directoryOf, directoryBlockOk, directoryOk}

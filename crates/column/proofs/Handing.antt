@@ -1,14 +1,12 @@
 -- The partition call: where a grower's partition lies, and the part that is handed back. Assumes nothing.
-use Prim.Native.Nat.{ℕ, zero, suc, _+_, _-_, _≤_, _<_}
-use mathlib.Core.Path.{_≡_, refl, sym, ap, ap₂, _∙_, subst}
-use mathlib.Core.Bool.{Bool, true, false, _&&_}
-use mathlib.Core.List.{List, [], _∷_}
+use Prim.Native.Nat.{ℕ, zero, suc, _+_, _≤_}
+use mathlib.Core.Path.{_≡_, refl, sym, ap, _∙_}
+use mathlib.Core.List.{List}
 use native.Mathlib.Omega.{arith}
-use lib.ListN.{length, getD, take, drop}
+use lib.ListN.{length, getD}
 use lib.Dec.{T, leb, leb→le}
 use borrow.Author.Tests.{ne-eqb}
 use Rattle.model.specs.declared.PartitionSlice.{PartitionSlice}
-use Rattle.model.specs.Lists.{sumOf}
 use Rattle.model.specs.Checks.{firstFailed}
 use Rattle.model.specs.Place.{place}
 use Rattle.model.specs.Blocks.{slotsOk}

@@ -1,25 +1,25 @@
 -- Where a delivery lies that delete or move names. Assumes nothing.
-use Prim.Native.Nat.{ℕ, zero, suc, _+_, _-_, _≤_, _<_}
+use Prim.Native.Nat.{ℕ, _+_, _-_, _≤_, _<_}
 use mathlib.Core.Path.{_≡_, refl, sym, ap, _∙_}
-use mathlib.Core.Bool.{Bool, true, false, cond, _&&_, _||_}
-use mathlib.Core.List.{List, [], _∷_, map}
+use mathlib.Core.Bool.{Bool, true, false, cond, _&&_}
+use mathlib.Core.List.{List, map}
 use native.Mathlib.Omega.{arith}
 use lib.ListN.{length, getD, take, drop}
 use lib.Seq.{drop-cons}
-use lib.Dec.{ltb, eqb}
-use borrow.Author.Tests.{lt-ltb, le-ltb, ltb-true, ltb-false, ne-eqb}
+use lib.Dec.{ltb}
+use borrow.Author.Tests.{lt-ltb, le-ltb, ne-eqb}
 use Rattle.model.specs.declared.Delivery.{Delivery}
 use Rattle.model.specs.declared.Counts.{Counts}
 use Rattle.model.specs.Lists.{sumOf, every}
 use Rattle.model.specs.Checks.{firstFailed}
-use Rattle.model.specs.Deliveries.{rows, inRange, same, among, firstMatch}
+use Rattle.model.specs.Deliveries.{rows, inRange, among, firstMatch}
 use Rattle.model.specs.Calls.{delete}
-use Rattle.model.specs.Partitions.{parts, part, between, startOf}
+use Rattle.model.specs.Partitions.{startOf}
 use Rattle.model.specs.Directory.{directoryOf}
 use Rattle.model.specs.Column.{Column, slots, lengthsOf, target, recordsNear, scannedOk, isHeld}
 use Rattle.model.specs.Accesses.{noCounts, blocksOf, readsOf, blocksScanned, scanCounts, scanNear}
 use Rattle.model.specs.Questions.{lentChecks, callChecks}
-use Rattle.model.specs.ColumnCalls.{columnRefusal, slotOf}
+use Rattle.model.specs.ColumnCalls.{columnRefusal}
 use Rattle.model.proofs.Parts.{between-one, part-parts, length-part}
 use Rattle.model.proofs.Deliveries.{rows-part, length-rows, values-rows, first-among}
 use Rattle.checks.specs.Lent.{allValuesOk}

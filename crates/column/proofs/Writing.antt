@@ -1,34 +1,33 @@
 -- insert, delete and move: the slots and lengths that they leave, and their answers. Assumes nothing.
 use Prim.Native.Nat.{ℕ, zero, suc, _+_, _-_, _≤_, _<_}
-use mathlib.Core.Path.{_≡_, refl, sym, ap, ap₂, _∙_, subst}
+use mathlib.Core.Path.{_≡_, refl, sym, ap, ap₂, _∙_}
 use mathlib.Core.Bool.{Bool, true, false, cond, _&&_}
 use mathlib.Core.List.{List, [], _∷_, _++_}
 use native.Mathlib.Omega.{arith}
-use lib.ListN.{length, getD, take, drop, set, length-set, length-take, length-drop, take-append-drop}
+use lib.ListN.{length, getD, take, drop, set, length-set, take-append-drop}
 use lib.Seq.{set-append-left, length-take-le, drop-at}
-use lib.Dec.{T, leb, ltb, eqb}
+use lib.Dec.{ltb, eqb}
 use borrow.Author.Tests.{lt-ltb, le-ltb, ltb-true, ne-eqb}
 use Rattle.model.specs.declared.Delivery.{Delivery}
 use Rattle.model.specs.declared.Counts.{Counts}
 use Rattle.model.specs.declared.Answer.{Answer}
 use Rattle.model.specs.Lists.{sumOf}
 use Rattle.model.specs.Checks.{firstFailed}
-use Rattle.model.specs.Deliveries.{delivery, inRange, noTotals}
-use Rattle.model.specs.Calls.{Call, insert, delete, move}
+use Rattle.model.specs.Deliveries.{delivery, inRange}
+use Rattle.model.specs.Calls.{insert, delete, move}
 use Rattle.model.specs.Partitions.{startOf, oneMore, oneFewer}
-use Rattle.model.specs.Moves.{inserted, deleted, moved}
-use Rattle.model.specs.Directory.{partitionCount, directoryOf, directoryOk, withLengths}
+use Rattle.model.specs.Directory.{partitionCount, directoryOf, withLengths}
 use Rattle.model.specs.Column.{Column, lengthsOf, target, recordsNear, scannedOk, hasFreeSlot, isHeld}
 use Rattle.model.specs.Accesses.{counts, noCounts, andAlso, onward, apart, readsOf, scanNear, scanCounts, callCounts, missCounts}
 use Rattle.model.specs.Questions.{lentChecks, callChecks, columnChecks}
-use Rattle.model.specs.ColumnCalls.{Called, columnRefusal, columnAfter, columnCall, callTotals, refusedCounts, slotOf, moveSlices, freed}
+use Rattle.model.specs.ColumnCalls.{Called, columnRefusal, columnAfter, columnCall, callTotals, refusedCounts, slotOf, moveSlices}
 use Rattle.model.proofs.DirectoryLaws.{Shaped, Kept, with-lengths, shaped, shaped-passes, shaped-with, length-lengths}
 use Rattle.model.proofs.MovesLengths.{sum-oneFewer}
 use Rattle.checks.specs.Lent.{columnOf}
 use Rattle.column.specs.declared.Located.{Located}
 use Rattle.column.specs.declared.Opened.{Opened}
-use Rattle.column.specs.Answers.{refusedWith, acceptedWith, notLocated, locatedOf, notOpened, openedOf, Held, Ready, putOf, takenOf, shiftedOf}
-use Rattle.column.proofs.LentColumns.{LentColumn, lent-column, count-lengths, held}
+use Rattle.column.specs.Answers.{refusedWith, acceptedWith, locatedOf, notOpened, openedOf, Held, Ready, putOf, takenOf, shiftedOf}
+use Rattle.column.proofs.LentColumns.{lent-column, held}
 use Rattle.column.proofs.Answering.{lent-yes, lent-refusal, refused-call, accepted-lent, accepted-call}
 use Rattle.column.proofs.Reading.{target-there}
 use Rattle.column.proofs.Searching.{among-match, near-length, refusal-is}

@@ -1,6 +1,6 @@
 -- The cost of added histograms is the sum of their costs. Assumes nothing.
-use Prim.Native.Nat.{ℕ, zero, suc, _+_, _*_, _<_}
-use mathlib.Core.Path.{_≡_, refl, sym, ap, ap₂, _∙_}
+use Prim.Native.Nat.{ℕ, zero, suc, _+_}
+use mathlib.Core.Path.{_≡_, refl, ap, ap₂, _∙_}
 use mathlib.Core.List.{List, [], _∷_}
 use native.Mathlib.Omega.{arith}
 use lib.ListN.{length, getD}
@@ -9,7 +9,7 @@ use Rattle.model.specs.declared.PriceCard.{PriceCard}
 use Rattle.model.specs.Histograms.{Histogram, histograms, at, count, slot}
 use Rattle.model.specs.Cost.{price, sumBlocks, sumHistograms, costOf}
 use Rattle.model.specs.Laws.{addCounts}
-use Rattle.model.proofs.Integers.{Is, is-pos, is-exists, is-add, is-mul, eq-is}
+use Rattle.model.proofs.Integers.{is-exists, is-add, is-mul, eq-is}
 
 count-added : (a b : List ℕ) (i : ℕ) → length a ≡ length b → getD (addCounts a b) i 0 ≡ getD a i 0 + getD b i 0
 unfolding addCounts

@@ -1,12 +1,12 @@
 -- The directory and its numbers: what was written is read again, and new lengths change nothing else. Assumes nothing.
-use Prim.Native.Nat.{ℕ, zero, suc, _+_, _-_, _*_, _≤_, _<_}
+use Prim.Native.Nat.{ℕ, zero, suc, _+_, _-_, _*_, _≤_}
 use mathlib.Core.Path.{_≡_, refl, sym, ap, ap₂, _∙_, subst}
-use mathlib.Core.Bool.{Bool, true, false, _&&_, _||_, not}
+use mathlib.Core.Bool.{Bool, _&&_}
 use mathlib.Core.List.{List, [], _∷_, _++_, append-assoc}
 use native.Mathlib.Omega.{arith}
 use lib.Dec.{T, leb, eqb, leb→le, le→leb, eqb→eq}
-use lib.ListN.{length, getD, take, drop, replicate, length-append, length-replicate, length-take, length-drop}
-use lib.Seq.{take-at, drop-at, take-append-le, drop-append-le, take-append-add, drop-append-add, take-add, drop-drop, length-take-le}
+use lib.ListN.{length, take, drop, replicate, length-append, length-replicate, length-drop}
+use lib.Seq.{take-at, drop-at, take-append-add, drop-append-add, take-add, drop-drop, length-take-le}
 use Rattle.model.specs.Lists.{sumOf, every, rising}
 use Rattle.model.specs.Directory.{Directory, directorySize, partitionCount, directoryOf, unusedNumbers, padded, directoryNumbers, directoryOk, withLengths}
 use Rattle.model.proofs.Tests.{and-fst, and-snd, and-mk, eq→eqb}

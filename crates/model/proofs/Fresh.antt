@@ -1,16 +1,16 @@
 -- The freshly laid column: its shape, the blocks of its partitions, and the deliveries in them. Assumes nothing.
-use Prim.Native.Nat.{ℕ, zero, suc, _+_, _-_, _*_, _≤_, _<_, min, max}
-use mathlib.Core.Path.{_≡_, refl, sym, ap, _∙_, subst}
+use Prim.Native.Nat.{ℕ, zero, suc, _+_, _-_, _*_, _≤_, _<_}
+use mathlib.Core.Path.{_≡_, refl, sym, ap, _∙_}
 use mathlib.Core.Logic.{_≢_}
-use mathlib.Core.Bool.{Bool, true, false, _&&_, _||_}
+use mathlib.Core.Bool.{Bool, _&&_}
 use mathlib.Core.List.{List, [], _∷_, map}
 use native.Mathlib.Omega.{arith}
 use native.Mathlib.Numerals.{add-one}
 use native.Mathlib.Decide.{ℕ-discrete, decLt}
 use native.Mathlib.Nat.{mul-le-mul-right}
 use lib.Dec.{T, ltb, eqb, lt→ltb, eqb→eq, T-not}
-use lib.ListN.{length, getD, take, drop, length-map, length-take, length-drop}
-use lib.Seq.{getD-take, getD-drop, take-all}
+use lib.ListN.{length, getD, take, drop}
+use lib.Seq.{take-all}
 use Rattle.model.specs.declared.Delivery.{Delivery}
 use Rattle.model.specs.Lists.{sumOf, every, rising}
 use Rattle.model.specs.Place.{place}
@@ -20,8 +20,8 @@ use Rattle.model.specs.Layouts.{endOf, firstOf, separatesNone, blockCoun
 use Rattle.model.specs.Partitions.{startOf, between}
 use Rattle.model.specs.Column.{lengthsFrom, directoryFor}
 use Rattle.model.specs.Accesses.{blocksOf, blocksScanned}
-use Rattle.model.proofs.Tests.{and-fst, and-snd, and-mk, same-test, eq→eqb}
-use Rattle.model.proofs.ListLaws.{sum-span, map-take, map-drop, at-map, every-at, every-part, ceil-only, ceil-most}
+use Rattle.model.proofs.Tests.{and-fst, and-snd, and-mk, eq→eqb}
+use Rattle.model.proofs.ListLaws.{sum-span, map-take, map-drop, every-at, every-part, ceil-only, ceil-most}
 use Rattle.model.proofs.Places.{Placed}
 use Rattle.model.proofs.Deliveries.{nobody, among-part, rows-grower}
 use Rattle.model.proofs.Parts.{between-is}

@@ -1,13 +1,13 @@
 -- ℤ as differences of naturals, so that every law is one of sums. Assumes nothing.
-use mathlib.Core.Path.{_≡_, refl, sym, ap, _∙_, subst}
+use mathlib.Core.Path.{_≡_, refl, sym, ap, subst}
 use mathlib.Core.Logic.{_⊎_, inl, inr}
 use mathlib.Core.Bool.{Bool, true, false, not, cond}
 use Prim.Native.Nat.{ℕ, zero, suc, _+_, _-_, _*_, _≤_, _<_}
 use native.Mathlib.Omega.{arith}
-use native.Mathlib.Decide.{decLe, decLt}
-use lib.Dec.{T, leb, ltb, le→leb, lt→ltb, leb→le, ltb→lt, nltb→le}
-use lib.IntN.{ℤ, pos, negsuc, negℤ, subℕ, _+ℤ_, _-ℤ_, _*ℤ_}
-use lib.Signed.{_≤ℤ_, _<ℤ_, leZ, ltZ, ltZ-no}
+use native.Mathlib.Decide.{decLe}
+use lib.Dec.{T, ltb, le→leb, leb→le, ltb→lt, nltb→le}
+use lib.IntN.{ℤ, pos, negsuc, negℤ, subℕ, _+ℤ_, _*ℤ_}
+use lib.Signed.{_≤ℤ_, ltZ, ltZ-no}
 
 -- z is the difference p - m of two naturals
 unfoldable pub Is : ℤ → ℕ → ℕ → Type 0

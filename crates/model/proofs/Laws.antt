@@ -1,5 +1,4 @@
 -- The laws that specs/Laws.antt states. Assumes nothing.
-use mathlib.Core.Bool.{Bool}
 use Prim.Native.Nat.{ℕ}
 use Rattle.model.specs.Laws.{BlocksInPartitions, FreshBlocks, KeepsRecords, KeepsPartitions, LeavesSlots, CommutesWithMap, SlicesMoveAsOne, CostAdds, EveryLayoutListed, TotalOrder, AnswerUnique}
 use native.Mathlib.Omega.{arith}

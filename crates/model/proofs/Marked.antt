@@ -13,13 +13,12 @@ use Rattle.model.specs.Prices.{pricesOk, limitsOk, priced}
 use Rattle.model.specs.Layouts.{before, after, trailing, isLayout, layoutOk, blockCounts, mostPartitions, longestPartition, permitted, layoutsFrom}
 use Rattle.model.specs.Cost.{pointPrice, ripplePrice, price, sumBlocks, sumHistograms, costOf}
 use Rattle.model.specs.Plan.{permittedLayouts, cheapest}
-use Rattle.model.specs.Partitions.{parts, free, startOf, between, everyAt}
+use Rattle.model.specs.Partitions.{parts, free, startOf, between}
 use Rattle.model.specs.Moves.{rotateLeft, rotateRight, fillFromEnd, fillFromFront, insertAt, deleteAt, moveForward, moveBackward, moveWithin, moveAt, inserted, deleted, moved}
 use Rattle.model.specs.Directory.{directoryOf, unusedNumbers, directoryNumbers, directoryBlockOk, directoryOk, withLengths}
 use Rattle.model.specs.Column.{soundGrowers, sound, scannedOk, hasFreeSlot, isHeld, lengthsFrom, directoryFor}
 use Rattle.model.specs.Accesses.{blocksOf, blocksScanned, readsOf, scanCounts, scanNear, callCounts, missCounts}
 use Rattle.model.specs.Fields.{leading, justified, signedField, spelled, readField, line, takeNumbers, afterLineEnd, takeLine, takeLines}
-use Rattle.model.specs.Snapshot.{partitionLines, snapshotText, headerOk, takeHeader, bookOk, readBook, isBook, slotsForBook}
 use Rattle.model.specs.Questions.{recorderChecks, costChecks, plannerChecks, applyChecks, callChecks, columnChecks, partitionChecks, writeChecks, readChecks, ledgerChecks}
 use Rattle.model.specs.Recorder.{recorderRefusal, recordCall, recordCalls, acceptedCalls}
 use Rattle.model.specs.Planner.{costCall, plannedEnds, plannerRefusal, planCall}

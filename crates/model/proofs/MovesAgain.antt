@@ -1,9 +1,9 @@
 -- After a call the column is cut into the partitions that the call made of them, so that the next call begins where this one ended. Assumes nothing.
-use Prim.Native.Nat.{ℕ, suc, zero, _+_, _-_, _≤_, _<_}
-use mathlib.Core.Path.{_≡_, refl, sym, ap, _∙_, subst}
+use Prim.Native.Nat.{ℕ, _+_, _≤_, _<_}
+use mathlib.Core.Path.{_≡_, refl, sym, ap, _∙_}
 use mathlib.Core.List.{List, [], _∷_, _++_, map, flatten, List·Permᴰ}
 use native.Mathlib.Omega.{arith}
-use lib.ListN.{length, take, drop, getD, set, List·getD-map, length-append, length-drop, length-set}
+use lib.ListN.{length, drop, getD, List·getD-map, length-append, length-drop, length-set}
 use Rattle.model.specs.Lists.{sumOf}
 use Rattle.model.specs.Partitions.{parts, free}
 use Rattle.model.specs.Partitions.{part}

@@ -5,7 +5,7 @@ use mathlib.Core.Logic.{_≢_}
 use mathlib.Core.List.{List, [], _∷_, _++_, map, map-append}
 use native.Mathlib.Omega.{arith}
 use native.Mathlib.Numerals.{add-one}
-use lib.ListN.{length, take, drop, getD, set, length-set, length-append, length-take, length-drop, length-map, List·getD-map}
+use lib.ListN.{length, take, getD, length-set, length-append, length-take, length-drop, length-map, List·getD-map}
 use Rattle.model.specs.Lists.{sumOf}
 use Rattle.model.specs.Partitions.{oneMore, oneFewer}
 use Rattle.model.specs.Moves.{rotateLeft, rotateRight, fillFromEnd, fillFromFront, insertAt, deleteAt, moveForward, moveBackward, moveWithin, moveAt}

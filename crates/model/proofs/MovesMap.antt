@@ -1,9 +1,9 @@
 -- The columns of one set of rows move as one: each move commutes with map. Assumes nothing.
-use Prim.Native.Nat.{ℕ, suc, zero, _+_, _-_}
-use mathlib.Core.Path.{_≡_, refl, sym, ap, _∙_}
+use Prim.Native.Nat.{ℕ}
+use mathlib.Core.Path.{_≡_, refl, sym}
 use mathlib.Core.Bool.{Bool, true, false, cond}
-use mathlib.Core.List.{List, [], _∷_, _++_, map, map-append, flatten}
-use lib.ListN.{length, take, drop, getD, length-map, List·getD-map}
+use mathlib.Core.List.{List, [], _∷_, map, map-append, flatten}
+use lib.ListN.{drop, length-map, List·getD-map}
 use Rattle.model.specs.Lists.{sumOf}
 use Rattle.model.specs.Partitions.{parts, free}
 use Rattle.model.specs.Moves.{rotateLeft, rotateRight, fillFromEnd, fillFromFront, insertAt, deleteAt, moveForward, moveBackward, moveWithin, moveAt, inserted, deleted, moved}

@@ -1,15 +1,15 @@
 -- Cutting a column into partitions and joining them again. Assumes nothing.
 use Prim.Native.Nat.{ℕ, suc, zero, _+_, _-_, _≤_, _<_}
-use mathlib.Core.Path.{_≡_, refl, sym, ap, _∙_}
+use mathlib.Core.Path.{_≡_, refl, ap, _∙_}
 use mathlib.Core.List.{List, [], _∷_, _++_, append-assoc, append-nil, map, flatten}
 use native.Mathlib.Omega.{arith}
 use native.Mathlib.Numerals.{add-one}
-use lib.ListN.{length, getD, take, drop, set, length-set, length-take, length-drop, length-append, take-append-drop}
-use lib.Seq.{take-suc, drop-cons, take-add, drop-drop, split-at, length-take-le, take-append-seam, drop-append-seam, take-append-add, drop-append-add, getD-drop, getD-take, take-take, set-split, take-set-lt, drop-set-lt}
+use lib.ListN.{length, getD, take, drop, length-drop, take-append-drop}
+use lib.Seq.{drop-cons, take-add, drop-drop, split-at, length-take-le, take-append-seam, drop-append-seam, drop-append-add, take-take}
 use Rattle.model.specs.Lists.{sumOf}
 use Rattle.model.specs.Partitions.{parts, free, startOf, between}
 use Rattle.model.specs.Partitions.{part}
-use Rattle.model.proofs.ListLaws.{sum-cut, sum-span, sum-take-le, sum-take-next, flatten-append}
+use Rattle.model.proofs.ListLaws.{sum-cut, sum-span, sum-take-le, sum-take-next}
 
 module _ {A : Type 0} where
   pub flatten-parts : (ns : List ℕ) (s : List A) → flatten (parts ns s) ≡ take (sumOf ns) s

@@ -1,11 +1,10 @@
 -- The planner's answer: a layout that is permitted and comes before each permitted one, of which there is one at most. Assumes nothing.
-use Prim.Native.Nat.{ℕ, zero, suc, _+_, _≤_}
-use mathlib.Core.Path.{_≡_, refl, sym, ap, subst}
+use Prim.Native.Nat.{ℕ, _≤_}
+use mathlib.Core.Path.{_≡_, refl, sym, subst}
 use mathlib.Core.Logic.{_⊎_, inl, inr}
 use mathlib.Core.Bool.{Bool, true, false, cond, _&&_}
-use mathlib.Core.Option.{Option, none, some}
+use mathlib.Core.Option.{none, some}
 use mathlib.Core.List.{List, [], _∷_, List·Memᴰ, List·Memᴰ·head, List·Memᴰ·tail, List·Memᴰ·cases-cons, List·Memᴰ·not-nil}
-use native.Mathlib.Omega.{arith}
 use lib.Dec.{T, leb}
 use lib.ListN.{length}
 use lib.IntN.{ℤ}
@@ -15,7 +14,7 @@ use Rattle.model.specs.Lists.{every, keep}
 use Rattle.model.specs.Blocks.{Set, blocks}
 use Rattle.model.specs.Layouts.{isLayout, separatesNone, layoutOk, blockCounts, mostPartitions, longestPartition, permitted, everyLayout}
 use Rattle.model.specs.Cost.{costOf}
-use Rattle.model.specs.Plan.{comesBefore, permittedLayouts, cheapest}
+use Rattle.model.specs.Plan.{permittedLayouts, cheapest}
 use Rattle.model.specs.Laws.{IsCheapest}
 use Rattle.model.proofs.Tests.{and-fst, of-true}
 use Rattle.model.proofs.LayoutLaws.{every-layout}

@@ -2,7 +2,6 @@
 use Prim.Native.Nat.{ℕ}
 use mathlib.Core.Path.{_≡_}
 use mathlib.Core.List.{List}
-use lib.ListN.{length}
 use Rattle.model.specs.declared.Delivery.{Delivery}
 use Rattle.model.specs.Moves.{inserted, deleted, moved}
 use Rattle.model.specs.Column.{Column, slots}

@@ -1,8 +1,7 @@
 -- Access counts (01: the laid column): rr, sr and rw of a scan and of each call.
 use Prim.Native.Nat.{ℕ, _+_, _-_, max}
-use mathlib.Core.List.{List, map}
+use mathlib.Core.List.{map}
 use lib.ListN.{length, take, drop}
-use Rattle.model.specs.declared.Delivery.{Delivery}
 use Rattle.model.specs.declared.Counts.{Counts}
 use Rattle.model.specs.Lists.{sumOf, ceilDiv}
 use Rattle.model.specs.Place.{place}

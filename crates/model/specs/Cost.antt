@@ -3,7 +3,6 @@ use Prim.Native.Nat.{ℕ, zero, suc, _+_, _*_}
 use mathlib.Core.List.{List, [], _∷_}
 use lib.IntN.{ℤ, pos, negℤ, _+ℤ_, _-ℤ_, _*ℤ_}
 use Rattle.model.specs.declared.PriceCard.{PriceCard}
-use Rattle.model.specs.Blocks.{Set, blocks}
 use Rattle.model.specs.Histograms.{Histogram, pq, rs, re, sc, de, ins, udf, utf, udb, utb, histograms, at, count}
 use Rattle.model.specs.Layouts.{before, after, trailing}
 

@@ -1,6 +1,6 @@
 -- The recorder (01, 002 section 4.2): one call, and a list of calls.
 use Prim.Native.Nat.{ℕ}
-use mathlib.Core.Bool.{Bool, cond}
+use mathlib.Core.Bool.{cond}
 use mathlib.Core.List.{List, [], _∷_, _++_}
 use lib.Dec.{eqb}
 use Rattle.model.specs.Checks.{firstFailed}

@@ -2,11 +2,10 @@
 use Prim.Native.Nat.{ℕ}
 use mathlib.Core.Bool.{cond}
 use mathlib.Core.Option.{Option, none, some}
-use mathlib.Core.List.{List, [], _∷_, _++_, map}
+use mathlib.Core.List.{List, _++_, map}
 use lib.ListN.{length, drop}
 use lib.Dec.{eqb}
 use Rattle.model.specs.declared.Delivery.{Delivery}
-use Rattle.model.specs.declared.Applied.{Applied}
 use Rattle.model.specs.declared.Written.{Written}
 use Rattle.model.specs.Checks.{firstFailed}
 use Rattle.model.specs.Directory.{directoryNumbers, noDirectory}

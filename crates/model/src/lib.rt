@@ -80,12 +80,12 @@ impl Tally {
     }
 }
 
-// What a call on the column answers.
+// What a call on the column answers. Counts before totals: so the totals that a write answers with 0 are stored at once.
 #[repr(C)]
 pub struct Answer {
     pub refusal: u32,
-    pub totals: Totals,
     pub counts: Counts,
+    pub totals: Totals,
 }
 
 // What applying a layout or reading a snapshot answers: the directory, all 0 when refused.

@@ -24,8 +24,8 @@ pub struct Counts {
 #[derive(Clone, Copy, Debug, PartialEq, Eq)]
 pub struct Answer {
     pub refusal: u32,
-    pub totals: Totals,
     pub counts: Counts,
+    pub totals: Totals,
 }
 
 #[repr(C)]
@@ -190,7 +190,7 @@ impl Library {
         }
     }
 
-    #[inline(never)]
+    #[inline]
     pub fn apply_layout(&self, set: &SetSlices, ends: &[u32]) -> Applied {
         unsafe {
             declared::meltusk_apply_layout(
@@ -208,7 +208,7 @@ impl Library {
         }
     }
 
-    #[inline(never)]
+    #[inline]
     pub fn find(&self, column: &ColumnSlices, grower: u32) -> Answer {
         unsafe {
             declared::meltusk_find(
@@ -225,7 +225,7 @@ impl Library {
         }
     }
 
-    #[inline(never)]
+    #[inline]
     pub fn range(&self, column: &ColumnSlices, lo: u32, hi: u32) -> Answer {
         unsafe {
             declared::meltusk_range(
@@ -243,7 +243,7 @@ impl Library {
         }
     }
 
-    #[inline(never)]
+    #[inline]
     pub fn insert(&self, column: &mut ColumnSlices, delivery: Delivery) -> Answer {
         unsafe {
             declared::meltusk_insert(
@@ -262,7 +262,7 @@ impl Library {
         }
     }
 
-    #[inline(never)]
+    #[inline]
     pub fn delete(&self, column: &mut ColumnSlices, delivery: Delivery) -> Answer {
         unsafe {
             declared::meltusk_delete(
@@ -281,7 +281,7 @@ impl Library {
         }
     }
 
-    #[inline(never)]
+    #[inline]
     pub fn move_delivery(
         &self,
         column: &mut ColumnSlices,
@@ -306,7 +306,7 @@ impl Library {
         }
     }
 
-    #[inline(never)]
+    #[inline]
     pub fn partition(&self, directory: &[u32], growers: &[u32], grower: u32) -> PartitionSlice {
         unsafe {
             declared::meltusk_partition(

@@ -1,13 +1,5 @@
 -- `checks::slots_ok` meets its contract. Assumes nothing.
-use Prim.Native.Nat.{ℕ, _+_, _-_, _*_, _≤_, _<_}
-use mathlib.Core.Path.{_≡_, refl, sym, ap, _∙_}
-use native.Mathlib.Omega.{arith}
-use borrow.Author.Needs.{needs}
-use mathlib.Core.Bool.{Bool, true, false, cond, not, _&&_, _||_}
-use borrow.Author.Tests.{lt-leb, le-leb, eq-eqb, ne-eqb, not-true, not-false}
-use lib.Dec.{leb, eqb}
-use lib.ListN.{length, getD, take, drop, length-take, length-drop}
-use Rattle.checks.proofs.Answers.{and-no, and-yes, below, up-to, fails, passes, shape-refused, shape-judged}
+use Rattle.checks.proofs.Answers.{below, up-to}
 use Rattle.model.specs.Blocks.{slotsOk}
 use Rattle.checks.proofs.slots_ok.Statement.{statement}
 use Rattle.checks.proofs.slots_ok.Tie as tie

@@ -1,30 +1,17 @@
 -- `column::insert` meets its contract. Assumes nothing.
-use Prim.Native.Nat.{ℕ, _+_, _-_, _*_, _≤_, _<_}
-use mathlib.Core.Path.{_≡_, refl, sym, ap, _∙_}
+use Prim.Native.Nat.{ℕ}
+use mathlib.Core.Path.{refl, ap, _∙_}
 use native.Mathlib.Omega.{arith}
 use borrow.Author.Needs.{needs}
-use mathlib.Core.Bool.{Bool, true, false}
-use mathlib.Core.List.{List}
-use borrow.Author.Tests.{not-true, not-false}
-use lib.Dec.{T}
-use lib.ListN.{length, getD, take, drop, set, length-set, length-take, length-drop}
-use Rattle.model.specs.Lists.{sumOf, rising}
-use Rattle.model.specs.Place.{place}
-use Rattle.model.specs.Deliveries.{rows}
-use Rattle.model.specs.Column.{Column, lengthsOf, target}
-use Rattle.model.specs.Partitions.{startOf, oneMore, oneFewer}
-use Rattle.model.specs.Directory.{directoryOf, withLengths}
+use Rattle.model.specs.Column.{target}
+use Rattle.model.specs.Directory.{directoryOf}
 use Rattle.checks.specs.Lent.{columnOf}
-use Rattle.column.proofs.LentColumns.{LentColumn, lent-column, the-lengths, count-lengths, count-fences, held-directory, held, dir-size, dir-some, dir-few, dir-fences, dir-count, dir-rises, dir-ahead, dir-length, dir-start, dir-fits}
-use Rattle.column.proofs.Writing.{set-length, held-after, twice, column-is, opened-lent, opened-range, opened-full, opened-yes, ready, insert-refused, insert-open, insert-done, delete-refused, move-refused, found, scan-small, delete-done, move-done}
-use Rattle.column.proofs.Reading.{target-there, targets-ordered, range-backwards}
+use Rattle.column.proofs.LentColumns.{lent-column, count-fences, held}
+use Rattle.column.proofs.Writing.{ready, insert-refused, insert-open, insert-done}
+use Rattle.column.proofs.Reading.{target-there}
 use Rattle.model.specs.declared.Answer.{Answer}
-use Rattle.column.specs.Answers.{putOf, takenOf, shiftedOf, acceptedWith}
-use Rattle.model.specs.Accesses.{onward, apart, counts, andAlso}
-use Rattle.model.specs.declared.Counts.{Counts}
-use Rattle.model.specs.Deliveries.{delivery}
-use Rattle.model.specs.ColumnCalls.{Called, slotOf}
-use Rattle.model.specs.Calls.{find, range, insert, delete, move}
+use Rattle.column.specs.Answers.{putOf}
+use Rattle.model.specs.Accesses.{onward}
 use Rattle.column.proofs.insert.Statement.{statement}
 use Rattle.column.proofs.insert.Tie as tie
 

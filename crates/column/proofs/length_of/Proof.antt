@@ -1,13 +1,7 @@
 -- `column::length_of` meets its contract. Assumes nothing.
-use Prim.Native.Nat.{ℕ, _+_, _-_, _*_, _≤_, _<_}
-use mathlib.Core.Path.{_≡_, refl, sym, ap, _∙_}
+use Prim.Native.Nat.{_+_}
 use native.Mathlib.Omega.{arith}
-use borrow.Author.Needs.{needs}
-use lib.Dec.{T}
-use lib.ListN.{length, getD, take, drop, length-take, length-drop}
-use Rattle.model.specs.Lists.{sumOf, rising}
-use Rattle.model.specs.Place.{place}
-use Rattle.column.proofs.LentColumns.{LentColumn, lent-column, the-lengths, count-lengths, count-fences, held-directory, held, dir-size, dir-some, dir-few, dir-fences, dir-count, dir-rises, dir-ahead, dir-length, dir-start, dir-fits}
+use Rattle.column.proofs.LentColumns.{dir-size, dir-few, dir-length}
 use Rattle.column.proofs.length_of.Statement.{statement}
 use Rattle.column.proofs.length_of.Tie as tie
 

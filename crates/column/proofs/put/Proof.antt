@@ -1,27 +1,13 @@
 -- `column::put` meets its contract. Assumes nothing.
-use Prim.Native.Nat.{ℕ, _+_, _-_, _*_, _≤_, _<_}
-use mathlib.Core.Path.{_≡_, refl, sym, ap, _∙_}
 use native.Mathlib.Omega.{arith}
 use borrow.Author.Needs.{needs}
-use mathlib.Core.Bool.{Bool, true, false}
-use mathlib.Core.List.{List}
-use borrow.Author.Tests.{not-true, not-false}
-use lib.Dec.{T}
-use lib.ListN.{length, getD, take, drop, set, length-set, length-take, length-drop}
-use Rattle.model.specs.Lists.{sumOf, rising}
-use Rattle.model.specs.Place.{place}
-use Rattle.model.specs.Deliveries.{rows}
-use Rattle.model.specs.Column.{Column, lengthsOf, target}
-use Rattle.model.specs.Partitions.{startOf, oneMore, oneFewer}
-use Rattle.model.specs.Directory.{directoryOf, withLengths}
+use Rattle.model.specs.Column.{lengthsOf}
+use Rattle.model.specs.Partitions.{oneMore}
 use Rattle.checks.specs.Lent.{columnOf}
-use Rattle.column.proofs.LentColumns.{LentColumn, lent-column, the-lengths, count-lengths, count-fences, held-directory, held, dir-size, dir-some, dir-few, dir-fences, dir-count, dir-rises, dir-ahead, dir-length, dir-start, dir-fits}
-use Rattle.column.proofs.Writing.{set-length, held-after, twice, column-is, opened-lent, opened-range, opened-full, opened-yes, ready, insert-refused, insert-open, insert-done, delete-refused, move-refused, found, scan-small, delete-done, move-done}
-use Rattle.model.specs.Moves.{inserted, deleted, moved}
-use Rattle.model.specs.ColumnCalls.{freed}
-use Rattle.model.specs.Deliveries.{delivery}
+use Rattle.column.proofs.LentColumns.{dir-size, dir-few}
+use Rattle.column.proofs.Writing.{column-is}
+use Rattle.model.specs.Moves.{inserted}
 use Rattle.column.proofs.LentColumns.{dir-lengths, dir-many}
-use Rattle.column.specs.Answers.{Ready}
 use Rattle.column.proofs.put.Statement.{statement}
 use Rattle.column.proofs.put.Tie as tie
 

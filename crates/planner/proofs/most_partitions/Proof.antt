@@ -1,5 +1,5 @@
 -- `planner::most_partitions` meets its contract. Assumes nothing.
-use Prim.Native.Nat.{_+_, _-_}
+use Prim.Native.Nat.{_+_}
 use native.Mathlib.Omega.{arith}
 use native.Mathlib.Nat.{div-le-self}
 use Rattle.model.specs.Layouts.{mostPartitions}

@@ -1,7 +1,4 @@
 -- `slices::is_same` meets its contract. Assumes nothing.
-use Prim.Native.Nat.{ℕ, _+_, _-_, _*_, _≤_, _<_}
-use mathlib.Core.Path.{_≡_, refl, sym, ap, _∙_}
-use native.Mathlib.Omega.{arith}
 use borrow.Author.Needs.{needs}
 use Rattle.slices.proofs.Scans.{other-grower, other-weight, yield-decides}
 use Rattle.slices.proofs.is_same.Statement.{statement}

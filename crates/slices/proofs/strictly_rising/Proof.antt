@@ -1,12 +1,12 @@
 -- `slices::strictly_rising` meets its contract. Assumes nothing.
-use Prim.Native.Nat.{ℕ, _+_, _-_, _≤_, _<_}
+use Prim.Native.Nat.{_-_}
 use native.Mathlib.Omega.{arith}
 use borrow.Author.Needs.{needs}
 use mathlib.Core.Path.{_∙_}
 use lib.ListN.{length}
-use lib.Dec.{leb, ltb}
-use borrow.Author.Tests.{lt-leb, le-leb, lt-ltb, le-ltb}
-use Rattle.slices.proofs.Flags.{Chained, chain-start, chain-good, chain-bad, chain-end, chain-rising, chain-falls}
+use lib.Dec.{ltb}
+use borrow.Author.Tests.{lt-ltb, le-ltb}
+use Rattle.slices.proofs.Flags.{Chained, chain-start, chain-good, chain-bad, chain-end, chain-rising}
 use Rattle.slices.proofs.strictly_rising.Statement.{statement}
 use Rattle.slices.proofs.strictly_rising.Tie as tie
 

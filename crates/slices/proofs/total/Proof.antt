@@ -1,12 +1,12 @@
 -- `slices::total` meets its contract. Assumes nothing.
-use Prim.Native.Nat.{ℕ, _+_, _-_, _*_, _≤_, _<_}
-use mathlib.Core.Path.{_≡_, refl, sym, ap, _∙_}
+use Prim.Native.Nat.{_-_, _*_, _≤_}
+use mathlib.Core.Path.{_≡_, refl, ap, _∙_}
 use native.Mathlib.Omega.{arith}
 use borrow.Author.Needs.{needs}
-use lib.ListN.{length, take, getD}
+use lib.ListN.{length, take}
 use lib.Seq.{take-all}
 use Rattle.model.specs.Lists.{sumOf}
-use Rattle.model.proofs.ListLaws.{sum-take-next, sum-take-le}
+use Rattle.model.proofs.ListLaws.{sum-take-next}
 use Rattle.slices.proofs.total.Statement.{statement}
 use Rattle.slices.proofs.total.Tie as tie
 

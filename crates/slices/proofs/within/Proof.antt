@@ -1,10 +1,10 @@
 -- `slices::within` meets its contract. Assumes nothing.
-use Prim.Native.Nat.{ℕ, _+_, _-_, _≤_, _<_}
+use Prim.Native.Nat.{ℕ, _-_}
 use native.Mathlib.Omega.{arith}
 use borrow.Author.Needs.{needs}
 use lib.ListN.{length}
-use lib.Dec.{leb, eqb}
-use borrow.Author.Tests.{lt-leb, le-leb, ne-eqb, eq-eqb}
+use lib.Dec.{leb}
+use borrow.Author.Tests.{lt-leb, le-leb}
 use Rattle.slices.proofs.Flags.{Flagged, flag-start, flag-good, flag-bad, flag-end}
 use Rattle.slices.proofs.within.Statement.{statement}
 use Rattle.slices.proofs.within.Tie as tie
