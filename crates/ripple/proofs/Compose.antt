@@ -1,22 +1,22 @@
 -- How the calls are made of the two loops. Assumes nothing.
-use Prim.Native.Nat.{ℕ, suc, zero, _+_, _-_, _≤_, _<_}
+use Prim.Native.Nat.{ℕ, _+_, _-_, _≤_, _<_}
 use mathlib.Core.Path.{_≡_, refl, sym, ap, _∙_}
-use mathlib.Core.List.{List, [], _∷_, _++_, append-assoc, append-nil, map, flatten}
+use mathlib.Core.List.{List, [], _∷_, _++_, append-assoc, append-nil, flatten}
 use native.Mathlib.Omega.{arith}
 use native.Mathlib.Numerals.{add-one}
 use lib.ListN.{length, getD, take, drop, set, length-take, length-drop, take-append-drop, drop-of-length-le}
 use lib.Seq.{drop-cons, drop-drop, getD-drop, getD-take, take-take, take-all, slice-empty, take-set-le, drop-set-add, drop-append-le, length-take-le}
 use Rattle.model.specs.Lists.{sumOf}
-use Rattle.model.specs.Partitions.{parts, free, startOf}
-use Rattle.model.specs.Moves.{rotateLeft, rotateRight, fillFromEnd, fillFromFront, insertAt, deleteAt, moveForward, moveBackward, moveWithin, moveAt, inserted, deleted, moved}
-use Rattle.model.specs.Partitions.{part}
+use Rattle.model.specs.Partitions.{parts, free, startOf, part}
+use Rattle.model.specs.Moves.{rotateLeft, fillFromFront, insertAt, deleteAt, moveForward, moveBackward, moveWithin, inserted, deleted, moved}
 use Rattle.model.proofs.MoveCases.{moveAt-forward, moveAt-backward, moveAt-within}
 use Rattle.model.proofs.ListLaws.{flatten-append, flatten-at, sum-take-next, sum-take-le, sum-span, drop-take}
 use Rattle.model.proofs.Parts.{start-take, part-parts, flatten-take, take-parts, drop-parts, length-parts, free-cut, rest-of}
 use Rattle.ripple.proofs.Loops.{carry-up}
 
-pub tail-part-ns : (a : ℕ) (g : List ℕ) → take (length g - a) (drop a g) ≡ drop a g
-tail-part-ns a g = take-all (length g - a) (drop a g) (omega (arith, length-drop a g))
+-- the part of a list from a on, as it is lent
+pub tail-part : {A : Type 0} (a : ℕ) (g : List A) → take (length g - a) (drop a g) ≡ drop a g
+tail-part a g = take-all (length g - a) (drop a g) (omega (arith, length-drop a g))
 
 pub first-left : (t : ℕ) (ns : List ℕ) → getD (drop t ns) 0 0 ≡ getD ns t 0
 first-left t ns =
@@ -132,20 +132,17 @@ module _ {A : Type 0} where
       let h : length (drop a g) ≤ length g - a = omega (arith, length-drop a g) in
       rw (drop-of-length-le (drop a g) h, append-nil)
 
-  pub tail-part : (a : ℕ) (g : List A) → take (length g - a) (drop a g) ≡ drop a g
-  tail-part a g = take-all (length g - a) (drop a g) (omega (arith, length-drop a g))
-
   pub put-law : (ns : List ℕ) (t a : ℕ) (x : A) (s l : List A) → a ≡ startOf ns t
       → l ≡ inserted (take (length ns - t) (drop t ns)) 0 x (take (length s - a) (drop a s))
       → take a s ++ (l ++ drop (length s - a) (drop a s)) ≡ inserted ns t x s
   unfolding startOf
-  put-law ns t a x s l e h = rw (tail-back a s l, h, tail-part-ns t ns, tail-part a s, e) (sym (inserted-from ns t x s))
+  put-law ns t a x s l e h = rw (tail-back a s l, h, tail-part t ns, tail-part a s, e) (sym (inserted-from ns t x s))
 
   pub pull-law : (ns : List ℕ) (t a i : ℕ) (x : A) (s l : List A) → a ≡ startOf ns t
       → l ≡ deleted (take (length ns - t) (drop t ns)) 0 i x (take (length s - a) (drop a s))
       → take a s ++ (l ++ drop (length s - a) (drop a s)) ≡ deleted ns t i x s
   unfolding startOf
-  pull-law ns t a i x s l e h = rw (tail-back a s l, h, tail-part-ns t ns, tail-part a s, e) (sym (deleted-from ns t i x s))
+  pull-law ns t a i x s l e h = rw (tail-back a s l, h, tail-part t ns, tail-part a s, e) (sym (deleted-from ns t i x s))
 
   pub back-law : (d : A) (ns : List ℕ) (t b i u a : ℕ) (x : A) (s l : List A) → u < t → t < length ns → i < getD ns t 0 → sumOf ns ≤ length s
       → b ≡ startOf ns t → a ≡ startOf ns u

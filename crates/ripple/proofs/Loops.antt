@@ -4,12 +4,11 @@ use mathlib.Core.Path.{_≡_, refl, sym, ap, _∙_}
 use mathlib.Core.List.{List, [], _∷_, _++_, append-assoc, append-nil, map, flatten}
 use native.Mathlib.Omega.{arith}
 use native.Mathlib.Numerals.{add-one}
-use lib.ListN.{length, getD, take, drop, set, length-take, length-drop, length-set, length-append}
-use lib.Seq.{take-suc, take-nil, drop-cons, take-add, drop-at, drop-append-le, drop-drop, set-split, set-getD, getD-take, getD-drop, take-set-le, drop-set-lt, length-take-le, take-take, take-length, drop-length, take-append-add, take-append-seam, drop-append-seam, append-snoc}
+use lib.ListN.{length, getD, take, drop, set, length-drop, length-set, length-append}
+use lib.Seq.{take-suc, drop-cons, drop-append-le, drop-drop, set-split, set-getD, getD-drop, take-set-le, drop-set-lt, length-take-le, take-take, take-length, drop-length, take-append-add, take-append-seam, drop-append-seam}
 use Rattle.model.specs.Lists.{sumOf}
 use Rattle.model.specs.Partitions.{parts, free}
-use Rattle.model.specs.Moves.{rotateLeft, rotateRight, fillFromEnd, fillFromFront, insertAt, deleteAt, inserted, deleted}
-use Rattle.model.specs.Partitions.{part}
+use Rattle.model.specs.Moves.{rotateLeft, rotateRight, fillFromEnd, insertAt, deleteAt, inserted, deleted}
 use Rattle.model.proofs.ListLaws.{sum-take-next, sum-take-le, drop-take}
 
 module _ {A : Type 0} where
@@ -160,7 +159,7 @@ module _ {A : Type 0} where
       let b : drop (suc p) s ≡ ups ns (drop p s₀) = ap (λ (k : ℕ). drop k s) (sym (add-one p)) ∙ m .back ∙ rw e in
       rw (inserted-first, en, set-split s p x (omega (arith, m .len)), m .front, b)
 
-  pub lower-start : (d : A) (lens : List ℕ) (i : ℕ) (x : A) (s : List A) → 1 ≤ length lens → i < getD lens 0 0 → sumOf lens ≤ length s
+  lower-start : (d : A) (lens : List ℕ) (i : ℕ) (x : A) (s : List A) → 1 ≤ length lens → i < getD lens 0 0 → sumOf lens ≤ length s
       → work lens x (set s i (getD s (getD lens 0 0 - 1) d)) (getD lens 0 0 - 1) 1 ≡ deleted lens 0 i x s
   unfolding sumOf work fillFromEnd
   lower-start d [] i x s h k l = absurd (omega arith)
@@ -173,7 +172,7 @@ module _ {A : Type 0} where
       let f : drop (i + 1) (take n s) ≡ take m (drop (i + 1) s) = ap (λ (k : ℕ). drop (i + 1) (take k s)) e' ∙ drop-take (i + 1) m s in
       rw (deleted-first, c, e1, drop-set-lt n s i _ k, f, take-take i n s (omega arith))
 
-  pub lower-turn : (d : A) (lens : List ℕ) (x : A) (s : List A) (p j : ℕ) → j < length lens → sumOf lens ≤ length s → Spot lens (p + 1) j
+  lower-turn : (d : A) (lens : List ℕ) (x : A) (s : List A) (p j : ℕ) → j < length lens → sumOf lens ≤ length s → Spot lens (p + 1) j
       → work lens x (set s p (getD s (p + getD lens j 0) d)) (p + getD lens j 0) (j + 1) ≡ work lens x s p j
   unfolding work
   lower-turn d lens x s p j h l w =
@@ -183,6 +182,23 @@ module _ {A : Type 0} where
       let e : p + 1 + n ≡ p + n + 1 = omega arith in
       rw (carry-down d s p n r, drop-set-lt (p + n + 1) s p _ (omega arith), k, downs-cons, drop-drop, e, append-assoc)
 
-  pub lower-end : (lens : List ℕ) (x : A) (s : List A) (p j : ℕ) → j ≡ length lens → p < length s → set s p x ≡ work lens x s p j
+  lower-end : (lens : List ℕ) (x : A) (s : List A) (p j : ℕ) → j ≡ length lens → p < length s → set s p x ≡ work lens x s p j
   unfolding work downs parts free sumOf flatten
   lower-end lens x s p j h l = rw (h, drop-length, add-one, set-split s p x l)
+
+  pub lowered-start : (lens : List ℕ) (x : A) (s : List A) (p j : ℕ) → Lowered lens x s p j s p j
+  lowered-start lens x s p j = record { len = refl; same = refl }
+
+  pub lowered-turn : (d : A) (lens : List ℕ) (x : A) (s₀ : List A) (p₀ j₀ : ℕ) (s : List A) (p j : ℕ) → j < length lens → sumOf lens ≤ length s → Spot lens (p + 1) j
+      → Lowered lens x s₀ p₀ j₀ s p j → Lowered lens x s₀ p₀ j₀ (set s p (getD s (p + getD lens j 0) d)) (p + getD lens j 0) (j + 1)
+  lowered-turn d lens x s₀ p₀ j₀ s p j h l w m = record { len = length-set s p _ ∙ m .len; same = lower-turn d lens x s p j h l w ∙ m .same }
+
+  -- s₁ is where the loop begins: slot i has the partition's last record
+  pub lowered-end : (d : A) (lens : List ℕ) (i : ℕ) (x : A) (s₀ s₁ s : List A) (p j : ℕ) → length lens ≤ j → i < getD lens 0 0 → sumOf lens ≤ length s₀ → Spot lens (p + 1) j
+      → s₁ ≡ set s₀ i (getD s₀ (getD lens 0 0 - 1) d) → Lowered lens x s₁ (getD lens 0 0 - 1) 1 s p j → set s p x ≡ deleted lens 0 i x s₀
+  lowered-end d lens i x s₀ s₁ s p j h k l w e m =
+      let n : length s₁ ≡ length s₀ = ap length e ∙ length-set s₀ i _ in
+      lower-end lens x s p j (omega arith) (omega (arith, m .len, spot-in lens (p + 1) j w))
+      ∙ m .same
+      ∙ ap (λ (r : List A). work lens x r (getD lens 0 0 - 1) 1) e
+      ∙ lower-start d lens i x s₀ (omega arith) k l

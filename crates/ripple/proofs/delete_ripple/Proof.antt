@@ -1,44 +1,50 @@
 -- `ripple::delete_ripple` meets its contract. Assumes nothing.
-use Prim.Native.Nat.{ℕ, suc, _≤_, _<_, _-_, _+_}
-use mathlib.Core.Path.{_≡_, refl, sym, _∙_, ap}
+use Prim.Native.Nat.{_+_, _-_, _≤_}
+use mathlib.Core.Path.{_≡_, _∙_}
 use native.Mathlib.Omega.{arith}
-use lib.ListN.{length, take, drop, getD, set, length-set}
+use lib.ListN.{length}
 use borrow.Author.Needs.{needs}
 use Rattle.model.specs.Lists.{sumOf}
 use Rattle.model.proofs.ListLaws.{elem-le}
-use Rattle.ripple.proofs.Loops.{Spot, Lowered, work, spot-first, spot-up, spot-in, spot-room, lower-start, lower-turn, lower-end}
+use Rattle.ripple.proofs.Loops.{Spot, Lowered, spot-first, spot-up, spot-in, spot-room, lowered-start, lowered-turn, lowered-end}
 use Rattle.ripple.proofs.delete_ripple.Statement.{statement}
 use Rattle.ripple.proofs.delete_ripple.Tie as tie
 
 abbrev Inv-loop : tie.InvT-loop
-Inv-loop s₀ lens i x p₀ j₀ s p j = Spot lens (p + 1) j × (sumOf lens ≤ length s) × Lowered lens x s₀ p₀ j₀ s p j
+Inv-loop g₀ w₀ y₀ lens i d p₀ j₀ g w y p j
+    = Spot lens (p + 1) j
+    × (sumOf lens ≤ length g₀)
+    × (length w₀ ≡ length g₀)
+    × (length y₀ ≡ length g₀)
+    × Lowered lens (d .grower) g₀ p₀ j₀ g p j
+    × Lowered lens (d .weight) w₀ p₀ j₀ w p j
+    × Lowered lens (d .«oil_yield») y₀ p₀ j₀ y p j
 
 abbrev μ-loop : tie.MeasureT-loop
-μ-loop s₀ lens i x p₀ j₀ s p j = length lens - j
+μ-loop g₀ w₀ y₀ lens i d p₀ j₀ g w y p j = length lens - j
 
 shared-slice-read-p : tie.Need-shared-slice-read-p Inv-loop μ-loop
 shared-slice-read-p c = omega arith
 
 cast-p : tie.Need-cast-p Inv-loop μ-loop
-cast-p c = omega (arith, c .shared-slice-known .given 0)
+cast-p c = omega (arith, c .shared-slice-known2 .given 0)
 
 sub-p : tie.Need-sub-p Inv-loop μ-loop
 sub-p c = omega arith
 
-mul-s : tie.Need-mul-s Inv-loop μ-loop
-mul-s c = omega (arith, elem-le (c .before .args .lens .now) 0)
-
-slice-read-s : tie.Need-slice-read-s Inv-loop μ-loop
-slice-read-s c = omega (arith, elem-le (c .before .before .args .lens .now) 0)
-
-mul-s-2 : tie.Need-mul-s-2 Inv-loop μ-loop
-mul-s-2 c = omega (arith, elem-le (c .before .before .args .lens .now) 0)
-
-slice-write-s : tie.Need-slice-write-s Inv-loop μ-loop
-slice-write-s c = omega (arith, elem-le (c .before .before .args .lens .now) 0)
+carry-requires : tie.Need-carry-requires Inv-loop μ-loop
+carry-requires c κs = omega (arith, elem-le (c .before .before .before .before .before .before .before .before .args .lens .now) 0)
 
 loop-holds : tie.Need-loop-holds Inv-loop μ-loop
-loop-holds c = (spot-first _ _ (omega arith) (omega arith), rw length-set (omega arith), record { len = refl; same = refl })
+loop-holds c = (
+  spot-first _ _ (omega arith) (omega arith),
+  omega arith,
+  omega arith,
+  omega arith,
+  lowered-start _ _ _ _ _,
+  lowered-start _ _ _ _ _,
+  lowered-start _ _ _ _ _,
+)
 
 mul-q : tie.Need-mul-q Inv-loop μ-loop
 mul-q c = search needs
@@ -47,22 +53,15 @@ shared-slice-read-q : tie.Need-shared-slice-read-q Inv-loop μ-loop
 shared-slice-read-q c = omega arith
 
 cast-q : tie.Need-cast-q Inv-loop μ-loop
-cast-q c = omega (arith, c .shared-slice-known2 .given (c .before .before .loop .j))
+cast-q c = omega (arith, c .shared-slice-known3 .given (c .before .before .loop .j))
 
 add-q : tie.Need-add-q Inv-loop μ-loop
 add-q c = omega (arith, spot-room _ _ _ (c .before .loop-test .taken) (c .before .before .loop .inv .0))
 
-mul-s-3 : tie.Need-mul-s-3 Inv-loop μ-loop
-mul-s-3 c = omega (arith, spot-room _ _ _ (c .before .loop-test .taken) (c .before .before .loop .inv .0))
-
-slice-read-s-2 : tie.Need-slice-read-s-2 Inv-loop μ-loop
-slice-read-s-2 c = omega (arith, spot-room _ _ _ (c .before .before .loop-test .taken) (c .before .before .before .loop .inv .0))
-
-mul-s-4 : tie.Need-mul-s-4 Inv-loop μ-loop
-mul-s-4 c = omega (arith, spot-room _ _ _ (c .before .before .loop-test .taken) (c .before .before .before .loop .inv .0))
-
-slice-write-s-2 : tie.Need-slice-write-s-2 Inv-loop μ-loop
-slice-write-s-2 c = omega (arith, spot-room _ _ _ (c .before .before .loop-test .taken) (c .before .before .before .loop .inv .0))
+carry-requires-2 : tie.Need-carry-requires-2 Inv-loop μ-loop
+carry-requires-2 c κs =
+    let b = c .before .before .before .before in
+    omega (arith, spot-room _ _ _ (b .loop-test .taken) (b .before .loop .inv .0))
 
 add-j : tie.Need-add-j Inv-loop μ-loop
 add-j c = omega arith
@@ -72,27 +71,46 @@ loop-less c = omega arith
 
 loop-again : tie.Need-loop-again Inv-loop μ-loop
 loop-again c =
-    let l = c .before .before .before .loop in
-    let t = c .before .before .loop-test .taken in (
-      spot-up _ _ _ t (l .inv .0),
-      rw length-set (l .inv .1),
-      record { len = length-set (l .s) _ _ ∙ l .inv .2 .len; same = lower-turn 0 _ _ _ _ _ t (l .inv .1) (l .inv .0) ∙ l .inv .2 .same },
+    let b = c .before .before .before .before .before .before in
+    let e = b .carry2 .ensures in
+    let i = b .before .before .before .before .before .before .loop .inv in
+    let t = b .before .before .before .before .before .loop-test .taken in
+    rw (e .0, e .1, e .2) (
+      spot-up _ _ _ t (i .0),
+      i .1,
+      i .2,
+      i .3,
+      lowered-turn 0 _ _ _ _ _ _ _ _ t (omega arith) (i .0) (i .4),
+      lowered-turn 0 _ _ _ _ _ _ _ _ t (omega arith) (i .0) (i .5),
+      lowered-turn 0 _ _ _ _ _ _ _ _ t (omega arith) (i .0) (i .6),
     )
 
-mul-s-5 : tie.Need-mul-s-5 Inv-loop μ-loop
-mul-s-5 c = omega (arith, spot-in _ _ _ (c .before .loop .inv .0))
-
-slice-write-s-3 : tie.Need-slice-write-s-3 Inv-loop μ-loop
-slice-write-s-3 c = omega (arith, spot-in _ _ _ (c .before .loop .inv .0))
+store-requires : tie.Need-store-requires Inv-loop μ-loop
+store-requires c κs = omega (arith, spot-in _ _ _ (c .before .before .before .before .loop .inv .0))
 
 same-length : tie.Need-same-length Inv-loop μ-loop
-same-length c = simp length-set (simp length-set at (c .before .loop .inv .2 .len))
+same-length c = omega arith
+
+same-length-2 : tie.Need-same-length-2 Inv-loop μ-loop
+same-length-2 c = omega arith
+
+same-length-3 : tie.Need-same-length-3 Inv-loop μ-loop
+same-length-3 c = omega arith
 
 returns : tie.Need-returns Inv-loop μ-loop
 returns c =
-    let l = c .before .loop in
-    let g = c .before .before .before .before in
-    lower-end _ _ _ _ _ (omega arith) (omega (arith, spot-in _ _ _ (l .inv .0))) ∙ l .inv .2 .same ∙ lower-start 0 _ _ _ _ (omega arith) (omega arith) (omega arith)
+    let b = c .before .before .before .before .before .before in
+    let e = b .store .ensures in
+    let t = b .before .before .before .before .loop-test .left in
+    let l = b .before .before .before .before .before in
+    let i = l .loop .inv in
+    let a = l .before .before .before .before .before .before .before in
+    let f = a .carry .ensures in
+    let r = a .before .before .before .before .before .before .before .before .before .pre in (
+      e .0 ∙ lowered-end 0 _ _ _ _ _ _ _ _ t (r .1) (r .2) (i .0) (f .0) (i .4),
+      e .1 ∙ lowered-end 0 _ _ _ _ _ _ _ _ t (r .1) (omega arith) (i .0) (f .1) (i .5),
+      e .2 ∙ lowered-end 0 _ _ _ _ _ _ _ _ t (r .1) (omega arith) (i .0) (f .2) (i .6),
+    )
 
 pub delete-ripple-spec : {M : Type 1} → statement M
 delete-ripple-spec =
@@ -103,23 +121,18 @@ delete-ripple-spec =
     shared-slice-read-p
     cast-p
     sub-p
-    mul-s
-    slice-read-s
-    mul-s-2
-    slice-write-s
+    carry-requires
     loop-holds
     mul-q
     shared-slice-read-q
     cast-q
     add-q
-    mul-s-3
-    slice-read-s-2
-    mul-s-4
-    slice-write-s-2
+    carry-requires-2
     add-j
     loop-less
     loop-again
-    mul-s-5
-    slice-write-s-3
+    store-requires
     same-length
+    same-length-2
+    same-length-3
     returns)

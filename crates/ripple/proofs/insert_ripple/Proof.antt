@@ -1,22 +1,21 @@
 -- `ripple::insert_ripple` meets its contract. Assumes nothing.
-use Prim.Native.Nat.{ℕ, suc, _≤_, _<_, _-_, _+_}
-use mathlib.Core.Path.{_≡_, refl, sym, _∙_, ap}
+use Prim.Native.Nat.{_≤_, _<_, _-_}
+use mathlib.Core.Path.{_∙_}
 use native.Mathlib.Omega.{arith}
-use lib.ListN.{length, take, drop, getD, set, length-set}
+use lib.ListN.{length}
 use borrow.Author.Needs.{needs}
-use Rattle.model.specs.Lists.{sumOf}
 use Rattle.ripple.proofs.Loops.{Spot, Lifted, spot-last, spot-sum, spot-down, lifted-start, lifted-turn, lifted-end}
 use Rattle.ripple.proofs.insert_ripple.Statement.{statement}
 use Rattle.ripple.proofs.insert_ripple.Tie as tie
 
 abbrev Inv-loop : tie.InvT-loop
-Inv-loop s₀ lens end x p₀ j₀ s p j = Spot lens p j × (p < length s₀) × Lifted lens s₀ s p j
+Inv-loop g₀ w₀ y₀ lens end d p₀ j₀ g w y p j = Spot lens p j × (p < length g₀) × Lifted lens g₀ g p j × Lifted lens w₀ w p j × Lifted lens y₀ y p j
 
 abbrev μ-loop : tie.MeasureT-loop
-μ-loop s₀ lens end x p₀ j₀ s p j = j
+μ-loop g₀ w₀ y₀ lens end d p₀ j₀ g w y p j = j
 
 loop-holds : tie.Need-loop-holds Inv-loop μ-loop
-loop-holds c = (spot-last _ _ (omega arith) (omega arith), omega arith, lifted-start _ _ _)
+loop-holds c = (spot-last _ _ (omega arith) (omega arith), omega arith, lifted-start _ _ _, lifted-start _ _ _, lifted-start _ _ _)
 
 sub-j : tie.Need-sub-j Inv-loop μ-loop
 sub-j c = omega arith
@@ -28,42 +27,54 @@ shared-slice-read-q : tie.Need-shared-slice-read-q Inv-loop μ-loop
 shared-slice-read-q c = omega arith
 
 cast-q : tie.Need-cast-q Inv-loop μ-loop
-cast-q c = omega (arith, c .shared-slice-known .given (c .before .before .loop .j - 1))
+cast-q c = omega (arith, c .shared-slice-known2 .given (c .before .before .loop .j - 1))
 
 sub-q : tie.Need-sub-q Inv-loop μ-loop
 sub-q c = omega (arith, spot-sum _ _ _ (c .before .before .loop .inv .0))
 
-mul-s : tie.Need-mul-s Inv-loop μ-loop
-mul-s c = omega arith
-
-slice-read-s : tie.Need-slice-read-s Inv-loop μ-loop
-slice-read-s c = omega arith
-
-mul-s-2 : tie.Need-mul-s-2 Inv-loop μ-loop
-mul-s-2 c = omega arith
-
-slice-write-s : tie.Need-slice-write-s Inv-loop μ-loop
-slice-write-s c = omega arith
+carry-requires : tie.Need-carry-requires Inv-loop μ-loop
+carry-requires c κs = omega arith
 
 loop-less : tie.Need-loop-less Inv-loop μ-loop
 loop-less c = omega arith
 
 loop-again : tie.Need-loop-again Inv-loop μ-loop
 loop-again c =
-    let l = c .before .before .before .loop in
-    (spot-down _ _ _ (c .before .before .loop-test .taken) (l .inv .0), omega arith, lifted-turn 0 _ _ _ _ _ (c .before .before .loop-test .taken) (l .inv .1) (l .inv .0) (l .inv .2))
+    let b = c .before .before .before .before .before .before in
+    let e = b .carry .ensures in
+    let l = b .before .before .before .before .before .before .loop in
+    let t : 1 < l .j = omega arith in
+    rw (e .0, e .1, e .2) (
+      spot-down _ _ _ t (l .inv .0),
+      omega arith,
+      lifted-turn 0 _ _ _ _ _ t (omega arith) (l .inv .0) (l .inv .2),
+      lifted-turn 0 _ _ _ _ _ t (omega arith) (l .inv .0) (l .inv .3),
+      lifted-turn 0 _ _ _ _ _ t (omega arith) (l .inv .0) (l .inv .4),
+    )
 
-mul-s-3 : tie.Need-mul-s-3 Inv-loop μ-loop
-mul-s-3 c = omega arith
-
-slice-write-s-2 : tie.Need-slice-write-s-2 Inv-loop μ-loop
-slice-write-s-2 c = omega arith
+store-requires : tie.Need-store-requires Inv-loop μ-loop
+store-requires c κs = omega arith
 
 same-length : tie.Need-same-length Inv-loop μ-loop
-same-length c = simp length-set (c .before .loop .inv .2 .len)
+same-length c = omega arith
+
+same-length-2 : tie.Need-same-length-2 Inv-loop μ-loop
+same-length-2 c = omega arith
+
+same-length-3 : tie.Need-same-length-3 Inv-loop μ-loop
+same-length-3 c = omega arith
 
 returns : tie.Need-returns Inv-loop μ-loop
-returns c = lifted-end _ _ _ _ _ _ (c .loop-test .left) (c .before .loop .inv .1) (c .before .loop .inv .0) (c .before .loop .inv .2)
+returns c =
+    let b = c .before .before .before .before .before .before in
+    let e = b .store .ensures in
+    let l = b .before .before .before .before .before .loop in
+    let i = l .inv in
+    let t : l .j ≤ 1 = omega arith in (
+      e .0 ∙ lifted-end _ _ _ _ _ _ t (omega arith) (i .0) (i .2),
+      e .1 ∙ lifted-end _ _ _ _ _ _ t (omega arith) (i .0) (i .3),
+      e .2 ∙ lifted-end _ _ _ _ _ _ t (omega arith) (i .0) (i .4),
+    )
 
 pub insert-ripple-spec : {M : Type 1} → statement M
 insert-ripple-spec =
@@ -77,13 +88,11 @@ insert-ripple-spec =
     shared-slice-read-q
     cast-q
     sub-q
-    mul-s
-    slice-read-s
-    mul-s-2
-    slice-write-s
+    carry-requires
     loop-less
     loop-again
-    mul-s-3
-    slice-write-s-2
+    store-requires
     same-length
+    same-length-2
+    same-length-3
     returns)

@@ -1,0 +1,121 @@
+-- `ripple::backward_slots` meets its contract. Assumes nothing.
+use Prim.Native.Nat.{ℕ, _≤_}
+use native.Mathlib.Omega.{arith}
+use borrow.Author.Needs.{needs}
+use lib.ListN.{length, length-take, length-drop}
+use Rattle.model.proofs.Parts.{start-le, start-mono}
+use Rattle.ripple.proofs.Compose.{ahead, back-law}
+use Rattle.ripple.proofs.backward_slots.Statement.{statement}
+use Rattle.ripple.proofs.backward_slots.Tie as tie
+
+inside : (s : tie.Start) → (s .args .a ≤ length (s .args .g .now)) × (s .args .a ≤ length (s .args .w .now)) × (s .args .a ≤ length (s .args .y .now)) × (s .args .a ≤ s .args .b)
+inside s = omega (arith, start-le (s .args .lens .now) (s .args .t), start-mono (s .args .lens .now) (s .args .u) (s .args .t) (omega arith))
+
+sub-n : tie.Need-sub-n
+sub-n c = inside (c .before .before .before .before) .3
+
+mul-backward-ripple : tie.Need-mul-backward-ripple
+mul-backward-ripple c = omega (arith, inside (c .before .before .before .before))
+
+sub-backward-ripple : tie.Need-sub-backward-ripple
+sub-backward-ripple c = inside (c .before .before .before .before) .0
+
+part-backward-ripple-start : tie.Need-part-backward-ripple-start
+part-backward-ripple-start c = inside (c .before .before .before .before) .0
+
+part-backward-ripple-end : tie.Need-part-backward-ripple-end
+part-backward-ripple-end c = search needs
+
+mul-backward-ripple-2 : tie.Need-mul-backward-ripple-2
+mul-backward-ripple-2 c = omega (arith, inside (c .before .before .before .before .before))
+
+sub-backward-ripple-2 : tie.Need-sub-backward-ripple-2
+sub-backward-ripple-2 c = inside (c .before .before .before .before .before) .1
+
+part-backward-ripple-start-2 : tie.Need-part-backward-ripple-start-2
+part-backward-ripple-start-2 c = inside (c .before .before .before .before .before) .1
+
+part-backward-ripple-end-2 : tie.Need-part-backward-ripple-end-2
+part-backward-ripple-end-2 c = search needs
+
+mul-backward-ripple-3 : tie.Need-mul-backward-ripple-3
+mul-backward-ripple-3 c = omega (arith, inside (c .before .before .before .before .before .before))
+
+sub-backward-ripple-3 : tie.Need-sub-backward-ripple-3
+sub-backward-ripple-3 c = inside (c .before .before .before .before .before .before) .2
+
+part-backward-ripple-start-3 : tie.Need-part-backward-ripple-start-3
+part-backward-ripple-start-3 c = inside (c .before .before .before .before .before .before) .2
+
+part-backward-ripple-end-3 : tie.Need-part-backward-ripple-end-3
+part-backward-ripple-end-3 c = search needs
+
+mul-backward-ripple-4 : tie.Need-mul-backward-ripple-4
+mul-backward-ripple-4 c = search needs
+
+sub-backward-ripple-4 : tie.Need-sub-backward-ripple-4
+sub-backward-ripple-4 c = search needs
+
+part-backward-ripple-start-4 : tie.Need-part-backward-ripple-start-4
+part-backward-ripple-start-4 c = search needs
+
+part-backward-ripple-end-4 : tie.Need-part-backward-ripple-end-4
+part-backward-ripple-end-4 c = search needs
+
+backward-ripple-requires : tie.Need-backward-ripple-requires
+backward-ripple-requires c κs =
+    let s = c .before .before .before .before .before .before .before .before in
+    let a = s .args in
+    let p = s .pre in
+    let r = ahead (a .lens .now) (a .u) (a .t) (a .b) (a .a) (a .i) (length (a .g .now)) (p .0) (p .1) (p .2) (p .3) (p .4) (p .5) in
+    (r .0, r .1, simp (length-take, length-drop) (omega arith), simp (length-take, length-drop) (omega arith), simp (length-take, length-drop) (omega arith))
+
+same-length : tie.Need-same-length
+same-length c = c .before .before .before .before .before .g .given .1
+
+same-length-2 : tie.Need-same-length-2
+same-length-2 c = c .before .before .before .w .given .1
+
+same-length-3 : tie.Need-same-length-3
+same-length-3 c = c .before .y .given .1
+
+returns : tie.Need-returns
+returns c =
+    let b = c .before .before .before .before .before .before in
+    let e = b .backward-ripple .ensures in
+    let l = b .backward-ripple .last in
+    let s = b .before .before .before .before .before .before .before .before .before in
+    let a = s .args in
+    let law = back-law {A = ℕ} 0 (a .lens .now) (a .t) (a .b) (a .i) (a .u) (a .a) in
+    let p = s .pre in (
+      law (a .d .grower) (a .g .now) (l .0) (p .0) (p .1) (p .4) (omega arith) (p .2) (p .3) (e .0),
+      law (a .d .weight) (a .w .now) (l .1 .0) (p .0) (p .1) (p .4) (omega arith) (p .2) (p .3) (e .1),
+      law (a .d .«oil_yield») (a .y .now) (l .1 .1 .0) (p .0) (p .1) (p .4) (omega arith) (p .2) (p .3) (e .2),
+    )
+
+pub backward-slots-spec : {M : Type 1} → statement M
+backward-slots-spec =
+    tie.close
+    (tie.spec
+    sub-n
+    mul-backward-ripple
+    sub-backward-ripple
+    part-backward-ripple-start
+    part-backward-ripple-end
+    mul-backward-ripple-2
+    sub-backward-ripple-2
+    part-backward-ripple-start-2
+    part-backward-ripple-end-2
+    mul-backward-ripple-3
+    sub-backward-ripple-3
+    part-backward-ripple-start-3
+    part-backward-ripple-end-3
+    mul-backward-ripple-4
+    sub-backward-ripple-4
+    part-backward-ripple-start-4
+    part-backward-ripple-end-4
+    backward-ripple-requires
+    same-length
+    same-length-2
+    same-length-3
+    returns)
