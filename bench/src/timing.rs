@@ -3,7 +3,7 @@
 use std::time::Instant;
 
 /// Repetitions, as many on one column as on the other, and rounds of each.
-pub const REPETITIONS: usize = 6;
+pub const REPETITIONS: usize = 12;
 pub const ROUNDS: usize = 21;
 
 /// Nanoseconds a call of one batch.
