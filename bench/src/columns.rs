@@ -1,8 +1,8 @@
 //! The five calls on a column of 262,144 slots.
 
 use crate::meltusk::{Answer, ColumnSlices, Counts, Empty, Library, SetSlices, Totals};
-use crate::random::{case_seed, Random};
 use crate::timing::{timed, Times, REPETITIONS, ROUNDS};
+use second::random::{case_seed, Random};
 use second::{Delivery, ReadAnswer, WriteAnswer, BLOCK_LENGTH_LIMIT, SLOT_LIMIT};
 
 /// Slots left free.

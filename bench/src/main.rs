@@ -7,9 +7,6 @@ mod columns;
 mod meltusk;
 #[cfg(feature = "plan")]
 mod plans;
-#[path = "../../tests/compare/src/random.rs"]
-#[allow(dead_code)]
-mod random;
 mod timing;
 
 fn main() {

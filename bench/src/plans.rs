@@ -5,9 +5,9 @@
 mod library;
 
 use crate::meltusk::{Empty, Library, SetSlices};
-use crate::random::{case_seed, Random};
 use crate::timing::{timed, Times, REPETITIONS, ROUNDS};
 use library::Planned;
+use second::random::{case_seed, Random};
 use second::{Limits, PriceCard, UnlaidSet, HISTOGRAM_LEN, LIMIT_LIMIT};
 
 const BLOCK: usize = 16;

@@ -3,8 +3,8 @@
 use crate::calls::{Call, Pair};
 use crate::inputs::{self, Column, Kind, MIXES};
 use crate::meltusk::{Empty, Library};
-use crate::random::Random;
 use crate::{Run, Test};
+use second::random::Random;
 use second::{Delivery, BLOCK_LIMIT, FENCES, LENGTHS, SLOT_LIMIT, WEIGHT_LIMIT, YIELD_LIMIT};
 
 /// One change of a column or of a call on it.

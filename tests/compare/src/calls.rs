@@ -3,8 +3,8 @@
 use crate::inputs::{Column, Set, View};
 use crate::meltusk::*;
 use crate::memory::Memory;
-use crate::random::Random;
 use crate::seen::Seen;
+use second::random::Random;
 use second::{Delivery, DirectoryAnswer, ReadAnswer, WriteAnswer};
 use std::fmt::Write;
 

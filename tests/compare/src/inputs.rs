@@ -2,7 +2,7 @@
 
 use crate::calls::Call;
 use crate::meltusk::{Empty, Library};
-use crate::random::Random;
+use second::random::Random;
 use second::{Delivery, UnlaidSet, DIRECTORY_LEN, FENCES, LENGTHS, WEIGHT_LIMIT, YIELD_LIMIT};
 
 /// A column that owns its slices.

@@ -3,8 +3,8 @@
 use crate::calls::apply;
 use crate::inputs::{self, Set};
 use crate::meltusk::{Empty, Library};
-use crate::random::Random;
 use crate::{Run, Test};
+use second::random::Random;
 use second::{BLOCK_LIMIT, SLOT_LIMIT, WEIGHT_LIMIT, YIELD_LIMIT};
 
 /// One change of a set or of the ends of a layout.

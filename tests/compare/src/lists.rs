@@ -4,8 +4,8 @@ use crate::broken;
 use crate::calls::{apply, Call, Outcome, Pair};
 use crate::inputs::{self, Column, Kind, Set, MIXES};
 use crate::meltusk::{Answer, Counts, Empty, Library, PartitionSlice, Totals};
-use crate::random::Random;
 use crate::{Run, Test};
+use second::random::Random;
 use second::{Delivery, DIRECTORY_LEN, FENCES, LENGTHS};
 
 /// Calls of a list.

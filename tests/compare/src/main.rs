@@ -20,10 +20,9 @@ mod meltusk;
 mod memory;
 #[cfg(feature = "plan")]
 mod plan;
-mod random;
 mod seen;
 
-use random::{case_seed, Random};
+use second::random::{case_seed, Random};
 use seen::Seen;
 use std::io::{BufRead, BufReader};
 use std::panic::{catch_unwind, AssertUnwindSafe};

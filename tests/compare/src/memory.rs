@@ -1,6 +1,6 @@
 //! Slices lent to a call, in one allocation with guard elements around each.
 
-use crate::random::Random;
+use second::random::Random;
 
 /// Most guard elements beside a slice.
 const GUARDS: usize = 8;

@@ -15,6 +15,7 @@ pub mod field;
 pub mod layplan;
 pub mod ledger;
 pub mod planner;
+pub mod random;
 pub mod recorder;
 pub mod snapshot;
 pub mod tally;

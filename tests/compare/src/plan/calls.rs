@@ -5,7 +5,7 @@ use super::seen::Seen;
 use crate::inputs::Set;
 use crate::meltusk::{Library, SetSlices};
 use crate::memory::Memory;
-use crate::random::Random;
+use second::random::Random;
 use second::{Delivery, Limits, PlanAnswer, PriceCard, UnlaidSet};
 
 /// A call to be recorded.

@@ -7,9 +7,9 @@ pub mod seen;
 use crate::inputs::{self, Set};
 use crate::layouts::{self, Fault, END_FAULTS, SET_FAULTS};
 use crate::meltusk::{Empty, Library};
-use crate::random::Random;
 use crate::{Run, Test};
 use calls::{cost, plan, record_second, By, Case, Recorded, Recorder};
+use second::random::Random;
 use second::recorder::count_index;
 use second::{Delivery, Limits, PriceCard, COUNT_LIMIT, HISTOGRAMS, HISTOGRAM_LEN, LIMIT_LIMIT};
 

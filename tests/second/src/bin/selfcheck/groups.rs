@@ -1,9 +1,10 @@
 //! Examples of the paper and random comparisons.
 
 use crate::model::*;
-use crate::random::{self, Random};
+use crate::random;
 use crate::subject::*;
 use second::planner::{layout_of_bits, longest_partition, most_partitions, permitted};
+use second::random::Random;
 use second::*;
 
 pub type Outcome = Result<(), String>;

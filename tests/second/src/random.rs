@@ -1,4 +1,4 @@
-//! Generator with a fixed seed (splitmix64).
+//! Generator with a fixed seed (splitmix64), for tests and benchmark.
 
 pub const SEED: u64 = 0x4D45_4C54_5553_4B31;
 
