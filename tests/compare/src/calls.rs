@@ -194,7 +194,8 @@ impl Pair {
         self.before.clone_from(&self.second);
         let second = call_second(&mut self.second, call);
         let compiled = call_compiled(library, &mut self.compiled, call);
-        seen.note(call, second.refusal(), self.before.slice(3));
+        let (growers, directory) = (self.before.slice(0), self.before.slice(3));
+        seen.note(call, second.refusal(), growers, directory);
         if compiled == second && self.compiled.equals(&self.second) {
             return Ok(second);
         }

@@ -1,5 +1,5 @@
-//! What the compared calls were: every answer and every kind of move has to
-//! occur, or the comparison shows less than it says.
+//! What the compared calls were: every answer, every kind of move and of scan
+//! has to occur, or the comparison shows less than it says.
 
 use crate::calls::Call;
 use second::{FENCES, LENGTHS};
@@ -37,11 +37,22 @@ const MOVES: [&str; 8] = [
     "move past records",
 ];
 
+/// Records of a partition that the library looks at together.
+const STRIDE: usize = 64;
+
+const SCANS: [&str; 4] = [
+    "stride without a match",
+    "stride with some matches",
+    "stride of matches alone",
+    "match past the last whole stride",
+];
+
 #[derive(Default)]
 pub struct Seen {
     pub calls: u64,
     answers: [[u64; 16]; 7],
     moves: [u64; 8],
+    scans: [u64; 4],
 }
 
 fn which(call: &Call) -> usize {
@@ -55,9 +66,37 @@ fn which(call: &Call) -> usize {
     }
 }
 
+/// The growers of each partition.
+fn parts<'a>(growers: &'a [u32], lengths: &[u32]) -> Vec<&'a [u32]> {
+    let mut rest = growers;
+    let mut parts = Vec::with_capacity(lengths.len());
+    for &n in lengths {
+        let (part, later) = rest.split_at(n as usize);
+        parts.push(part);
+        rest = later;
+    }
+    parts
+}
+
 impl Seen {
-    /// Notes a call and its refusal; `directory` is the one before the call.
-    pub fn note(&mut self, call: &Call, refusal: u32, directory: &[u32]) {
+    /// Notes the strides of the partitions that are scanned for lo to hi.
+    fn note_scans(&mut self, parts: &[&[u32]], lo: u32, hi: u32) {
+        for part in parts {
+            for stride in part.chunks(STRIDE) {
+                let matches = stride.iter().filter(|&&g| lo <= g && g <= hi).count();
+                match (stride.len() == STRIDE, matches) {
+                    (true, 0) => self.scans[0] += 1,
+                    (true, STRIDE) => self.scans[2] += 1,
+                    (true, _) => self.scans[1] += 1,
+                    (false, n) => self.scans[3] += u64::from(n > 0 && part.len() > STRIDE),
+                }
+            }
+        }
+    }
+
+    /// Notes a call and its refusal; growers and directory are those before
+    /// the call.
+    pub fn note(&mut self, call: &Call, refusal: u32, growers: &[u32], directory: &[u32]) {
         self.calls += 1;
         self.answers[which(call)][refusal as usize & 15] += 1;
         if refusal != 0 {
@@ -67,11 +106,14 @@ impl Seen {
         let lengths = &directory[LENGTHS..LENGTHS + k];
         let fences = &directory[FENCES..FENCES + k];
         let partition = |g: u32| fences.partition_point(|&f| f < g).min(k - 1);
+        let parts = parts(growers, lengths);
         let mut past = |lengths: &[u32], empty: usize, records: usize| {
             self.moves[empty] += u64::from(lengths.contains(&0));
             self.moves[records] += u64::from(lengths.iter().any(|&n| n > 0));
         };
         match *call {
+            Call::Find(g) => self.note_scans(&parts[partition(g)..=partition(g)], g, g),
+            Call::Range(lo, hi) => self.note_scans(&parts[partition(lo)..=partition(hi)], lo, hi),
             Call::Insert(d) => past(&lengths[partition(d.grower) + 1..], 0, 1),
             Call::Delete(d) => past(&lengths[partition(d.grower) + 1..], 2, 3),
             Call::Move(d, g) => {
@@ -93,7 +135,7 @@ impl Seen {
         self.answers[APPLY][refusal as usize & 15] += 1;
     }
 
-    /// An error if an answer or a kind of move has not occurred.
+    /// An error if an answer or a kind of move or scan has not occurred.
     pub fn complete(&self) -> Result<(), String> {
         for (call, answers) in ANSWERS.iter().enumerate() {
             for &answer in *answers {
@@ -102,7 +144,8 @@ impl Seen {
                 }
             }
         }
-        for (name, &count) in MOVES.iter().zip(&self.moves) {
+        let moves = MOVES.iter().zip(&self.moves);
+        for (name, &count) in moves.chain(SCANS.iter().zip(&self.scans)) {
             if count == 0 {
                 return Err(format!("no {name}"));
             }
