@@ -24,6 +24,7 @@ setOf b m gs ws ys = record { block = b; used = m; growers = gs; weights = ws; y
 abbrev pub allValuesOk : List ℕ → List ℕ → Bool
 allValuesOk ws ys = every (λ (n : ℕ). leb n 100000) ws && every (λ (n : ℕ). leb n 10000) ys
 
+-- a refusal
 abbrev pub notShaped : ℕ → Shape
 notShaped n = record { refusal = n; used = 0; target = 0; start = 0 }
 
@@ -34,7 +35,7 @@ shapeAt ns g =
     let t : ℕ = place (d .fences) g in
     record { refusal = 0; used = sumOf (d .lengths); target = t; start = startOf (d .lengths) t }
 
--- check 6
+-- check 6 of a directory for c slots
 unfoldable pub judgedOf : ℕ → List ℕ → ℕ → Shape
 judgedOf c ns g = cond (directoryOk 64 c ns) (shapeAt ns g) (notShaped 6)
 

@@ -3,3 +3,4 @@ pub mod Flags
 pub mod Places
 pub mod Scans
 pub mod Sums
+pub mod Matching

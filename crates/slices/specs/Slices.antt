@@ -40,5 +40,6 @@ pub record LightTotals (m : ℕ) (t : Totals) : Type 0 where
   pub light : t .weight ≤ 100000 * m
   pub little : t .oil ≤ 1000000000 * m
 
+-- the totals of two lists of records together
 abbrev pub plusTotals : Totals → Totals → Totals
 plusTotals a b = record { records = a .records + b .records; weight = a .weight + b .weight; oil = a .oil + b .oil }

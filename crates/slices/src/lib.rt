@@ -293,8 +293,8 @@ fn is_same(g: &[u32], w: &[u32], y: &[u32], i: usize, d: Delivery) -> bool
     d.oil_yield == y[i]
 }
 
-// The first record that is the delivery, or how many there are.
-pub fn first_match(g: &[u32], w: &[u32], y: &[u32], d: Delivery) -> usize
+// The first record that is the delivery, or how many there are; each tested.
+fn first_tested(g: &[u32], w: &[u32], y: &[u32], d: Delivery) -> usize
     requires { ⌜ (length (now w) ≡ length (now g)) × (length (now y) ≡ length (now g)) ⌝ }
     ensures { λ r. ⌜ r ≡ firstMatch d (rows (now (g .entry)) (now (w .entry)) (now (y .entry))) ⌝ }
 {
@@ -306,4 +306,33 @@ pub fn first_match(g: &[u32], w: &[u32], y: &[u32], d: Delivery) -> usize
         i += 1;
     }
     i
+}
+
+// The first record that is the delivery, or how many there are. Only where the delivery's grower is among them are the records tested.
+fn first_in_stride(g: &[u32], w: &[u32], y: &[u32], d: Delivery) -> usize
+    requires { ⌜ (length (now g) ≤ 262144) × (length (now w) ≡ length (now g)) × (length (now y) ≡ length (now g)) ⌝ }
+    ensures { λ r. ⌜ r ≡ firstMatch d (rows (now (g .entry)) (now (w .entry)) (now (y .entry))) ⌝ }
+{
+    if count_between(g, d.grower, d.grower) < 1 {
+        return g.len();
+    }
+    first_tested(g, w, y, d)
+}
+
+// The first record that is the delivery, or how many there are; 64 at a time.
+pub fn first_match(g: &[u32], w: &[u32], y: &[u32], d: Delivery) -> usize
+    requires { ⌜ (length (now w) ≡ length (now g)) × (length (now y) ≡ length (now g)) ⌝ }
+    ensures { λ r. ⌜ r ≡ firstMatch d (rows (now (g .entry)) (now (w .entry)) (now (y .entry))) ⌝ }
+{
+    let mut i = 0;
+    while 64 <= g.len() - i {
+        let e = i + 64;
+        let k = first_in_stride(&g[i..e], &w[i..e], &y[i..e], d);
+        if k < 64 {
+            return i + k;
+        }
+        i = e;
+    }
+    let e = g.len();
+    i + first_tested(&g[i..e], &w[i..e], &y[i..e], d)
 }

@@ -1,0 +1,22 @@
+-- `slices::first_in_stride` meets its contract. Assumes nothing.
+use native.Mathlib.Omega.{arith}
+use borrow.Author.Needs.{needs}
+use Rattle.slices.proofs.Matching.{grower-missing}
+use Rattle.slices.proofs.first_in_stride.Statement.{statement}
+use Rattle.slices.proofs.first_in_stride.Tie as tie
+
+count-between-requires : tie.Need-count-between-requires
+count-between-requires c κs = search needs
+
+returns : tie.Need-returns
+returns c = let g = c .before .before .before .before .before .args in let p = c .before .before .before .before .before .pre in grower-missing (g .d) (g .g .now) (g .w .now) (g .y .now) (p .1) (p .2) (omega (arith, c .before .count-between .ensures, c .if1 .taken))
+
+first-tested-requires : tie.Need-first-tested-requires
+first-tested-requires c κs = search needs
+
+returns-2 : tie.Need-returns-2
+returns-2 c = search needs
+
+pub first-in-stride-spec : {M : Type 1} → statement M
+first-in-stride-spec =
+    tie.close (tie.spec count-between-requires returns first-tested-requires returns-2)
