@@ -2,15 +2,17 @@
 use Prim.Native.Nat.{ℕ, _*_, _≤_}
 use mathlib.Core.Bool.{Bool, cond, _&&_}
 use mathlib.Core.List.{List}
-use lib.Dec.{leb, eqb}
-use Rattle.model.specs.Lists.{sumOf, every}
+use lib.Dec.{eqb}
+use Rattle.model.specs.Lists.{sumOf}
 use Rattle.model.specs.Checks.{Check, firstFailed}
+use Rattle.model.specs.Bounds.{mostWeight, mostYield}
 use Rattle.model.specs.Blocks.{Set}
 use Rattle.model.specs.Place.{place}
 use Rattle.model.specs.Partitions.{startOf}
 use Rattle.model.specs.Directory.{Directory, directoryOf, directoryOk}
 use Rattle.model.specs.Column.{Column}
 use Rattle.model.specs.Questions.{setChecks, lentChecks, partitionChecks}
+use Rattle.slices.specs.Slices.{allWithin}
 use Rattle.checks.specs.declared.Shape.{Shape}
 
 -- the slices of a column, and of a set
@@ -22,7 +24,7 @@ setOf b m gs ws ys = record { block = b; used = m; growers = gs; weights = ws; y
 
 -- check 8 of two slices: every weight and every yield
 abbrev pub allValuesOk : List ℕ → List ℕ → Bool
-allValuesOk ws ys = every (λ (n : ℕ). leb n 100000) ws && every (λ (n : ℕ). leb n 10000) ys
+allValuesOk ws ys = allWithin mostWeight ws && allWithin mostYield ys
 
 -- a refusal
 abbrev pub notShaped : ℕ → Shape

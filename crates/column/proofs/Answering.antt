@@ -14,7 +14,7 @@ use Rattle.model.specs.Column.{Column}
 use Rattle.model.specs.Accesses.{noCounts, callCounts, missCounts, scanNear}
 use Rattle.model.specs.Questions.{lentChecks, callChecks, columnChecks}
 use Rattle.model.specs.ColumnCalls.{Called, columnRefusal, refusedCounts, callTotals, columnAfter, columnCall}
-use Rattle.column.specs.Answers.{refusedWith}
+use Rattle.column.specs.Answers.{withoutTotals}
 
 -- what follows three checks
 three : (p q r : Bool) (cs : List Check) → firstFailed (ask 2 p ∷ ask 3 q ∷ ask 6 r ∷ []) ≡ 0 → firstFailed (ask 2 p ∷ ask 3 q ∷ ask 6 r ∷ cs) ≡ firstFailed cs
@@ -45,7 +45,7 @@ module _ (c : Column) (k : Call) where
   unfolding columnRefusal columnChecks
   lent-yes h = three (directoryBlockOk 64 (c .directory)) (slicesOk (c .growers) (c .weights) (c .yields)) (directoryOk 64 (length (c .growers)) (c .directory)) (callChecks 64 c k) h
 
-  pub refused-call : (n : ℕ) → columnRefusal 64 c k ≡ n → (n ≡ 0 → ⊥) → (n ≡ 13 → ⊥) → _≡_ {A = Called} (record { answer = refusedWith n noCounts; column = c }) (columnCall 64 c k)
+  pub refused-call : (n : ℕ) → columnRefusal 64 c k ≡ n → (n ≡ 0 → ⊥) → (n ≡ 13 → ⊥) → _≡_ {A = Called} (record { answer = withoutTotals n noCounts; column = c }) (columnCall 64 c k)
   unfolding columnCall refusedCounts
   refused-call n e h f = rw (e, ne-eqb n 0 h, ne-eqb n 13 f)
 
@@ -54,7 +54,7 @@ module _ (c : Column) (k : Call) where
   unfolding columnRefusal columnChecks
   lent-refusal n e h = three-no (directoryBlockOk 64 (c .directory)) (slicesOk (c .growers) (c .weights) (c .yields)) (directoryOk 64 (length (c .growers)) (c .directory)) (callChecks 64 c k) n e h
 
-  pub lent-no : (n : ℕ) → n ≡ firstFailed (lentChecks 64 c) → (n ≡ 0 → ⊥) → _≡_ {A = Called} (record { answer = refusedWith n noCounts; column = c }) (columnCall 64 c k)
+  pub lent-no : (n : ℕ) → n ≡ firstFailed (lentChecks 64 c) → (n ≡ 0 → ⊥) → _≡_ {A = Called} (record { answer = withoutTotals n noCounts; column = c }) (columnCall 64 c k)
   lent-no n e h =
       let r = lent-refusal n e h in
       refused-call n (r .0) h (r .1)

@@ -28,7 +28,7 @@ use Rattle.checks.proofs.Answers.{Carried}
 use Rattle.scan.specs.declared.Scan.{Scan}
 use Rattle.scan.specs.Scans.{badScan, recordsIn, scanOf}
 use Rattle.scan.proofs.Blocks.{blocks-least}
-use Rattle.column.specs.Answers.{refusedWith, Held}
+use Rattle.column.specs.Answers.{withoutTotals, Held}
 use Rattle.column.proofs.LentColumns.{LentColumn, lent-column, count-lengths, count-fences, held}
 use Rattle.column.proofs.Answering.{lent-yes, refused-call, accepted-call}
 
@@ -78,7 +78,7 @@ module _ (c : Column) (h : firstFailed (lentChecks 64 c) ≡ 0) where
       placed-mono (fencesOf 64 c) lo hi _ _ k (placed (fencesOf 64 c) lo one) (placed (fencesOf 64 c) hi one)
 
   -- refused by 7
-  pub range-backwards : (lo hi : ℕ) → hi < lo → refusedWith 7 noCounts ≡ columnCall 64 c (range lo hi) .answer
+  pub range-backwards : (lo hi : ℕ) → hi < lo → withoutTotals 7 noCounts ≡ columnCall 64 c (range lo hi) .answer
   unfolding callChecks firstFailed
   range-backwards lo hi k =
       ap (λ (r : Rattle.model.specs.ColumnCalls.Called). r .answer) (refused-call c (range lo hi) 7 (lent-yes c (range lo hi) h ∙ rw (lt-leb lo hi k)) (λ e. omega arith) (λ e. omega arith))
@@ -90,7 +90,7 @@ module _ (c : Column) (h : firstFailed (lentChecks 64 c) ≡ 0) where
     answered b f = lent-yes c (range lo hi) h ∙ rw (le-leb lo hi k, f)
 
     -- refused by 8
-    pub range-bad : s .good ≡ false → refusedWith 8 noCounts ≡ columnCall 64 c (range lo hi) .answer
+    pub range-bad : s .good ≡ false → withoutTotals 8 noCounts ≡ columnCall 64 c (range lo hi) .answer
     unfolding scannedOk between
     range-bad f =
         ap (λ (r : Rattle.model.specs.ColumnCalls.Called). r .answer) (refused-call c (range lo hi) 8 (answered false (bad-scan _ _ _ _ lo hi (slots c) s e f)) (λ z. omega arith) (λ z. omega arith))

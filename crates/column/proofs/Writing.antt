@@ -26,7 +26,7 @@ use Rattle.model.proofs.MovesLengths.{sum-oneFewer}
 use Rattle.checks.specs.Lent.{columnOf}
 use Rattle.column.specs.declared.Located.{Located}
 use Rattle.column.specs.declared.Opened.{Opened}
-use Rattle.column.specs.Answers.{refusedWith, acceptedWith, locatedOf, notOpened, openedOf, Held, Ready, putOf, takenOf, shiftedOf}
+use Rattle.column.specs.Answers.{withoutTotals, locatedOf, notOpened, openedOf, Held, Ready, putOf, takenOf, shiftedOf}
 use Rattle.column.proofs.LentColumns.{lent-column, held}
 use Rattle.column.proofs.Answering.{lent-yes, lent-refusal, refused-call, accepted-lent, accepted-call}
 use Rattle.column.proofs.Reading.{target-there}
@@ -157,7 +157,7 @@ module _ (c : Column) (d : Delivery) where
         (λ e. ap (λ (x : Opened). x .refusal) (rw e at w) ∙ sym e)
         (λ e. ap (λ (x : Opened). x .refusal) (rw (ne-eqb (columnRefusal 64 c (insert d)) 0 e) at w))
 
-    pub insert-refused : (o .refusal ≡ 0 → ⊥) → _≡_ {A = Called} (record { answer = refusedWith (o .refusal) noCounts; column = c }) (columnCall 64 c (insert d))
+    pub insert-refused : (o .refusal ≡ 0 → ⊥) → _≡_ {A = Called} (record { answer = withoutTotals (o .refusal) noCounts; column = c }) (columnCall 64 c (insert d))
     insert-refused h = refused-call c (insert d) (o .refusal) (sym opened-refusal) h (λ e. never-missing (sym opened-refusal ∙ e))
 
     pub record Open : Type 0 where
@@ -186,7 +186,7 @@ module _ (c : Column) (d : Delivery) where
         }
 
     pub insert-done : Open → (after : Column) (n : ℕ) (r : Answer) → after ≡ putOf c (target 64 c (d .grower)) d → n ≡ onward (directoryOf 64 (c .directory)) (target 64 c (d .grower))
-        → r ≡ acceptedWith (counts (1 + n) 0 (1 + n)) → _≡_ {A = Called} (record { answer = r; column = after }) (columnCall 64 c (insert d))
+        → r ≡ withoutTotals 0 (counts (1 + n) 0 (1 + n)) → _≡_ {A = Called} (record { answer = r; column = after }) (columnCall 64 c (insert d))
     unfolding callTotals callCounts columnAfter
     insert-done a after n r e f i = rw (i, e, f) (accepted-call c (insert d) (a .accepted))
 
@@ -208,11 +208,11 @@ module _ (c : Column) (d : Delivery) (f : Located) (w : f ≡ locatedOf c d) whe
   unfolding locatedOf
   located-counts h = ap (λ (x : Located). x .counts) (rw (ne-eqb (columnRefusal 64 c (delete d)) 0 (λ e. h (located-refusal ∙ e))) at w)
 
-  pub delete-refused : (f .refusal ≡ 0 → ⊥) → _≡_ {A = Called} (record { answer = refusedWith (f .refusal) (f .counts); column = c }) (columnCall 64 c (delete d))
+  pub delete-refused : (f .refusal ≡ 0 → ⊥) → _≡_ {A = Called} (record { answer = withoutTotals (f .refusal) (f .counts); column = c }) (columnCall 64 c (delete d))
   unfolding columnCall refusedCounts missCounts
   delete-refused h = rw (located-counts h, located-refusal, ne-eqb (columnRefusal 64 c (delete d)) 0 (λ e. h (located-refusal ∙ e)))
 
-  pub move-refused : (g : ℕ) → (f .refusal ≡ 0 → ⊥) → _≡_ {A = Called} (record { answer = refusedWith (f .refusal) (f .counts); column = c }) (columnCall 64 c (move d g))
+  pub move-refused : (g : ℕ) → (f .refusal ≡ 0 → ⊥) → _≡_ {A = Called} (record { answer = withoutTotals (f .refusal) (f .counts); column = c }) (columnCall 64 c (move d g))
   unfolding columnCall refusedCounts missCounts
   move-refused g h = rw (located-counts h, located-refusal, move-refusal c d g, ne-eqb (columnRefusal 64 c (delete d)) 0 (λ e. h (located-refusal ∙ e)))
 
@@ -251,13 +251,13 @@ module _ (c : Column) (d : Delivery) (f : Located) (w : f ≡ locatedOf c d) whe
   scan-small a = (omega (arith, ap (λ (n : Counts). n .rr) (a .counts-are)), omega (arith, ap (λ (n : Counts). n .«rw») (a .counts-are)))
 
   pub delete-done : Found → (after : Column) (n : ℕ) (r : Answer) → after ≡ takenOf c (target 64 c (d .grower)) (slotOf 64 c d) → n ≡ onward (directoryOf 64 (c .directory)) (target 64 c (d .grower))
-      → r ≡ acceptedWith (andAlso (f .counts) n (1 + n)) → _≡_ {A = Called} (record { answer = r; column = after }) (columnCall 64 c (delete d))
+      → r ≡ withoutTotals 0 (andAlso (f .counts) n (1 + n)) → _≡_ {A = Called} (record { answer = r; column = after }) (columnCall 64 c (delete d))
   unfolding callTotals callCounts columnAfter
   delete-done a after n r e i j = rw (j, e, i, a .counts-are) (accepted-call c (delete d) (a .accepted))
 
   pub move-done : (g : ℕ) → Found → (after : Column) (n : ℕ) (r : Answer)
       → after ≡ shiftedOf c (target 64 c (d .grower)) (slotOf 64 c d) (target 64 c g) (delivery g (d .weight) (d .«oil_yield»))
       → n ≡ apart (target 64 c (d .grower)) (target 64 c g)
-      → r ≡ acceptedWith (andAlso (f .counts) (1 + n) (2 + n)) → _≡_ {A = Called} (record { answer = r; column = after }) (columnCall 64 c (move d g))
+      → r ≡ withoutTotals 0 (andAlso (f .counts) (1 + n) (2 + n)) → _≡_ {A = Called} (record { answer = r; column = after }) (columnCall 64 c (move d g))
   unfolding callTotals callCounts columnAfter
   move-done g a after n r e i j = rw (j, e, i, a .counts-are) (accepted-call c (move d g) (move-refusal c d g ∙ a .accepted))

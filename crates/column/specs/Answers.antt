@@ -21,14 +21,11 @@ use Rattle.model.specs.ColumnCalls.{columnRefusal, slotOf, freed, moveSlices}
 use Rattle.column.specs.declared.Located.{Located}
 use Rattle.column.specs.declared.Opened.{Opened}
 
--- a refusal that reports these counts
-abbrev pub refusedWith : ℕ → Counts → Answer
-refusedWith n k = record { refusal = n; totals = noTotals; counts = k }
+-- an answer that has no totals
+abbrev pub withoutTotals : ℕ → Counts → Answer
+withoutTotals n k = record { refusal = n; counts = k; totals = noTotals }
 
--- an accepted insert, delete or move
-abbrev pub acceptedWith : Counts → Answer
-acceptedWith k = record { refusal = 0; totals = noTotals; counts = k }
-
+-- a refusal of delete or move that reports these counts
 abbrev pub notLocated : ℕ → Counts → Located
 notLocated n k = record { refusal = n; target = 0; start = 0; slot = 0; counts = k }
 

@@ -16,23 +16,39 @@ ghost use Rattle.model.specs.Accesses.{noCounts, andAlso, onward, apart};
 ghost use Rattle.model.specs.Questions.{lentChecks};
 ghost use Rattle.model.specs.ColumnCalls.{columnCall, partitionCall};
 ghost use Rattle.checks.specs.Lent.{columnOf};
-ghost use Rattle.column.specs.Answers.{refusedWith, acceptedWith, notLocated, searchedOf, locatedOf, notOpened, openedOf, Held, Ready, putOf, takenOf, shiftedOf, partOf};
+ghost use Rattle.column.specs.Answers.{withoutTotals, notLocated, searchedOf, locatedOf, notOpened, openedOf, Held, Ready, putOf, takenOf, shiftedOf, partOf};
 use model::Answer;
 use model::Counts;
 use model::Delivery;
 use model::PartitionSlice;
-use model::Totals;
 
-// A refusal: totals and counts 0.
-fn refused(n: u32) -> Answer
-    ensures { λ r. ⌜ r ≡ refusedWith n noCounts ⌝ }
+fn no_counts() -> Counts
+    ensures { λ r. ⌜ r ≡ noCounts ⌝ }
 {
-    let none = Counts {
+    Counts {
         rr: 0,
         sr: 0,
         rw: 0,
-    };
-    refused_with(n, none)
+    }
+}
+
+// An answer that has no totals: an accepted insert, delete or move, and every refusal.
+fn without_totals(n: u32, counts: Counts) -> Answer
+    ensures { λ r. ⌜ r ≡ withoutTotals n counts ⌝ }
+{
+    let totals = slices::no_totals();
+    Answer {
+        refusal: n,
+        counts,
+        totals,
+    }
+}
+
+// A refusal: totals and counts 0.
+fn refused(n: u32) -> Answer
+    ensures { λ r. ⌜ r ≡ withoutTotals n noCounts ⌝ }
+{
+    without_totals(n, no_counts())
 }
 
 // A grower's partition.
@@ -143,34 +159,24 @@ struct Located {
     counts: Counts,
 }
 
-// A refusal of delete or move.
-fn not_located(n: u32) -> Located
-    ensures { λ r. ⌜ r ≡ notLocated n noCounts ⌝ }
+// A refusal of delete or move, and what its scan cost.
+fn not_located_after(n: u32, scanned: Counts) -> Located
+    ensures { λ r. ⌜ r ≡ notLocated n scanned ⌝ }
 {
     Located {
         refusal: n,
         target: 0,
         start: 0,
         slot: 0,
-        counts: Counts {
-            rr: 0,
-            sr: 0,
-            rw: 0,
-        },
+        counts: scanned,
     }
 }
 
-// A 13: the partition was scanned, and the delivery is not in it.
-fn missed(scanned: Counts) -> Located
-    ensures { λ r. ⌜ r ≡ notLocated 13 scanned ⌝ }
+// A refusal of delete or move ahead of its scan.
+fn not_located(n: u32) -> Located
+    ensures { λ r. ⌜ r ≡ notLocated n noCounts ⌝ }
 {
-    Located {
-        refusal: 13,
-        target: 0,
-        start: 0,
-        slot: 0,
-        counts: scanned,
-    }
+    not_located_after(n, no_counts())
 }
 
 // Checks 8 and 13 in partition t, which starts at a, of which it is handed its part of each slice.
@@ -192,7 +198,7 @@ fn search_part(g: &[u32], w: &[u32], y: &[u32], b: u32, t: usize, a: usize, d: D
             counts,
         };
     }
-    missed(counts)
+    not_located_after(13, counts)
 }
 
 // Checks 2, 3, 6, 8 and 13 of delete and move.
@@ -385,36 +391,6 @@ fn with_more(s: Counts, x: u64, y: u64) -> Counts
     }
 }
 
-// An accepted insert, delete or move: it has no totals.
-fn accepted(counts: Counts) -> Answer
-    ensures { λ r. ⌜ r ≡ acceptedWith counts ⌝ }
-{
-    Answer {
-        refusal: 0,
-        totals: Totals {
-            records: 0,
-            weight: 0,
-            oil: 0,
-        },
-        counts,
-    }
-}
-
-// A refused delete or move; a 13 has its scan's counts.
-fn refused_with(n: u32, counts: Counts) -> Answer
-    ensures { λ r. ⌜ r ≡ refusedWith n counts ⌝ }
-{
-    Answer {
-        refusal: n,
-        totals: Totals {
-            records: 0,
-            weight: 0,
-            oil: 0,
-        },
-        counts,
-    }
-}
-
 // Inserts a delivery.
 pub fn insert(
     directory: &mut [u32],
@@ -439,7 +415,7 @@ pub fn insert(
         rw: each,
     };
     put(directory, growers, weights, yields, t, o.start, o.used, d);
-    accepted(counts)
+    without_totals(0, counts)
 }
 
 // Deletes the first equal delivery of its grower's partition.
@@ -456,13 +432,13 @@ pub fn delete(
     let f = locate(directory, growers, weights, yields, d);
     let s = f.counts;
     if f.refusal != 0 {
-        return refused_with(f.refusal, s);
+        return without_totals(f.refusal, s);
     }
     let t = f.target;
     let n = onward(directory, t);
     let counts = with_more(s, n, 1 + n);
     take_out(directory, growers, weights, yields, t, f.start, f.slot);
-    accepted(counts)
+    without_totals(0, counts)
 }
 
 // The partitions from one to another, the first not counted.
@@ -490,7 +466,7 @@ pub fn move_delivery(
     let f = locate(directory, growers, weights, yields, d);
     let s = f.counts;
     if f.refusal != 0 {
-        return refused_with(f.refusal, s);
+        return without_totals(f.refusal, s);
     }
     let t = f.target;
     let u = partition_of(directory, new_grower);
@@ -512,7 +488,7 @@ pub fn move_delivery(
         u,
         moved,
     );
-    accepted(counts)
+    without_totals(0, counts)
 }
 
 fn no_partition(n: u32) -> PartitionSlice

@@ -24,8 +24,8 @@ use Rattle.model.proofs.Tests.{and-fst, and-snd, yes-first, first-passed}
 use Rattle.model.proofs.ListLaws.{ceil-least, ceil-most}
 use Rattle.checks.specs.Lent.{Sized, setOf}
 use Rattle.checks.proofs.Sets.{Whole, whole, set-passed, failed-first}
-use Rattle.terms.specs.Terms.{Priced, Counted}
-use Rattle.planner.specs.Given.{givenChecks, Marked, PricesPass}
+use Rattle.terms.specs.Terms.{PricesPass, Counted}
+use Rattle.planner.specs.Given.{givenChecks, Marked}
 
 -- check 1, test by test
 pub price-none : (p : ℕ) → p < 1 → false ≡ priceOk p
@@ -63,9 +63,6 @@ module _ (p : PriceCard) where
         sr-most = leb→le (p .sr) 1000 (and-snd (leb 1 (p .sr)) (leb (p .sr) 1000) y);
         rw-most = leb→le (p .«rw») 1000 (and-snd (leb 1 (p .«rw»)) (leb (p .«rw») 1000) z);
       }
-
-  pub priced : PricesPass p → Priced p
-  priced q = record { rr-most = q .rr-most; sr-most = q .sr-most; rw-most = q .rw-most }
 
 module _ (l : Limits) where
   pub read-over : 1000000 < l .read → false ≡ limitsOk l

@@ -1,5 +1,5 @@
 -- The planner's checks of what it is given, and where an end may stand.
-use Prim.Native.Nat.{ℕ, _≤_, _<_}
+use Prim.Native.Nat.{ℕ, _<_}
 use mathlib.Core.Path.{_≡_}
 use mathlib.Core.Bool.{Bool, false, _&&_}
 use mathlib.Core.List.{List, [], _∷_, _++_}
@@ -22,11 +22,3 @@ givenChecks p l s hs = ask 1 (pricesOk p && limitsOk l) ∷ setChecks 64 s ++ as
 pub record Marked (block used : ℕ) (growers : List ℕ) (i : ℕ) (old fits : List Bool) : Type 0 where
   pub long : length fits ≡ length old
   pub here : (x : ℕ) → x < i → getD fits x false ≡ separatesNone (setOf block used growers [] []) x
-
--- prices that divide
-pub record PricesPass (p : PriceCard) : Type 0 where
-  pub rr-least : 1 ≤ p .rr
-  pub rr-most : p .rr ≤ 1000
-  pub sr-least : 1 ≤ p .sr
-  pub sr-most : p .sr ≤ 1000
-  pub rw-most : p .«rw» ≤ 1000

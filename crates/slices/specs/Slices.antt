@@ -7,6 +7,7 @@ use lib.ListN.{length, getD}
 use lib.Dec.{T, leb, eqb}
 use Rattle.model.specs.declared.Delivery.{Delivery}
 use Rattle.model.specs.declared.Totals.{Totals}
+use Rattle.model.specs.Bounds.{mostWeight, mostYield}
 use Rattle.model.specs.Lists.{every, keep}
 use Rattle.model.specs.Deliveries.{delivery, same}
 
@@ -31,8 +32,8 @@ pub record Measured (g w y : List ℕ) : Type 0 where
   pub few : length g ≤ 262144
   pub even-weights : length w ≡ length g
   pub even-yields : length y ≡ length g
-  pub good-weights : T (allWithin 100000 w)
-  pub good-yields : T (allWithin 10000 y)
+  pub good-weights : T (allWithin mostWeight w)
+  pub good-yields : T (allWithin mostYield y)
 
 -- totals of at most m records
 pub record LightTotals (m : ℕ) (t : Totals) : Type 0 where

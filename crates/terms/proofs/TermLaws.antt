@@ -10,7 +10,7 @@ use lib.Seq.{getD-set-same, getD-set-other}
 use Rattle.model.specs.declared.PriceCard.{PriceCard}
 use Rattle.model.specs.Histograms.{Histogram, pq, rs, re, sc, de, ins, udf, utf, udb, utb, at, count, slot}
 use Rattle.search.specs.Terms.{Holds}
-use Rattle.terms.specs.Terms.{fixedOf, backOf, foreOf, moreOf, lessOf, pick, termAt, Priced, Counted, Loaded}
+use Rattle.terms.specs.Terms.{fixedOf, backOf, foreOf, moreOf, lessOf, pick, termAt, PricesPass, Counted, Loaded}
 
 module _ (L : ℕ) (c : PriceCard) (hs : List ℕ) (i : ℕ) where
   term-as : (y j : ℕ) → y / 5 ≡ i → y % 5 ≡ j → termAt L c hs y ≡ pick j (fixedOf L c hs i) (backOf L c hs i) (foreOf L c hs i) (moreOf L c hs i) (lessOf L c hs i)
@@ -33,7 +33,7 @@ module _ (L : ℕ) (c : PriceCard) (hs : List ℕ) (i : ℕ) where
   term-less y u v = sym (term-as y 4 u v)
 
 -- the terms are small
-module _ (c : PriceCard) (hs : List ℕ) (i : ℕ) (q : Priced c) (k : Counted hs) where
+module _ (c : PriceCard) (hs : List ℕ) (i : ℕ) (q : PricesPass c) (k : Counted hs) where
   n : Histogram → ℕ
   n h = count 64 hs (at h i)
 
@@ -101,7 +101,7 @@ module _ (c : PriceCard) (hs : List ℕ) (n : ℕ) (old terms : List ℕ) (l : L
   pub is-less : getD terms (i * 5 + 4) 0 ≡ lessOf 64 c hs i
   is-less = l .here (i * 5 + 4) (omega arith) ∙ sym (term-less 64 c hs i (i * 5 + 4) (omega arith) (omega arith))
 
-pub loaded-holds : (c : PriceCard) (hs : List ℕ) (n : ℕ) (old terms : List ℕ) → Loaded c hs (n * 5) old terms → Priced c → Counted hs → n ≤ 64 → n * 5 ≤ length old → Holds terms n
+pub loaded-holds : (c : PriceCard) (hs : List ℕ) (n : ℕ) (old terms : List ℕ) → Loaded c hs (n * 5) old terms → PricesPass c → Counted hs → n ≤ 64 → n * 5 ≤ length old → Holds terms n
 loaded-holds c hs n old terms l q k few room = record {
   few = omega arith;
   long = omega (arith, l .long);

@@ -42,8 +42,10 @@ unfoldable pub termAt : ℕ → PriceCard → List ℕ → ℕ → ℕ
 termAt L c hs y = pick (y % 5) (fixedOf L c hs (y / 5)) (backOf L c hs (y / 5)) (foreOf L c hs (y / 5)) (moreOf L c hs (y / 5)) (lessOf L c hs (y / 5))
 
 -- prices that pass check 1, and histograms that pass check 9
-pub record Priced (c : PriceCard) : Type 0 where
+pub record PricesPass (c : PriceCard) : Type 0 where
+  pub rr-least : 1 ≤ c .rr
   pub rr-most : c .rr ≤ 1000
+  pub sr-least : 1 ≤ c .sr
   pub sr-most : c .sr ≤ 1000
   pub rw-most : c .«rw» ≤ 1000
 

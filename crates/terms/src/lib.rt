@@ -2,7 +2,7 @@
 ghost use mathlib.Core.Path.{_≡_};
 ghost use Prim.Native.Nat.{_+_, _*_, _≤_, _<_};
 ghost use lib.ListN.{length, getD};
-ghost use Rattle.terms.specs.Terms.{fixedOf, backOf, foreOf, moreOf, lessOf, termAt, Priced, Counted, Loaded};
+ghost use Rattle.terms.specs.Terms.{fixedOf, backOf, foreOf, moreOf, lessOf, termAt, PricesPass, Counted, Loaded};
 use model::PriceCard;
 
 fn wide(x: u32) -> u64
@@ -33,7 +33,7 @@ fn product(p: u64, c: u64) -> u64
 // A block's five terms.
 fn fixed(card: PriceCard, h: &[u32], i: usize) -> u64
     requires { ⌜ Counted (now h) ⌝ }
-    requires { ⌜ Priced card ⌝ }
+    requires { ⌜ PricesPass card ⌝ }
     requires { ⌜ i < 64 ⌝ }
     ensures { λ r. ⌜ r ≡ fixedOf 64 card (now (h .entry)) i ⌝ }
 {
@@ -47,7 +47,7 @@ fn fixed(card: PriceCard, h: &[u32], i: usize) -> u64
 
 fn back(card: PriceCard, h: &[u32], i: usize) -> u64
     requires { ⌜ Counted (now h) ⌝ }
-    requires { ⌜ Priced card ⌝ }
+    requires { ⌜ PricesPass card ⌝ }
     requires { ⌜ i < 64 ⌝ }
     ensures { λ r. ⌜ r ≡ backOf 64 card (now (h .entry)) i ⌝ }
 {
@@ -57,7 +57,7 @@ fn back(card: PriceCard, h: &[u32], i: usize) -> u64
 
 fn fore(card: PriceCard, h: &[u32], i: usize) -> u64
     requires { ⌜ Counted (now h) ⌝ }
-    requires { ⌜ Priced card ⌝ }
+    requires { ⌜ PricesPass card ⌝ }
     requires { ⌜ i < 64 ⌝ }
     ensures { λ r. ⌜ r ≡ foreOf 64 card (now (h .entry)) i ⌝ }
 {
@@ -67,7 +67,7 @@ fn fore(card: PriceCard, h: &[u32], i: usize) -> u64
 
 fn more(card: PriceCard, h: &[u32], i: usize) -> u64
     requires { ⌜ Counted (now h) ⌝ }
-    requires { ⌜ Priced card ⌝ }
+    requires { ⌜ PricesPass card ⌝ }
     requires { ⌜ i < 64 ⌝ }
     ensures { λ r. ⌜ r ≡ moreOf 64 card (now (h .entry)) i ⌝ }
 {
@@ -77,7 +77,7 @@ fn more(card: PriceCard, h: &[u32], i: usize) -> u64
 
 fn less(card: PriceCard, h: &[u32], i: usize) -> u64
     requires { ⌜ Counted (now h) ⌝ }
-    requires { ⌜ Priced card ⌝ }
+    requires { ⌜ PricesPass card ⌝ }
     requires { ⌜ i < 64 ⌝ }
     ensures { λ r. ⌜ r ≡ lessOf 64 card (now (h .entry)) i ⌝ }
 {
@@ -88,7 +88,7 @@ fn less(card: PriceCard, h: &[u32], i: usize) -> u64
 // The term at place y, five to a block.
 fn term(card: PriceCard, h: &[u32], y: usize) -> u64
     requires { ⌜ Counted (now h) ⌝ }
-    requires { ⌜ Priced card ⌝ }
+    requires { ⌜ PricesPass card ⌝ }
     requires { ⌜ y < 320 ⌝ }
     ensures { λ r. ⌜ r ≡ termAt 64 card (now (h .entry)) y ⌝ }
 {
@@ -112,7 +112,7 @@ fn term(card: PriceCard, h: &[u32], y: usize) -> u64
 // The terms of n blocks.
 pub fn load(card: PriceCard, h: &[u32], n: usize, terms: &mut [u64])
     requires { ⌜ Counted (now h) ⌝ }
-    requires { ⌜ Priced card ⌝ }
+    requires { ⌜ PricesPass card ⌝ }
     requires { ⌜ (n ≤ 64) × (n * 5 ≤ length (now terms)) ⌝ }
     ensures { λ _. ⌜ Loaded card (now (h .entry)) (n * 5) (now (terms .entry)) (now (terms .exit)) ⌝ }
 {

@@ -10,7 +10,7 @@ use Rattle.column.proofs.LentColumns.{lent-column, count-fences, held}
 use Rattle.column.proofs.Writing.{ready, delete-refused, found, scan-small, delete-done}
 use Rattle.column.proofs.Reading.{target-there}
 use Rattle.model.specs.declared.Answer.{Answer}
-use Rattle.column.specs.Answers.{takenOf, acceptedWith}
+use Rattle.column.specs.Answers.{takenOf, withoutTotals}
 use Rattle.model.specs.Accesses.{onward}
 use Rattle.column.proofs.delete.Statement.{statement}
 use Rattle.column.proofs.delete.Tie as tie
@@ -18,8 +18,8 @@ use Rattle.column.proofs.delete.Tie as tie
 locate-requires : tie.Need-locate-requires
 locate-requires c κs = search needs
 
-refused-with-requires : tie.Need-refused-with-requires
-refused-with-requires c κs = search needs
+without-totals-requires : tie.Need-without-totals-requires
+without-totals-requires c κs = search needs
 
 same-length : tie.Need-same-length
 same-length c = search needs
@@ -34,7 +34,7 @@ same-length-4 : tie.Need-same-length-4
 same-length-4 c = search needs
 
 returns : tie.Need-returns
-returns c = let g = (c .before .before .before .before .before .before .before .before .before .before .before .before .before .args) in let col = columnOf (g .directory .now) (g .growers .now) (g .weights .now) (g .yields .now) in ap (λ (x : Answer). record { answer = x; column = col }) ((c .refused-with) .ensures) ∙ delete-refused col (g .d) ((c .before .before .before .before .locate) .result) ((c .before .before .before .before .locate) .ensures) ((c .before .if1) .taken)
+returns c = let g = (c .before .before .before .before .before .before .before .before .before .before .before .before .before .args) in let col = columnOf (g .directory .now) (g .growers .now) (g .weights .now) (g .yields .now) in ap (λ (x : Answer). record { answer = x; column = col }) ((c .without-totals) .ensures) ∙ delete-refused col (g .d) ((c .before .before .before .before .locate) .result) ((c .before .before .before .before .locate) .ensures) ((c .before .if1) .taken)
 
 onward-requires : tie.Need-onward-requires
 onward-requires c κs = let g = (c .before .before .before .before .before .before .before .before .before .before .before .before .before .args) in let col = columnOf (g .directory .now) (g .growers .now) (g .weights .now) (g .yields .now) in let o = found col (g .d) ((c .before .before .before .before .locate) .result) ((c .before .before .before .before .locate) .ensures) ((c .before .if1) .left) in let l = lent-column col (o .lent) in let hd = held col l (target 64 col (g .d .grower)) (target-there col (o .lent) (g .d .grower)) in let sm = scan-small col (g .d) ((c .before .before .before .before .locate) .result) ((c .before .before .before .before .locate) .ensures) o in rw (o .target-is) hd
@@ -48,8 +48,8 @@ with-more-requires c κs = let g = (c .before .before .before .before .before .b
 take-out-requires : tie.Need-take-out-requires
 take-out-requires c κs = let g = (c .before .before .before .before .before .before .before .before .before .before .before .before .before .before .before .before .before .before .before .args) in let col = columnOf (g .directory .now) (g .growers .now) (g .weights .now) (g .yields .now) in let o = found col (g .d) ((c .before .before .before .before .before .before .before .before .before .before .locate) .result) ((c .before .before .before .before .before .before .before .before .before .before .locate) .ensures) ((c .before .before .before .before .before .before .before .if1) .left) in let l = lent-column col (o .lent) in let hd = held col l (target 64 col (g .d .grower)) (target-there col (o .lent) (g .d .grower)) in let sm = scan-small col (g .d) ((c .before .before .before .before .before .before .before .before .before .before .locate) .result) ((c .before .before .before .before .before .before .before .before .before .before .locate) .ensures) o in rw (o .target-is, o .start-is, o .slot-is) (ready col (g .d .grower) (o .lent), o .inside)
 
-accepted-requires : tie.Need-accepted-requires
-accepted-requires c κs = search needs
+without-totals-requires-2 : tie.Need-without-totals-requires-2
+without-totals-requires-2 c κs = search needs
 
 same-length-5 : tie.Need-same-length-5
 same-length-5 c = search needs
@@ -64,14 +64,14 @@ same-length-8 : tie.Need-same-length-8
 same-length-8 c = search needs
 
 returns-2 : tie.Need-returns-2
-returns-2 c = let g = (c .before .before .before .before .before .before .before .before .before .before .before .before .before .before .before .before .before .before .before .before .before .before .before .before .before .before .before .before .before .args) in let col = columnOf (g .directory .now) (g .growers .now) (g .weights .now) (g .yields .now) in let o = found col (g .d) ((c .before .before .before .before .before .before .before .before .before .before .before .before .before .before .before .before .before .before .before .before .locate) .result) ((c .before .before .before .before .before .before .before .before .before .before .before .before .before .before .before .before .before .before .before .before .locate) .ensures) ((c .before .before .before .before .before .before .before .before .before .before .before .before .before .before .before .before .before .if1) .left) in let l = lent-column col (o .lent) in let hd = held col l (target 64 col (g .d .grower)) (target-there col (o .lent) (g .d .grower)) in let sm = scan-small col (g .d) ((c .before .before .before .before .before .before .before .before .before .before .before .before .before .before .before .before .before .before .before .before .locate) .result) ((c .before .before .before .before .before .before .before .before .before .before .before .before .before .before .before .before .before .before .before .before .locate) .ensures) o in let e = (c .before .before .before .before .before .before .before .before .before .take-out) .ensures ∙ ap₂ (λ (t i : ℕ). takenOf col t i) (o .target-is) (o .slot-is) in let n = (c .before .before .before .before .before .before .before .before .before .before .before .before .before .before .before .onward) .ensures ∙ ap (onward (directoryOf 64 (g .directory .now))) (o .target-is) in delete-done col (g .d) ((c .before .before .before .before .before .before .before .before .before .before .before .before .before .before .before .before .before .before .before .before .locate) .result) ((c .before .before .before .before .before .before .before .before .before .before .before .before .before .before .before .before .before .before .before .before .locate) .ensures) o _ _ _ e n ((c .accepted) .ensures ∙ ap acceptedWith ((c .before .before .before .before .before .before .before .before .before .before .before .before .before .before .with-more) .ensures))
+returns-2 c = let g = (c .before .before .before .before .before .before .before .before .before .before .before .before .before .before .before .before .before .before .before .before .before .before .before .before .before .before .before .before .before .args) in let col = columnOf (g .directory .now) (g .growers .now) (g .weights .now) (g .yields .now) in let o = found col (g .d) ((c .before .before .before .before .before .before .before .before .before .before .before .before .before .before .before .before .before .before .before .before .locate) .result) ((c .before .before .before .before .before .before .before .before .before .before .before .before .before .before .before .before .before .before .before .before .locate) .ensures) ((c .before .before .before .before .before .before .before .before .before .before .before .before .before .before .before .before .before .if1) .left) in let l = lent-column col (o .lent) in let hd = held col l (target 64 col (g .d .grower)) (target-there col (o .lent) (g .d .grower)) in let sm = scan-small col (g .d) ((c .before .before .before .before .before .before .before .before .before .before .before .before .before .before .before .before .before .before .before .before .locate) .result) ((c .before .before .before .before .before .before .before .before .before .before .before .before .before .before .before .before .before .before .before .before .locate) .ensures) o in let e = (c .before .before .before .before .before .before .before .before .before .take-out) .ensures ∙ ap₂ (λ (t i : ℕ). takenOf col t i) (o .target-is) (o .slot-is) in let n = (c .before .before .before .before .before .before .before .before .before .before .before .before .before .before .before .onward) .ensures ∙ ap (onward (directoryOf 64 (g .directory .now))) (o .target-is) in delete-done col (g .d) ((c .before .before .before .before .before .before .before .before .before .before .before .before .before .before .before .before .before .before .before .before .locate) .result) ((c .before .before .before .before .before .before .before .before .before .before .before .before .before .before .before .before .before .before .before .before .locate) .ensures) o _ _ _ e n ((c .without-totals2) .ensures ∙ ap (withoutTotals 0) ((c .before .before .before .before .before .before .before .before .before .before .before .before .before .before .with-more) .ensures))
 
 pub delete-spec : {M : Type 1} → statement M
 delete-spec =
     tie.close
     (tie.spec
     locate-requires
-    refused-with-requires
+    without-totals-requires
     same-length
     same-length-2
     same-length-3
@@ -81,7 +81,7 @@ delete-spec =
     add-with-more
     with-more-requires
     take-out-requires
-    accepted-requires
+    without-totals-requires-2
     same-length-5
     same-length-6
     same-length-7

@@ -45,8 +45,8 @@ add-each c = let g = (c .before .before .before .before .before .before .before 
 put-requires : tie.Need-put-requires
 put-requires c κs = let g = (c .before .before .before .before .before .before .before .before .before .before .before .before .before .before .before .before .args) in let col = columnOf (g .directory .now) (g .growers .now) (g .weights .now) (g .yields .now) in let o = insert-open col (g .d) ((c .before .before .before .before .before .before .before .«open») .result) ((c .before .before .before .before .before .before .before .«open») .ensures) ((c .before .before .before .before .before .before .if1) .left) in let l = lent-column col (o .lent) in let hd = held col l (target 64 col (g .d .grower)) (target-there col (o .lent) (g .d .grower)) in rw (o .target-is, o .start-is, o .used-is) (ready col (g .d .grower) (o .lent), refl, o .free)
 
-accepted-requires : tie.Need-accepted-requires
-accepted-requires c κs = search needs
+without-totals-requires : tie.Need-without-totals-requires
+without-totals-requires c κs = search needs
 
 same-length-5 : tie.Need-same-length-5
 same-length-5 c = search needs
@@ -61,7 +61,7 @@ same-length-8 : tie.Need-same-length-8
 same-length-8 c = search needs
 
 returns-2 : tie.Need-returns-2
-returns-2 c = let g = (c .before .before .before .before .before .before .before .before .before .before .before .before .before .before .before .before .before .before .before .before .before .before .before .before .before .before .args) in let col = columnOf (g .directory .now) (g .growers .now) (g .weights .now) (g .yields .now) in let o = insert-open col (g .d) ((c .before .before .before .before .before .before .before .before .before .before .before .before .before .before .before .before .before .«open») .result) ((c .before .before .before .before .before .before .before .before .before .before .before .before .before .before .before .before .before .«open») .ensures) ((c .before .before .before .before .before .before .before .before .before .before .before .before .before .before .before .before .if1) .left) in let l = lent-column col (o .lent) in let hd = held col l (target 64 col (g .d .grower)) (target-there col (o .lent) (g .d .grower)) in let e = (c .before .before .before .before .before .before .before .before .before .put) .ensures ∙ ap (λ (t : ℕ). putOf col t (g .d)) (o .target-is) in let n = (c .before .before .before .before .before .before .before .before .before .before .before .before .before .before .onward) .ensures ∙ ap (onward (directoryOf 64 (g .directory .now))) (o .target-is) in insert-done col (g .d) ((c .before .before .before .before .before .before .before .before .before .before .before .before .before .before .before .before .before .«open») .result) ((c .before .before .before .before .before .before .before .before .before .before .before .before .before .before .before .before .before .«open») .ensures) o _ _ _ e n ((c .accepted) .ensures)
+returns-2 c = let g = (c .before .before .before .before .before .before .before .before .before .before .before .before .before .before .before .before .before .before .before .before .before .before .before .before .before .before .args) in let col = columnOf (g .directory .now) (g .growers .now) (g .weights .now) (g .yields .now) in let o = insert-open col (g .d) ((c .before .before .before .before .before .before .before .before .before .before .before .before .before .before .before .before .before .«open») .result) ((c .before .before .before .before .before .before .before .before .before .before .before .before .before .before .before .before .before .«open») .ensures) ((c .before .before .before .before .before .before .before .before .before .before .before .before .before .before .before .before .if1) .left) in let l = lent-column col (o .lent) in let hd = held col l (target 64 col (g .d .grower)) (target-there col (o .lent) (g .d .grower)) in let e = (c .before .before .before .before .before .before .before .before .before .put) .ensures ∙ ap (λ (t : ℕ). putOf col t (g .d)) (o .target-is) in let n = (c .before .before .before .before .before .before .before .before .before .before .before .before .before .before .onward) .ensures ∙ ap (onward (directoryOf 64 (g .directory .now))) (o .target-is) in insert-done col (g .d) ((c .before .before .before .before .before .before .before .before .before .before .before .before .before .before .before .before .before .«open») .result) ((c .before .before .before .before .before .before .before .before .before .before .before .before .before .before .before .before .before .«open») .ensures) o _ _ _ e n ((c .without-totals) .ensures)
 
 pub insert-spec : {M : Type 1} → statement M
 insert-spec =
@@ -77,7 +77,7 @@ insert-spec =
     onward-requires
     add-each
     put-requires
-    accepted-requires
+    without-totals-requires
     same-length-5
     same-length-6
     same-length-7

@@ -9,7 +9,7 @@ use Rattle.column.proofs.LentColumns.{lent-column, count-lengths, held-
 use Rattle.column.proofs.Writing.{ready, move-refused, found, scan-small, move-done}
 use Rattle.column.proofs.Reading.{target-there}
 use Rattle.model.specs.declared.Answer.{Answer}
-use Rattle.column.specs.Answers.{shiftedOf, acceptedWith}
+use Rattle.column.specs.Answers.{shiftedOf, withoutTotals}
 use Rattle.model.specs.Accesses.{apart}
 use Rattle.model.specs.Deliveries.{delivery}
 use Rattle.model.specs.ColumnCalls.{slotOf}
@@ -19,8 +19,8 @@ use Rattle.column.proofs.move_delivery.Tie as tie
 locate-requires : tie.Need-locate-requires
 locate-requires c κs = search needs
 
-refused-with-requires : tie.Need-refused-with-requires
-refused-with-requires c κs = search needs
+without-totals-requires : tie.Need-without-totals-requires
+without-totals-requires c κs = search needs
 
 same-length : tie.Need-same-length
 same-length c = search needs
@@ -35,7 +35,7 @@ same-length-4 : tie.Need-same-length-4
 same-length-4 c = search needs
 
 returns : tie.Need-returns
-returns c = let g = (c .before .before .before .before .before .before .before .before .before .before .before .before .before .args) in let col = columnOf (g .directory .now) (g .growers .now) (g .weights .now) (g .yields .now) in ap (λ (x : Answer). record { answer = x; column = col }) ((c .refused-with) .ensures) ∙ move-refused col (g .d) ((c .before .before .before .before .locate) .result) ((c .before .before .before .before .locate) .ensures) (g .new-grower) ((c .before .if1) .taken)
+returns c = let g = (c .before .before .before .before .before .before .before .before .before .before .before .before .before .args) in let col = columnOf (g .directory .now) (g .growers .now) (g .weights .now) (g .yields .now) in ap (λ (x : Answer). record { answer = x; column = col }) ((c .without-totals) .ensures) ∙ move-refused col (g .d) ((c .before .before .before .before .locate) .result) ((c .before .before .before .before .locate) .ensures) (g .new-grower) ((c .before .if1) .taken)
 
 partition-of-requires : tie.Need-partition-of-requires
 partition-of-requires c κs = let g = (c .before .before .before .before .before .before .before .before .before .before .before .before .before .args) in let col = columnOf (g .directory .now) (g .growers .now) (g .weights .now) (g .yields .now) in let o = found col (g .d) ((c .before .before .before .before .locate) .result) ((c .before .before .before .before .locate) .ensures) ((c .before .if1) .left) in let l = lent-column col (o .lent) in let hd = held col l (target 64 col (g .d .grower)) (target-there col (o .lent) (g .d .grower)) in let sm = scan-small col (g .d) ((c .before .before .before .before .locate) .result) ((c .before .before .before .before .locate) .ensures) o in held-directory col l
@@ -55,8 +55,8 @@ with-more-requires c κs = let g = (c .before .before .before .before .before .b
 shift-requires : tie.Need-shift-requires
 shift-requires c κs = let g = (c .before .before .before .before .before .before .before .before .before .before .before .before .before .before .before .before .before .before .before .before .args) in let col = columnOf (g .directory .now) (g .growers .now) (g .weights .now) (g .yields .now) in let o = found col (g .d) ((c .before .before .before .before .before .before .before .before .before .before .before .locate) .result) ((c .before .before .before .before .before .before .before .before .before .before .before .locate) .ensures) ((c .before .before .before .before .before .before .before .before .if1) .left) in let l = lent-column col (o .lent) in let hd = held col l (target 64 col (g .d .grower)) (target-there col (o .lent) (g .d .grower)) in let sm = scan-small col (g .d) ((c .before .before .before .before .before .before .before .before .before .before .before .locate) .result) ((c .before .before .before .before .before .before .before .before .before .before .before .locate) .ensures) o in let pt = (c .before .before .before .before .before .before .partition-of) .ensures in let ht = target-there col (o .lent) (g .new-grower) in rw (o .target-is, o .start-is, o .slot-is, pt) (ready col (g .d .grower) (o .lent), o .inside, omega (arith, ht, count-lengths col l))
 
-accepted-requires : tie.Need-accepted-requires
-accepted-requires c κs = search needs
+without-totals-requires-2 : tie.Need-without-totals-requires-2
+without-totals-requires-2 c κs = search needs
 
 same-length-5 : tie.Need-same-length-5
 same-length-5 c = search needs
@@ -71,14 +71,14 @@ same-length-8 : tie.Need-same-length-8
 same-length-8 c = search needs
 
 returns-2 : tie.Need-returns-2
-returns-2 c = let g = (c .before .before .before .before .before .before .before .before .before .before .before .before .before .before .before .before .before .before .before .before .before .before .before .before .before .before .before .before .before .before .args) in let col = columnOf (g .directory .now) (g .growers .now) (g .weights .now) (g .yields .now) in let o = found col (g .d) ((c .before .before .before .before .before .before .before .before .before .before .before .before .before .before .before .before .before .before .before .before .before .locate) .result) ((c .before .before .before .before .before .before .before .before .before .before .before .before .before .before .before .before .before .before .before .before .before .locate) .ensures) ((c .before .before .before .before .before .before .before .before .before .before .before .before .before .before .before .before .before .before .if1) .left) in let l = lent-column col (o .lent) in let hd = held col l (target 64 col (g .d .grower)) (target-there col (o .lent) (g .d .grower)) in let sm = scan-small col (g .d) ((c .before .before .before .before .before .before .before .before .before .before .before .before .before .before .before .before .before .before .before .before .before .locate) .result) ((c .before .before .before .before .before .before .before .before .before .before .before .before .before .before .before .before .before .before .before .before .before .locate) .ensures) o in let pt = (c .before .before .before .before .before .before .before .before .before .before .before .before .before .before .before .before .partition-of) .ensures in let ht = target-there col (o .lent) (g .new-grower) in let v = delivery (g .new-grower) (g .d .weight) (g .d .«oil_yield») in let e = (c .before .before .before .before .before .before .before .before .before .shift) .ensures ∙ ap₂ (λ (t i : ℕ). shiftedOf col t i ((c .before .before .before .before .before .before .before .before .before .before .before .before .before .before .before .before .partition-of) .result) v) (o .target-is) (o .slot-is) ∙ ap (λ (u : ℕ). shiftedOf col (target 64 col (g .d .grower)) (slotOf 64 col (g .d)) u v) pt in let n = (c .before .before .before .before .before .before .before .before .before .before .before .before .before .before .before .apart) .ensures ∙ ap₂ (λ (t u : ℕ). apart t u) (o .target-is) pt in move-done col (g .d) ((c .before .before .before .before .before .before .before .before .before .before .before .before .before .before .before .before .before .before .before .before .before .locate) .result) ((c .before .before .before .before .before .before .before .before .before .before .before .before .before .before .before .before .before .before .before .before .before .locate) .ensures) (g .new-grower) o _ _ _ e n ((c .accepted) .ensures ∙ ap acceptedWith ((c .before .before .before .before .before .before .before .before .before .before .before .before .before .before .with-more) .ensures))
+returns-2 c = let g = (c .before .before .before .before .before .before .before .before .before .before .before .before .before .before .before .before .before .before .before .before .before .before .before .before .before .before .before .before .before .before .args) in let col = columnOf (g .directory .now) (g .growers .now) (g .weights .now) (g .yields .now) in let o = found col (g .d) ((c .before .before .before .before .before .before .before .before .before .before .before .before .before .before .before .before .before .before .before .before .before .locate) .result) ((c .before .before .before .before .before .before .before .before .before .before .before .before .before .before .before .before .before .before .before .before .before .locate) .ensures) ((c .before .before .before .before .before .before .before .before .before .before .before .before .before .before .before .before .before .before .if1) .left) in let l = lent-column col (o .lent) in let hd = held col l (target 64 col (g .d .grower)) (target-there col (o .lent) (g .d .grower)) in let sm = scan-small col (g .d) ((c .before .before .before .before .before .before .before .before .before .before .before .before .before .before .before .before .before .before .before .before .before .locate) .result) ((c .before .before .before .before .before .before .before .before .before .before .before .before .before .before .before .before .before .before .before .before .before .locate) .ensures) o in let pt = (c .before .before .before .before .before .before .before .before .before .before .before .before .before .before .before .before .partition-of) .ensures in let ht = target-there col (o .lent) (g .new-grower) in let v = delivery (g .new-grower) (g .d .weight) (g .d .«oil_yield») in let e = (c .before .before .before .before .before .before .before .before .before .shift) .ensures ∙ ap₂ (λ (t i : ℕ). shiftedOf col t i ((c .before .before .before .before .before .before .before .before .before .before .before .before .before .before .before .before .partition-of) .result) v) (o .target-is) (o .slot-is) ∙ ap (λ (u : ℕ). shiftedOf col (target 64 col (g .d .grower)) (slotOf 64 col (g .d)) u v) pt in let n = (c .before .before .before .before .before .before .before .before .before .before .before .before .before .before .before .apart) .ensures ∙ ap₂ (λ (t u : ℕ). apart t u) (o .target-is) pt in move-done col (g .d) ((c .before .before .before .before .before .before .before .before .before .before .before .before .before .before .before .before .before .before .before .before .before .locate) .result) ((c .before .before .before .before .before .before .before .before .before .before .before .before .before .before .before .before .before .before .before .before .before .locate) .ensures) (g .new-grower) o _ _ _ e n ((c .without-totals2) .ensures ∙ ap (withoutTotals 0) ((c .before .before .before .before .before .before .before .before .before .before .before .before .before .before .with-more) .ensures))
 
 pub move-delivery-spec : {M : Type 1} → statement M
 move-delivery-spec =
     tie.close
     (tie.spec
     locate-requires
-    refused-with-requires
+    without-totals-requires
     same-length
     same-length-2
     same-length-3
@@ -90,7 +90,7 @@ move-delivery-spec =
     add-with-more-2
     with-more-requires
     shift-requires
-    accepted-requires
+    without-totals-requires-2
     same-length-5
     same-length-6
     same-length-7

@@ -30,11 +30,11 @@ reads-of-requires c κs = let g = c .before .before .before .before .before .bef
 returns-2 : tie.Need-returns-2
 returns-2 c = let g = c .before .before .before .before .before .before .before .before .before .args in let p = c .before .before .before .before .before .before .before .before .before .pre in search-found (g .b) (g .t) (g .a) (g .d) (g .g .now) (g .w .now) (g .y .now) (p .1) (p .2) (sym (c .before .before .before .before .before .values-ok .ensures) ∙ not-false _ (c .before .before .before .before .if1 .left)) _ _ (c .before .before .before .first-match .ensures) (c .before .reads-of .ensures ∙ ap readsOf (c .before .before .blocks-of .ensures)) (c .if2 .taken)
 
-missed-requires : tie.Need-missed-requires
-missed-requires c κs = search needs
+not-located-after-requires : tie.Need-not-located-after-requires
+not-located-after-requires c κs = search needs
 
 returns-3 : tie.Need-returns-3
-returns-3 c = let g = c .before .before .before .before .before .before .before .before .before .before .args in let p = c .before .before .before .before .before .before .before .before .before .before .pre in c .missed .ensures ∙ search-missing (g .b) (g .t) (g .a) (g .d) (g .g .now) (g .w .now) (g .y .now) (p .1) (p .2) (sym (c .before .before .before .before .before .before .values-ok .ensures) ∙ not-false _ (c .before .before .before .before .before .if1 .left)) _ _ (c .before .before .before .before .first-match .ensures) (c .before .before .reads-of .ensures ∙ ap readsOf (c .before .before .before .blocks-of .ensures)) (c .before .if2 .left)
+returns-3 c = let g = c .before .before .before .before .before .before .before .before .before .before .args in let p = c .before .before .before .before .before .before .before .before .before .before .pre in c .not-located-after .ensures ∙ search-missing (g .b) (g .t) (g .a) (g .d) (g .g .now) (g .w .now) (g .y .now) (p .1) (p .2) (sym (c .before .before .before .before .before .before .values-ok .ensures) ∙ not-false _ (c .before .before .before .before .before .if1 .left)) _ _ (c .before .before .before .before .first-match .ensures) (c .before .before .reads-of .ensures ∙ ap readsOf (c .before .before .before .blocks-of .ensures)) (c .before .if2 .left)
 
 pub search-part-spec : {M : Type 1} → statement M
 search-part-spec =
@@ -47,5 +47,5 @@ search-part-spec =
     blocks-of-requires
     reads-of-requires
     returns-2
-    missed-requires
+    not-located-after-requires
     returns-3)

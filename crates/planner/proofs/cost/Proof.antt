@@ -4,7 +4,7 @@ use native.Mathlib.Omega.{arith}
 use Rattle.checks.specs.Lent.{setOf}
 use Rattle.search.proofs.Bias.{held-cost}
 use Rattle.terms.proofs.TermLaws.{loaded-holds}
-use Rattle.planner.proofs.Given.{priced, cost-given}
+use Rattle.planner.proofs.Given.{cost-given}
 use Rattle.planner.proofs.Answers.{cost-refused, layout-covers-blocks, cost-answered}
 use borrow.Author.Needs.{needs}
 use Rattle.planner.proofs.cost.Statement.{statement}
@@ -37,7 +37,7 @@ load-requires c κs =
     let s = setOf (a .block) (a .used) (a .growers .now) (a .weights .now) (a .yields .now) in
     let z = sym (c .before .before .before .cost-refusal .ensures) ∙ c .before .before .if1 .left in
     let g = cost-given (a .card) s (a .histograms .now) (a .ends .now) z in
-    (g .0 .counts, (priced _ (g .0 .prices), omega (arith, g .0 .few, c .before .block-count .ensures)))
+    (g .0 .counts, (g .0 .prices, omega (arith, g .0 .few, c .before .block-count .ensures)))
 
 slice-aggregate-layout-number : tie.Need-slice-aggregate-layout-number
 slice-aggregate-layout-number c = search needs
@@ -52,7 +52,7 @@ layout-number-requires c κs =
     let s = setOf (a .block) (a .used) (a .growers .now) (a .weights .now) (a .yields .now) in
     let z = sym (cost-refusal .ensures) ∙ if1 .left in
     let g = cost-given (a .card) s (a .histograms .now) (a .ends .now) z in
-    record { n = _; holds = loaded-holds _ _ _ _ _ (load .ensures) (priced _ (g .0 .prices)) (g .0 .counts) (omega (arith, g .0 .few, block-count .ensures)) (omega (arith, g .0 .few, block-count .ensures)); covers = rw (block-count .ensures) (layout-covers-blocks (a .card) s (a .ends .now) (a .histograms .now) (g .1)) }
+    record { n = _; holds = loaded-holds _ _ _ _ _ (load .ensures) (g .0 .prices) (g .0 .counts) (omega (arith, g .0 .few, block-count .ensures)) (omega (arith, g .0 .few, block-count .ensures)); covers = rw (block-count .ensures) (layout-covers-blocks (a .card) s (a .ends .now) (a .histograms .now) (g .1)) }
 
 unbiased-requires : tie.Need-unbiased-requires
 unbiased-requires c κs = search needs

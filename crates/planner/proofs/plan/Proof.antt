@@ -5,7 +5,7 @@ use native.Mathlib.Omega.{arith}
 use native.Mathlib.Nat.{mul-le-mul}
 use Rattle.checks.specs.Lent.{setOf}
 use Rattle.terms.proofs.TermLaws.{loaded-holds}
-use Rattle.planner.proofs.Given.{priced, plan-given}
+use Rattle.planner.proofs.Given.{plan-given}
 use Rattle.planner.proofs.Answers.{plan-not-given, answered-plan}
 use borrow.Author.Needs.{needs}
 use Rattle.planner.proofs.plan.Statement.{statement}
@@ -60,7 +60,7 @@ load-requires c κs =
     let s = setOf (a .block) (a .used) (a .growers .now) (a .weights .now) (a .yields .now) in
     let z = sym (plan-refusal .ensures) ∙ if1 .left in
     let g = plan-given (a .card) s (a .histograms .now) (a .limits) z in
-    (g .counts, (priced _ (g .prices), omega (arith, g .few, block-count .ensures)))
+    (g .counts, (g .prices, omega (arith, g .few, block-count .ensures)))
 
 slice-aggregate-mark : tie.Need-slice-aggregate-mark
 slice-aggregate-mark c = search needs
@@ -97,7 +97,7 @@ cheapest-requires c κs =
     let g = plan-given (a .card) s (a .histograms .now) (a .limits) z in
     let n = block-count .result in
     let x : n * n ≤ 64 * 64 = mul-le-mul {n₂ = 64} {m₂ = 64} (omega (arith, g .few, block-count .ensures)) (omega (arith, g .few, block-count .ensures)) in (
-      loaded-holds _ _ _ _ _ (load .ensures) (priced _ (g .prices)) (g .counts) (omega (arith, g .few, block-count .ensures))
+      loaded-holds _ _ _ _ _ (load .ensures) (g .prices) (g .counts) (omega (arith, g .few, block-count .ensures))
           (omega (arith, g .few, block-count .ensures)),
       omega (arith, g .some, g .few, block-count .ensures, x),
     )

@@ -1,0 +1,15 @@
+-- `column::without_totals` meets its contract. Assumes nothing.
+use mathlib.Core.Path.{ap}
+use borrow.Author.Needs.{needs}
+use Rattle.model.specs.declared.Totals.{Totals}
+use Rattle.column.proofs.without_totals.Statement.{statement}
+use Rattle.column.proofs.without_totals.Tie as tie
+
+no-totals-requires : tie.Need-no-totals-requires
+no-totals-requires c κs = search needs
+
+returns : tie.Need-returns
+returns c = ap (λ (t : Totals). record { refusal = c .before .args .n; counts = c .before .args .counts; totals = t }) (c .no-totals .ensures)
+
+pub without-totals-spec : {M : Type 1} → statement M
+without-totals-spec = tie.close (tie.spec no-totals-requires returns)
