@@ -6,7 +6,9 @@ ghost use Rattle.model.specs.Calls.{find, range, insert, delete, move};
 ghost use Rattle.model.specs.Recorder.{recordCall};
 ghost use Rattle.model.specs.Planner.{costCall, planCall};
 ghost use Rattle.model.specs.ColumnCalls.{applyCall, columnCall, partitionCall};
+ghost use Rattle.model.specs.SnapshotCalls.{writeCall, readCall};
 ghost use Rattle.checks.specs.Lent.{columnOf, setOf};
+ghost use Rattle.snapshot.specs.Answers.{resultOf};
 use model::Answer;
 use model::Applied;
 use model::Costed;
@@ -15,6 +17,7 @@ use model::Limits;
 use model::PartitionSlice;
 use model::Planned;
 use model::PriceCard;
+use model::Written;
 
 // Applies a layout to an unpartitioned set.
 #[no_mangle]
@@ -312,4 +315,33 @@ pub extern "C" fn meltusk_plan(
         histograms,
         ends,
     )
+}
+
+// Writes a column as a snapshot's text.
+#[no_mangle]
+pub extern "C" fn meltusk_write_snapshot(
+    directory: &[u32],
+    growers: &[u32],
+    weights: &[u32],
+    yields: &[u32],
+    text: &mut [u8],
+) -> Written
+    ensures { λ r. ⌜ record { answer = r; text = now (text .exit) }
+        ≡ writeCall 64 (columnOf (now (directory .entry)) (now (growers .entry)) (now (weights .entry)) (now (yields .entry))) (now (text .entry)) ⌝ }
+{
+    snapshot::write(directory, growers, weights, yields, text)
+}
+
+// Reads a snapshot's text into the slots.
+#[no_mangle]
+pub extern "C" fn meltusk_read_snapshot(
+    text: &[u8],
+    growers: &mut [u32],
+    weights: &mut [u32],
+    yields: &mut [u32],
+) -> Applied
+    ensures { λ r. ⌜ resultOf r (now (growers .exit)) (now (weights .exit)) (now (yields .exit))
+        ≡ readCall 64 (now (text .entry)) (now (growers .entry)) (now (weights .entry)) (now (yields .entry)) ⌝ }
+{
+    snapshot::read(text, growers, weights, yields)
 }

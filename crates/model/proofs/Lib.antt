@@ -21,5 +21,10 @@ pub mod MovesLengths
 pub mod MovesAgain
 pub mod MovesRows
 pub mod SliceLaws
+pub mod FieldLaws
+pub mod LineLaws
+pub mod BookLaws
+pub mod ColumnBooks
+pub mod WriteLaws
 pub mod Laws
 pub mod Marked

@@ -1,6 +1,6 @@
 -- Lists and numbers: the lemmas that every other file shares. Assumes nothing.
 use Prim.Native.Nat.{ℕ, zero, suc, _+_, _-_, _*_, _≤_, _<_}
-use mathlib.Core.Path.{_≡_, refl, sym, ap, _∙_}
+use mathlib.Core.Path.{_≡_, refl, sym, ap, _∙_, subst}
 use mathlib.Core.Bool.{Bool, true, false, cond, _&&_}
 use mathlib.Core.List.{List, [], _∷_, _++_, append-assoc, map, flatten}
 use native.Mathlib.Omega.{arith}
@@ -196,3 +196,12 @@ module _ {A : Type 0} (f : A → Bool) where
       go : (t : Bool) → length (keep f l) ≤ length l → length (cond t (x ∷ keep f l) (keep f l)) ≤ length (x ∷ l)
       go true h = omega arith
       go false h = omega arith
+
+  pub every-cut : (n : ℕ) (l : List A) → every f l ≡ every f (take n l) && every f (drop n l)
+  every-cut n l = ap (every f) (sym (take-append-drop n l)) ∙ every-joined (take n l) (drop n l)
+
+  pub every-front : (n : ℕ) (l : List A) → T (every f l) → T (every f (take n l))
+  every-front n l t = and-fst (every f (take n l)) (every f (drop n l)) (subst T (every-cut n l) t)
+
+  pub every-back : (n : ℕ) (l : List A) → T (every f l) → T (every f (drop n l))
+  every-back n l t = and-snd (every f (take n l)) (every f (drop n l)) (subst T (every-cut n l) t)

@@ -5,26 +5,17 @@ use mathlib.Core.List.{List, [], _∷_, map}
 use native.Mathlib.Omega.{arith}
 use lib.ListN.{length}
 use Rattle.model.specs.declared.Delivery.{Delivery}
-use Rattle.model.specs.Deliveries.{rows}
+use Rattle.model.specs.Deliveries.{growerOf, weightOf, yieldOf, rows}
 use Rattle.model.specs.Moves.{inserted, deleted, moved}
 use Rattle.model.proofs.MovesMap.{map-inserted, map-deleted, map-moved}
 
-abbrev gr : Delivery → ℕ
-gr r = r .grower
-
-abbrev we : Delivery → ℕ
-we r = r .weight
-
-abbrev yi : Delivery → ℕ
-yi r = r .«oil_yield»
-
 -- three columns of the rows l
 pub record Columns (l : List Delivery) (g w y : List ℕ) : Type 0 where
-  pub growers : g ≡ map gr l
-  pub weights : w ≡ map we l
-  pub yields : y ≡ map yi l
+  pub growers : g ≡ map growerOf l
+  pub weights : w ≡ map weightOf l
+  pub yields : y ≡ map yieldOf l
 
-rows-of : (l : List Delivery) → rows (map gr l) (map we l) (map yi l) ≡ l
+rows-of : (l : List Delivery) → rows (map growerOf l) (map weightOf l) (map yieldOf l) ≡ l
 unfolding rows
 rows-of [] = refl
 rows-of (r ∷ l) = ap (λ (t : List Delivery). r ∷ t) (rows-of l)
@@ -49,25 +40,25 @@ module _ {l : List Delivery} {g w y : List ℕ} (c : Columns l g w y) where
       → Columns (inserted ns t x l) (inserted ns t (x .grower) g) (inserted ns t (x .weight) w) (inserted ns t (x .«oil_yield») y)
   inserted-columns ns t x =
       record {
-        growers = rw (c .growers) (sym (map-inserted gr ns t x l));
-        weights = rw (c .weights) (sym (map-inserted we ns t x l));
-        yields = rw (c .yields) (sym (map-inserted yi ns t x l));
+        growers = rw (c .growers) (sym (map-inserted growerOf ns t x l));
+        weights = rw (c .weights) (sym (map-inserted weightOf ns t x l));
+        yields = rw (c .yields) (sym (map-inserted yieldOf ns t x l));
       }
 
   pub deleted-columns : (ns : List ℕ) (t i : ℕ) (x : Delivery)
       → Columns (deleted ns t i x l) (deleted ns t i (x .grower) g) (deleted ns t i (x .weight) w) (deleted ns t i (x .«oil_yield») y)
   deleted-columns ns t i x =
       record {
-        growers = rw (c .growers) (sym (map-deleted gr ns t i x l));
-        weights = rw (c .weights) (sym (map-deleted we ns t i x l));
-        yields = rw (c .yields) (sym (map-deleted yi ns t i x l));
+        growers = rw (c .growers) (sym (map-deleted growerOf ns t i x l));
+        weights = rw (c .weights) (sym (map-deleted weightOf ns t i x l));
+        yields = rw (c .yields) (sym (map-deleted yieldOf ns t i x l));
       }
 
   pub moved-columns : (ns : List ℕ) (t i u : ℕ) (x : Delivery)
       → Columns (moved ns t i u x l) (moved ns t i u (x .grower) g) (moved ns t i u (x .weight) w) (moved ns t i u (x .«oil_yield») y)
   moved-columns ns t i u x =
       record {
-        growers = rw (c .growers) (sym (map-moved gr ns t i u x l));
-        weights = rw (c .weights) (sym (map-moved we ns t i u x l));
-        yields = rw (c .yields) (sym (map-moved yi ns t i u x l));
+        growers = rw (c .growers) (sym (map-moved growerOf ns t i u x l));
+        weights = rw (c .weights) (sym (map-moved weightOf ns t i u x l));
+        yields = rw (c .yields) (sym (map-moved yieldOf ns t i u x l));
       }

@@ -12,6 +12,16 @@ use Rattle.model.specs.Lists.{sumOf, keep}
 abbrev pub delivery : ℕ → ℕ → ℕ → Delivery
 delivery g w y = record { grower = g; weight = w; «oil_yield» = y }
 
+-- the numbers of a delivery
+abbrev pub growerOf : Delivery → ℕ
+growerOf d = d .grower
+
+abbrev pub weightOf : Delivery → ℕ
+weightOf d = d .weight
+
+abbrev pub yieldOf : Delivery → ℕ
+yieldOf d = d .«oil_yield»
+
 -- "three lent slices .. hold them, slot by slot"
 unfoldable pub rows : List ℕ → List ℕ → List ℕ → List Delivery
 rows [] ws ys = []
@@ -46,7 +56,7 @@ noTotals = record { records = 0; weight = 0; oil = 0 }
 
 -- "the number of matching records, their total weight and their total oil (weight × yield)"
 unfoldable pub totalsOf : List Delivery → Totals
-totalsOf ds = record { records = length ds; weight = sumOf (map (λ (d : Delivery). d .weight) ds); oil = sumOf (map (λ (d : Delivery). d .weight * d .«oil_yield») ds) }
+totalsOf ds = record { records = length ds; weight = sumOf (map weightOf ds); oil = sumOf (map (λ (d : Delivery). d .weight * d .«oil_yield») ds) }
 
 abbrev pub totalsBetween : ℕ → ℕ → List Delivery → Totals
 totalsBetween lo hi ds = totalsOf (keep (matches lo hi) ds)

@@ -57,6 +57,9 @@ readField bs = onlyIf (sameList (numberField (spelled 0 bs)) bs && leb (spelled 
 unfoldable pub line : List ℕ → List ℕ
 line ns = flatten (map numberField ns) ++ lineEnd ∷ []
 
+abbrev pub lines : List (List ℕ) → List ℕ
+lines rows = flatten (map line rows)
+
 -- what was read, and the text after it
 pub record Taken (A : Type 0) : Type 0 where
   pub value : A

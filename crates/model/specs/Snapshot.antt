@@ -2,39 +2,17 @@
 use Prim.Native.Nat.{ℕ}
 use mathlib.Core.Bool.{Bool, true, _&&_}
 use mathlib.Core.Option.{Option, some}
-use mathlib.Core.List.{List, [], _∷_, _++_, map, flatten}
+use mathlib.Core.List.{List, [], _∷_, _++_, map}
 use lib.ListN.{length, take}
 use lib.Dec.{leb, eqb}
 use Rattle.model.specs.declared.Delivery.{Delivery}
 use Rattle.model.specs.Bounds.{mostSlots}
 use Rattle.model.specs.Lists.{sumOf, every, rising, onlyIf, andThen, valueOr, isSome}
-use Rattle.model.specs.Deliveries.{delivery, inRange}
+use Rattle.model.specs.Deliveries.{delivery, growerOf, weightOf, yieldOf, inRange}
 use Rattle.model.specs.Blocks.{blockLengthOk}
 use Rattle.model.specs.Directory.{Directory, directoryOf}
 use Rattle.model.specs.Column.{Column, slots, lengthsOf, soundGrowers}
-use Rattle.model.specs.Fields.{Taken, taken, line, takeLine, takeLines, nth}
-
--- "K lines: length, fence"
-unfoldable pub partitionLines : List ℕ → List ℕ → List ℕ
-partitionLines [] fences = []
-partitionLines (n ∷ ns) [] = []
-partitionLines (n ∷ ns) (f ∷ fs) = line (n ∷ f ∷ []) ++ partitionLines ns fs
-
--- "M lines: grower, weight, yield"
-abbrev pub deliveryLine : Delivery → List ℕ
-deliveryLine d = line (d .grower ∷ d .weight ∷ d .«oil_yield» ∷ [])
-
--- the records of all partitions
-abbrev pub allRecords : ℕ → Column → List Delivery
-allRecords L c = take (sumOf (lengthsOf L c)) (slots c)
-
--- "line 1: B, M, K", then the partitions and the deliveries
-unfoldable pub snapshotText : ℕ → Column → List ℕ
-snapshotText L c =
-    let d : Directory = directoryOf L (c .directory) in
-    line (d .block ∷ sumOf (d .lengths) ∷ length (d .lengths) ∷ [])
-    ++ partitionLines (d .lengths) (d .fences)
-    ++ flatten (map deliveryLine (allRecords L c))
+use Rattle.model.specs.Fields.{Taken, taken, line, lines, takeLine, takeLines, nth}
 
 -- what a text holds
 pub record Header : Type 0 where
@@ -45,6 +23,35 @@ pub record Header : Type 0 where
 pub record Book : Type 0 where
   pub directory : Directory
   pub deliveries : List Delivery
+
+-- "K lines: length, fence": the numbers of each
+unfoldable pub partitionRows : List ℕ → List ℕ → List (List ℕ)
+partitionRows [] fences = []
+partitionRows (n ∷ ns) [] = []
+partitionRows (n ∷ ns) (f ∷ fs) = (n ∷ f ∷ []) ∷ partitionRows ns fs
+
+-- "M lines: grower, weight, yield": the numbers of one
+abbrev pub deliveryRow : Delivery → List ℕ
+deliveryRow d = growerOf d ∷ weightOf d ∷ yieldOf d ∷ []
+
+-- "line 1: B, M, K", then the partitions and the deliveries
+unfoldable pub bookText : Book → List ℕ
+bookText b =
+    let d : Directory = b .directory in
+    line (d .block ∷ sumOf (d .lengths) ∷ length (d .lengths) ∷ [])
+    ++ lines (partitionRows (d .lengths) (d .fences))
+    ++ lines (map deliveryRow (b .deliveries))
+
+-- the records of all partitions
+abbrev pub allRecords : ℕ → Column → List Delivery
+allRecords L c = take (sumOf (lengthsOf L c)) (slots c)
+
+-- the book of a column
+abbrev pub bookIn : ℕ → Column → Book
+bookIn L c = record { directory = directoryOf L (c .directory); deliveries = allRecords L c }
+
+abbrev pub snapshotText : ℕ → Column → List ℕ
+snapshotText L c = bookText (bookIn L c)
 
 -- "line 1 is three such numbers in range", for the block limit L
 unfoldable pub headerOk : ℕ → Header → Bool
@@ -62,13 +69,17 @@ bookOk h b =
     eqb (sumOf (b .directory .lengths)) (h .used)
     && rising (b .directory .fences)
     && every inRange (b .deliveries)
-    && soundGrowers (b .directory .lengths) (b .directory .fences) (map (λ (d : Delivery). d .grower) (b .deliveries))
+    && soundGrowers (b .directory .lengths) (b .directory .fences) (map growerOf (b .deliveries))
+
+-- the delivery of a line
+abbrev pub deliveryOf : List ℕ → Delivery
+deliveryOf l = delivery (nth 0 l) (nth 1 l) (nth 2 l)
 
 -- the book of a header, its partition lines and its delivery lines
 abbrev pub bookOf : Header → List (List ℕ) → List (List ℕ) → Book
 bookOf h ps ds = record {
   directory = record { block = h .block; lengths = map (nth 0) ps; fences = map (nth 1) ps };
-  deliveries = map (λ (l : List ℕ). delivery (nth 0 l) (nth 1 l) (nth 2 l)) ds;
+  deliveries = map deliveryOf ds;
 }
 
 -- a text is a book just if its lines are there, nothing is left over and its values are right

@@ -8,6 +8,7 @@ use lib.Dec.{eqb}
 use Rattle.model.specs.declared.Delivery.{Delivery}
 use Rattle.model.specs.declared.Written.{Written}
 use Rattle.model.specs.Checks.{firstFailed}
+use Rattle.model.specs.Deliveries.{growerOf, weightOf, yieldOf}
 use Rattle.model.specs.Directory.{directoryNumbers, noDirectory}
 use Rattle.model.specs.Column.{Column}
 use Rattle.model.specs.Snapshot.{Book, snapshotText, readBook}
@@ -43,9 +44,9 @@ module _ (L : ℕ) where
   columnRead none gs ws ys = record { directory = noDirectory L; growers = gs; weights = ws; yields = ys }
   columnRead (some b) gs ws ys = record {
     directory = directoryNumbers L (b .directory);
-    growers = slotsRead (λ (d : Delivery). d .grower) (b .deliveries) gs;
-    weights = slotsRead (λ (d : Delivery). d .weight) (b .deliveries) ws;
-    yields = slotsRead (λ (d : Delivery). d .«oil_yield») (b .deliveries) ys;
+    growers = slotsRead growerOf (b .deliveries) gs;
+    weights = slotsRead weightOf (b .deliveries) ws;
+    yields = slotsRead yieldOf (b .deliveries) ys;
   }
 
   -- "the directory of a refused .. reading all 0"

@@ -22,3 +22,5 @@ pub mod PlanSums
 pub mod PlanAnswers
 pub mod Demand3
 pub mod PlanExample
+-- The snapshot's round trips.
+pub mod Snapshot

@@ -2,3 +2,4 @@
 pub mod Ledger
 pub mod Plan
 pub mod PlanExample
+pub mod Snapshot

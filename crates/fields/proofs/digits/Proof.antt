@@ -1,0 +1,80 @@
+-- `fields::digits` meets its contract. The loop's invariant: the columns passed are the leading columns of v, all eleven its field. Assumes nothing.
+use Prim.Native.Nat.{_-_}
+use native.Mathlib.Omega.{arith}
+use borrow.Author.Needs.{needs}
+use Rattle.fields.proofs.Columns.{Digits, digits-start, most-digits, low, high, digits-next, large, done}
+use Rattle.fields.proofs.digits.Statement.{statement}
+use Rattle.fields.proofs.digits.Tie as tie
+
+abbrev Inv-loop : tie.InvT-loop
+Inv-loop text at first v₀ i₀ v i = Digits text at v i
+
+abbrev μ-loop : tie.MeasureT-loop
+μ-loop text at first v₀ i₀ v i = 11 - i
+
+loop-holds : tie.Need-loop-holds Inv-loop μ-loop
+loop-holds c = digits-start (c .before .pre .0) (c .before .pre .1) (c .before .pre .2)
+
+add-b : tie.Need-add-b Inv-loop μ-loop
+add-b c = omega (arith, c .before .loop .inv .fits)
+
+shared-slice-read-b : tie.Need-shared-slice-read-b Inv-loop μ-loop
+shared-slice-read-b c = omega (arith, c .before .before .loop .inv .fits)
+
+returns : tie.Need-returns Inv-loop μ-loop
+returns c = low (c .before .before .before .loop .inv) (c .before .before .loop-test .taken) (c .if1 .taken)
+
+returns-2 : tie.Need-returns-2 Inv-loop μ-loop
+returns-2 c = high (c .before .before .before .before .loop .inv) (c .before .before .before .loop-test .taken) (c .if2 .taken)
+
+mul-v : tie.Need-mul-v Inv-loop μ-loop
+mul-v c = omega (arith, most-digits (c .before .before .before .before .loop .inv) (c .before .before .before .loop-test .taken))
+
+wide-requires : tie.Need-wide-requires Inv-loop μ-loop
+wide-requires c κs = search needs
+
+add-v : tie.Need-add-v Inv-loop μ-loop
+add-v c = omega (arith, most-digits (c .before .before .before .before .before .loop .inv) (c .before .before .before .before .loop-test .taken), c .wide .ensures)
+
+add-i : tie.Need-add-i Inv-loop μ-loop
+add-i c = omega arith
+
+loop-less : tie.Need-loop-less Inv-loop μ-loop
+loop-less c = omega arith
+
+loop-again : tie.Need-loop-again Inv-loop μ-loop
+loop-again c = digits-next (c .before .before .before .before .before .loop .inv) (c .before .before .before .before .loop-test .taken) (c .before .before .if1 .left) (c .before .if2 .left) (c .wide .ensures)
+
+returns-3 : tie.Need-returns-3 Inv-loop μ-loop
+returns-3 c = large (c .before .before .loop .inv) (c .before .loop-test .left) (c .if3 .taken)
+
+cast-t14 : tie.Need-cast-t14 Inv-loop μ-loop
+cast-t14 c = search needs
+
+add-t15 : tie.Need-add-t15 Inv-loop μ-loop
+add-t15 c = omega (arith, c .before .before .loop .inv .fits)
+
+returns-4 : tie.Need-returns-4 Inv-loop μ-loop
+returns-4 c = done (c .before .before .loop .inv) (c .before .loop-test .left) (c .if3 .left)
+
+pub digits-spec : {M : Type 1} → statement M
+digits-spec =
+    tie.close
+    (tie.spec
+    Inv-loop
+    μ-loop
+    loop-holds
+    add-b
+    shared-slice-read-b
+    returns
+    returns-2
+    mul-v
+    wide-requires
+    add-v
+    add-i
+    loop-less
+    loop-again
+    returns-3
+    cast-t14
+    add-t15
+    returns-4)

@@ -1,0 +1,129 @@
+-- Lines written one after the other: the lines that are left, placed from here on, make the whole. Assumes nothing.
+use Prim.Native.Nat.{ℕ, suc, _+_, _-_, _*_, _≤_, _<_}
+use mathlib.Core.Path.{_≡_, refl, sym, ap, _∙_, subst}
+use mathlib.Core.List.{List, [], _∷_, _++_, map, flatten}
+use native.Mathlib.Omega.{arith}
+use native.Mathlib.Numerals.{add-one}
+use lib.ListN.{length, getD, drop, length-append, length-drop, length-map}
+use lib.Seq.{drop-cons, drop-length}
+use Rattle.model.specs.declared.Delivery.{Delivery}
+use Rattle.model.specs.Deliveries.{rows}
+use Rattle.model.specs.Fields.{line, lines}
+use Rattle.model.specs.Snapshot.{partitionRows, deliveryRow}
+use Rattle.model.proofs.Deliveries.{length-rows, rows-from}
+use Rattle.model.proofs.LineLaws.{length-line}
+use Rattle.fields.specs.Writing.{placed}
+use Rattle.fields.proofs.Placing.{length-placed, placed-none, placed-joined}
+
+-- Lengths.
+
+pub length-partitions : (ns fs : List ℕ) → length fs ≡ length ns → length (lines (partitionRows ns fs)) ≡ 23 * length ns
+unfolding partitionRows flatten
+length-partitions [] fs e = refl
+length-partitions (n ∷ ns) [] e = absurd (omega arith)
+length-partitions (n ∷ ns) (f ∷ fs) e = omega (arith, length-append (line (n ∷ f ∷ [])) (lines (partitionRows ns fs)), length-line (n ∷ f ∷ []), length-partitions ns fs (omega arith))
+
+length-deliveries : (ds : List Delivery) → length (lines (map deliveryRow ds)) ≡ 34 * length ds
+unfolding flatten
+length-deliveries [] = refl
+length-deliveries (d ∷ ds) = omega (arith, length-append (line (deliveryRow d)) (lines (map deliveryRow ds)), length-line (deliveryRow d), length-deliveries ds)
+
+abbrev pub rowsOf : List ℕ → List ℕ → List ℕ → List (List ℕ)
+rowsOf g w y = map deliveryRow (rows g w y)
+
+pub length-rows-of : (g w y : List ℕ) → length w ≡ length g → length y ≡ length g → length (lines (rowsOf g w y)) ≡ 34 * length g
+length-rows-of g w y p q = length-deliveries (rows g w y) ∙ ap (λ (n : ℕ). 34 * n) (length-rows g w y p q)
+
+-- Lines of any rows.
+
+pub record PutLines (t₀ : List ℕ) (at : ℕ) (whole : List (List ℕ)) (t : List ℕ) (e : ℕ) (rest : List (List ℕ)) : Type 0 where
+  pub size : length t ≡ length t₀
+  pub room : e + length (lines rest) ≤ length t₀
+  pub work : placed e (lines rest) t ≡ placed at (lines whole) t₀
+
+lines-start : (t : List ℕ) (at : ℕ) (whole : List (List ℕ)) → at + length (lines whole) ≤ length t → PutLines t at whole t at whole
+lines-start t at whole h = record { size = refl; room = h; work = refl }
+
+module _ {t₀ : List ℕ} {at : ℕ} {whole : List (List ℕ)} {t : List ℕ} {e : ℕ} {rest : List (List ℕ)} (w : PutLines t₀ at whole t e rest) where
+  module _ {row : List ℕ} {more : List (List ℕ)} (x : rest ≡ row ∷ more) where
+    parted : lines rest ≡ line row ++ lines more
+    unfolding flatten
+    parted = ap lines x
+
+    lines-room : e + (11 * length row + 1) + length (lines more) ≤ length t₀
+    lines-room = omega (arith, w .room, ap length parted, length-append (line row) (lines more), length-line row)
+
+    lines-next : (t' : List ℕ) → t' ≡ placed e (line row) t → PutLines t₀ at whole t' (e + (11 * length row + 1)) more
+    lines-next t' q =
+        let n = length-line row in
+        record {
+          size = ap length q ∙ length-placed e (line row) t (omega (arith, w .size, lines-room)) ∙ w .size;
+          room = lines-room;
+          work =
+              ap (placed (e + (11 * length row + 1)) (lines more)) q
+              ∙ placed-joined e (e + (11 * length row + 1)) (line row) (lines more) t (omega arith) (omega (arith, w .size, lines-room))
+              ∙ ap (λ (l : List ℕ). placed e l t) (sym parted)
+              ∙ w .work;
+        }
+
+  lines-end : rest ≡ [] → t ≡ placed at (lines whole) t₀
+  unfolding flatten
+  lines-end x = sym (placed-none e t) ∙ ap (λ (l : List (List ℕ)). placed e (lines l) t) (sym x) ∙ w .work
+
+-- Partition lines.
+
+pub record PutParts (t₀ : List ℕ) (at : ℕ) (lens fences t : List ℕ) (i e : ℕ) : Type 0 where
+  pub left : i ≤ length lens
+  pub even : length fences ≡ length lens
+  pub put : PutLines t₀ at (partitionRows lens fences) t e (partitionRows (drop i lens) (drop i fences))
+
+pub parts-start : (t : List ℕ) (at : ℕ) (lens fences : List ℕ) → length fences ≡ length lens → at + 23 * length lens ≤ length t → PutParts t at lens fences t 0 at
+parts-start t at lens fences e h = record { left = omega arith; even = e; put = lines-start t at (partitionRows lens fences) (omega (arith, length-partitions lens fences e)) }
+
+module _ {t₀ : List ℕ} {at : ℕ} {lens fences t : List ℕ} {i e : ℕ} (w : PutParts t₀ at lens fences t i e) where
+  module _ (h : i < length lens) where
+    part-here : partitionRows (drop i lens) (drop i fences) ≡ (getD lens i 0 ∷ getD fences i 0 ∷ []) ∷ partitionRows (drop (i + 1) lens) (drop (i + 1) fences)
+    unfolding partitionRows
+    part-here = rw (drop-cons lens i 0 h, drop-cons fences i 0 (omega (arith, w .even)), add-one)
+
+    pub part-room : e + 23 ≤ length t
+    part-room = omega (arith, lines-room (w .put) part-here, w .put .size)
+
+    pub parts-next : (t' : List ℕ) → t' ≡ placed e (line (getD lens i 0 ∷ getD fences i 0 ∷ [])) t → PutParts t₀ at lens fences t' (i + 1) (e + 23)
+    parts-next t' q = record { left = omega arith; even = w .even; put = lines-next (w .put) part-here t' q }
+
+  pub parts-end : length lens ≤ i → t ≡ placed at (lines (partitionRows lens fences)) t₀
+  unfolding partitionRows
+  parts-end h =
+      let z : i ≡ length lens = omega (arith, w .left) in
+      let x : drop i lens ≡ [] = ap (λ (k : ℕ). drop k lens) z ∙ drop-length lens in
+      lines-end (w .put) (ap (λ (l : List ℕ). partitionRows l (drop i fences)) x)
+
+-- Delivery lines.
+
+pub record PutRows (t₀ : List ℕ) (at : ℕ) (g w y t : List ℕ) (i e : ℕ) : Type 0 where
+  pub left : i ≤ length g
+  pub even-w : length w ≡ length g
+  pub even-y : length y ≡ length g
+  pub put : PutLines t₀ at (rowsOf g w y) t e (rowsOf (drop i g) (drop i w) (drop i y))
+
+pub rows-start : (t : List ℕ) (at : ℕ) (g w y : List ℕ) → length w ≡ length g → length y ≡ length g → at + 34 * length g ≤ length t → PutRows t at g w y t 0 at
+rows-start t at g w y p q h = record { left = omega arith; even-w = p; even-y = q; put = lines-start t at (rowsOf g w y) (omega (arith, length-rows-of g w y p q)) }
+
+module _ {t₀ : List ℕ} {at : ℕ} {g w y t : List ℕ} {i e : ℕ} (o : PutRows t₀ at g w y t i e) where
+  module _ (h : i < length g) where
+    row-here : rowsOf (drop i g) (drop i w) (drop i y) ≡ (getD g i 0 ∷ getD w i 0 ∷ getD y i 0 ∷ []) ∷ rowsOf (drop (i + 1) g) (drop (i + 1) w) (drop (i + 1) y)
+    row-here = ap (map deliveryRow) (rows-from g w y i h (o .even-w) (o .even-y))
+
+    pub row-room : e + 34 ≤ length t
+    row-room = omega (arith, lines-room (o .put) row-here, o .put .size)
+
+    pub rows-next : (t' : List ℕ) → t' ≡ placed e (line (getD g i 0 ∷ getD w i 0 ∷ getD y i 0 ∷ [])) t → PutRows t₀ at g w y t' (i + 1) (e + 34)
+    rows-next t' q = record { left = omega arith; even-w = o .even-w; even-y = o .even-y; put = lines-next (o .put) row-here t' q }
+
+  pub rows-end : length g ≤ i → t ≡ placed at (lines (rowsOf g w y)) t₀
+  unfolding rows
+  rows-end h =
+      let z : i ≡ length g = omega (arith, o .left) in
+      let x : drop i g ≡ [] = ap (λ (k : ℕ). drop k g) z ∙ drop-length g in
+      lines-end (o .put) (ap (λ (l : List ℕ). rowsOf l (drop i w) (drop i y)) x)

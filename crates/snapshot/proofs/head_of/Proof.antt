@@ -1,0 +1,118 @@
+-- `snapshot::head_of` meets its contract: each number that is missing, the line's end or the range refuses the line; else its numbers are the header. Assumes nothing.
+use mathlib.Core.Path.{refl, sym, ap, _∙_}
+use mathlib.Core.List.{[], _∷_}
+use native.Mathlib.Omega.{arith}
+use borrow.Author.Needs.{needs}
+use borrow.Author.Tests.{not-true, not-false}
+use Rattle.fields.specs.Reading.{readOf}
+use Rattle.lines.proofs.Reading.{Took, took-start, took-next, took-stop, took-end}
+use Rattle.snapshot.proofs.Judging.{head-fails, head-range, head-done}
+use Rattle.snapshot.proofs.head_of.Statement.{statement}
+use Rattle.snapshot.proofs.head_of.Tie as tie
+
+-- The numbers taken so far.
+
+abbrev from : tie.After-f → tie.Start
+from c = c .before .before .before .before
+
+one : (c : tie.After-f) → Took (from (c) .args .text .now) 0 3 1 (c .f .given .0 .1 .0) (c .f .given .0 .0 ∷ [])
+one c = took-next (took-start _ _ 3) (omega arith) _ (ap readOf (sym (c .f .given .1)) ∙ c .before .before .number-at .ensures)
+
+two : (c : tie.After-g) → Took (from (c .before .before .before .before) .args .text .now) 0 3 2 (c .g .given .0 .1 .0) (c .before .before .before .before .f .given .0 .0 ∷ c .g .given .0 .0 ∷ [])
+two c = took-next (one (c .before .before .before .before)) (omega arith) _ (ap readOf (sym (c .g .given .1)) ∙ c .before .before .number-at2 .ensures)
+
+three : (c : tie.After-h) → Took (from (c .before .before .before .before .before .before .before .before) .args .text .now) 0 3 3 (c .h .given .0 .1 .0) (c .before .before .before .before .before .before .before .before .f .given .0 .0 ∷ c .before .before .before .before .g .given .0 .0 ∷ c .h .given .0 .0 ∷ [])
+three c = took-next (two (c .before .before .before .before)) (omega arith) _ (ap readOf (sym (c .h .given .1)) ∙ c .before .before .number-at3 .ensures)
+
+number-at-requires : tie.Need-number-at-requires
+number-at-requires c κs = search needs
+
+enum-known-f : tie.Need-enum-known-f
+enum-known-f c = search needs
+
+enum-told : tie.Need-enum-told
+enum-told c = search needs
+
+no-head-requires : tie.Need-no-head-requires
+no-head-requires c κs = search needs
+
+returns : tie.Need-returns
+returns c = head-fails _ _ (took-stop (took-start _ 0 3) (omega arith) (ap readOf (sym (c .before .enum-told .given .1)) ∙ c .before .before .before .number-at .ensures)) (c .no-head .ensures)
+
+number-at-requires-2 : tie.Need-number-at-requires-2
+number-at-requires-2 c κs = search needs
+
+enum-known-g : tie.Need-enum-known-g
+enum-known-g c = search needs
+
+enum-told-2 : tie.Need-enum-told-2
+enum-told-2 c = search needs
+
+no-head-requires-2 : tie.Need-no-head-requires-2
+no-head-requires-2 c κs = search needs
+
+returns-2 : tie.Need-returns-2
+returns-2 c = head-fails _ _ (took-stop (one (c .before .before .before .before .before)) (omega arith) (ap readOf (sym (c .before .enum-told2 .given .1)) ∙ c .before .before .before .number-at2 .ensures)) (c .no-head2 .ensures)
+
+number-at-requires-3 : tie.Need-number-at-requires-3
+number-at-requires-3 c κs = search needs
+
+enum-known-h : tie.Need-enum-known-h
+enum-known-h c = search needs
+
+enum-told-3 : tie.Need-enum-told-3
+enum-told-3 c = search needs
+
+no-head-requires-3 : tie.Need-no-head-requires-3
+no-head-requires-3 c κs = search needs
+
+returns-3 : tie.Need-returns-3
+returns-3 c = head-fails _ _ (took-stop (two (c .before .before .before .before .before)) (omega arith) (ap readOf (sym (c .before .enum-told3 .given .1)) ∙ c .before .before .before .number-at3 .ensures)) (c .no-head3 .ensures)
+
+ends-requires : tie.Need-ends-requires
+ends-requires c κs = search needs
+
+no-head-requires-4 : tie.Need-no-head-requires-4
+no-head-requires-4 c κs = search needs
+
+returns-4 : tie.Need-returns-4
+returns-4 c = head-fails _ _ (sym (not-true _ (c .before .if1 .taken)) ∙ c .before .before .ends .ensures ∙ took-end (three (c .before .before .before .before)) (omega arith)) (c .no-head4 .ensures)
+
+header-ok-requires : tie.Need-header-ok-requires
+header-ok-requires c κs = search needs
+
+no-head-requires-5 : tie.Need-no-head-requires-5
+no-head-requires-5 c κs = search needs
+
+returns-5 : tie.Need-returns-5
+returns-5 c = head-range _ _ _ _ _ (sym (took-end (three (c .before .before .before .before .before .before)) (omega arith)) ∙ sym (c .before .before .before .before .ends .ensures) ∙ not-false _ (c .before .before .before .if1 .left)) (three (c .before .before .before .before .before .before) .values) (sym (c .before .before .header-ok .ensures) ∙ not-true _ (c .before .if2 .taken)) (c .no-head5 .ensures)
+
+returns-6 : tie.Need-returns-6
+returns-6 c = head-done _ _ _ _ _ (sym (took-end (three (c .before .before .before .before .before)) (omega arith)) ∙ sym (c .before .before .before .ends .ensures) ∙ not-false _ (c .before .before .if1 .left)) (three (c .before .before .before .before .before) .values) (sym (c .before .header-ok .ensures) ∙ not-false _ (c .if2 .left)) refl
+
+pub head-of-spec : {M : Type 1} → statement M
+head-of-spec =
+    tie.close
+    (tie.spec
+    number-at-requires
+    enum-known-f
+    enum-told
+    no-head-requires
+    returns
+    number-at-requires-2
+    enum-known-g
+    enum-told-2
+    no-head-requires-2
+    returns-2
+    number-at-requires-3
+    enum-known-h
+    enum-told-3
+    no-head-requires-3
+    returns-3
+    ends-requires
+    no-head-requires-4
+    returns-4
+    header-ok-requires
+    no-head-requires-5
+    returns-5
+    returns-6)

@@ -1,0 +1,104 @@
+-- `snapshot::judge` meets its contract: each return is an answer of `ReadAnswers`, over what line 1 was found to be. Assumes nothing.
+use Prim.Native.Nat.{_≤_}
+use mathlib.Core.Path.{refl}
+use native.Mathlib.Omega.{arith}
+use borrow.Author.Needs.{needs}
+use Rattle.snapshot.proofs.ReadAnswers.{few, most, answer-no-head, answer-few, answer-size, answer-lines, answer-numbers, answer-yes}
+use Rattle.snapshot.proofs.judge.Statement.{statement}
+use Rattle.snapshot.proofs.judge.Tie as tie
+
+-- line 1 is in range
+count : (c : tie.Else1) → c .before .before .head-of .result .count ≤ 64
+count c = few _ _ (c .before .before .head-of .ensures) (c .if1 .left)
+
+used : (c : tie.Else1) → c .before .before .head-of .result .used ≤ 262144
+used c = most _ _ (c .before .before .head-of .ensures) (c .if1 .left)
+
+head-of-requires : tie.Need-head-of-requires
+head-of-requires c κs = search needs
+
+not-judged-requires : tie.Need-not-judged-requires
+not-judged-requires c κs = search needs
+
+returns : tie.Need-returns
+returns c = answer-no-head _ _ _ _ (c .before .before .before .head-of .ensures) (c .before .if1 .taken) (c .not-judged .ensures)
+
+cast-m : tie.Need-cast-m
+cast-m c = search needs
+
+not-judged-requires-2 : tie.Need-not-judged-requires-2
+not-judged-requires-2 c κs = search needs
+
+returns-2 : tie.Need-returns-2
+returns-2 c = answer-few _ _ _ _ (c .before .before .before .before .before .head-of .ensures) (c .before .before .before .if1 .left) (c .before .if2 .taken) (c .not-judged2 .ensures)
+
+cast-k : tie.Need-cast-k
+cast-k c = search needs
+
+mul-start : tie.Need-mul-start
+mul-start c = omega (arith, count (c .before .before .before))
+
+add-start : tie.Need-add-start
+add-start c = omega (arith, count (c .before .before .before))
+
+mul-if3 : tie.Need-mul-if3
+mul-if3 c = omega (arith, used (c .before .before .before))
+
+add-if3 : tie.Need-add-if3
+add-if3 c = omega (arith, count (c .before .before .before), used (c .before .before .before))
+
+not-judged-requires-3 : tie.Need-not-judged-requires-3
+not-judged-requires-3 c κs = search needs
+
+returns-3 : tie.Need-returns-3
+returns-3 c = answer-size _ _ _ _ (c .before .before .before .before .before .before .before .head-of .ensures) (c .before .before .before .before .before .if1 .left) (c .before .before .before .if2 .left) (c .before .if3 .taken) (c .not-judged3 .ensures)
+
+list-parts-requires : tie.Need-list-parts-requires
+list-parts-requires c κs = count (c .before .before .before .before)
+
+not-judged-requires-4 : tie.Need-not-judged-requires-4
+not-judged-requires-4 c κs = search needs
+
+returns-4 : tie.Need-returns-4
+returns-4 c = answer-lines _ _ _ _ (c .before .before .before .before .before .before .before .before .before .before .head-of .ensures) (c .before .before .before .before .before .before .before .before .if1 .left) (c .before .before .before .before .before .before .if2 .left) _ (c .before .before .before .list-parts .ensures) (c .before .if4 .taken) (c .not-judged4 .ensures)
+
+slice-aggregate-judge-numbers : tie.Need-slice-aggregate-judge-numbers
+slice-aggregate-judge-numbers c = search needs
+
+judge-numbers-requires : tie.Need-judge-numbers-requires
+judge-numbers-requires c κs = (search needs, count (c .before .before .before .before .before .before .before .before .before), omega (arith, c .before .before .before .before .before .if3 .left))
+
+not-judged-requires-5 : tie.Need-not-judged-requires-5
+not-judged-requires-5 c κs = search needs
+
+returns-5 : tie.Need-returns-5
+returns-5 c = answer-numbers _ _ _ _ (c .before .before .before .before .before .before .before .before .before .before .before .before .before .before .head-of .ensures) (c .before .before .before .before .before .before .before .before .before .before .before .before .if1 .left) (c .before .before .before .before .before .before .before .before .before .before .if2 .left) _ (c .before .before .before .before .before .before .before .list-parts .ensures) (c .before .before .before .before .before .if4 .left) (c .before .before .before .before .before .before .before .before .if3 .left) _ (c .before .before .judge-numbers .ensures) (c .before .if5 .taken) (c .not-judged5 .ensures)
+
+returns-6 : tie.Need-returns-6
+returns-6 c = answer-yes _ _ _ _ (c .before .before .before .before .before .before .before .before .before .before .before .before .before .head-of .ensures) (c .before .before .before .before .before .before .before .before .before .before .before .if1 .left) (c .before .before .before .before .before .before .before .before .before .if2 .left) _ (c .before .before .before .before .before .before .list-parts .ensures) (c .before .before .before .before .if4 .left) (c .before .before .before .before .before .before .before .if3 .left) _ (c .before .judge-numbers .ensures) (c .if5 .left) refl
+
+pub judge-spec : {M : Type 1} → statement M
+judge-spec =
+    tie.close
+    (tie.spec
+    head-of-requires
+    not-judged-requires
+    returns
+    cast-m
+    not-judged-requires-2
+    returns-2
+    cast-k
+    mul-start
+    add-start
+    mul-if3
+    add-if3
+    not-judged-requires-3
+    returns-3
+    list-parts-requires
+    not-judged-requires-4
+    returns-4
+    slice-aggregate-judge-numbers
+    judge-numbers-requires
+    not-judged-requires-5
+    returns-5
+    returns-6)

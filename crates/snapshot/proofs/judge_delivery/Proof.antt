@@ -1,0 +1,112 @@
+-- `snapshot::judge_delivery` meets its contract: each number that is missing, the line's end, the fences or the range refuses the line. Assumes nothing.
+use mathlib.Core.Path.{_≡_, sym, ap, _∙_}
+use mathlib.Core.Bool.{true}
+use mathlib.Core.List.{[], _∷_}
+use native.Mathlib.Omega.{arith}
+use borrow.Author.Needs.{needs}
+use borrow.Author.Tests.{not-true, not-false}
+use Rattle.lines.specs.Lines.{lineOk}
+use Rattle.fields.specs.Reading.{readOf}
+use Rattle.lines.proofs.Reading.{Took, took-start, took-next, took-stop, took-end}
+use Rattle.snapshot.proofs.Judging.{line-fails, below-low, above-high, out-of-range, delivery-good}
+use Rattle.snapshot.proofs.judge_delivery.Statement.{statement}
+use Rattle.snapshot.proofs.judge_delivery.Tie as tie
+
+-- The numbers taken so far.
+
+abbrev from : tie.After-f → tie.Start
+from c = c .before .before .before .before
+
+one : (c : tie.After-f) → Took (from (c) .args .text .now) (from (c) .args .at) 3 1 (c .f .given .0 .1 .0) (c .f .given .0 .0 ∷ [])
+one c = took-next (took-start _ _ 3) (omega arith) _ (ap readOf (sym (c .f .given .1)) ∙ c .before .before .number-at .ensures)
+
+two : (c : tie.After-g) → Took (from (c .before .before .before .before) .args .text .now) (from (c .before .before .before .before) .args .at) 3 2 (c .g .given .0 .1 .0) (c .before .before .before .before .f .given .0 .0 ∷ c .g .given .0 .0 ∷ [])
+two c = took-next (one (c .before .before .before .before)) (omega arith) _ (ap readOf (sym (c .g .given .1)) ∙ c .before .before .number-at2 .ensures)
+
+three : (c : tie.After-h) → Took (from (c .before .before .before .before .before .before .before .before) .args .text .now) (from (c .before .before .before .before .before .before .before .before) .args .at) 3 3 (c .h .given .0 .1 .0) (c .before .before .before .before .before .before .before .before .f .given .0 .0 ∷ c .before .before .before .before .g .given .0 .0 ∷ c .h .given .0 .0 ∷ [])
+three c = took-next (two (c .before .before .before .before)) (omega arith) _ (ap readOf (sym (c .h .given .1)) ∙ c .before .before .number-at3 .ensures)
+
+-- an LF behind them: the line is good
+line-ends : (c : tie.Else1) → lineOk 3 (from (c .before .before .before .before .before .before .before .before .before .before .before) .args .at) (from (c .before .before .before .before .before .before .before .before .before .before .before) .args .text .now) ≡ true
+line-ends c = sym (took-end (three (c .before .before .before)) (omega arith)) ∙ sym (c .before .ends .ensures) ∙ not-false _ (c .if1 .left)
+
+number-at-requires : tie.Need-number-at-requires
+number-at-requires c κs = search needs
+
+enum-known-f : tie.Need-enum-known-f
+enum-known-f c = search needs
+
+enum-told : tie.Need-enum-told
+enum-told c = search needs
+
+returns : tie.Need-returns
+returns c = line-fails _ _ _ _ (took-stop (took-start _ _ 3) (omega arith) (ap readOf (sym (c .enum-told .given .1)) ∙ c .before .before .number-at .ensures))
+
+number-at-requires-2 : tie.Need-number-at-requires-2
+number-at-requires-2 c κs = search needs
+
+enum-known-g : tie.Need-enum-known-g
+enum-known-g c = search needs
+
+enum-told-2 : tie.Need-enum-told-2
+enum-told-2 c = search needs
+
+returns-2 : tie.Need-returns-2
+returns-2 c = line-fails _ _ _ _ (took-stop (one (c .before .before .before .before)) (omega arith) (ap readOf (sym (c .enum-told2 .given .1)) ∙ c .before .before .number-at2 .ensures))
+
+number-at-requires-3 : tie.Need-number-at-requires-3
+number-at-requires-3 c κs = search needs
+
+enum-known-h : tie.Need-enum-known-h
+enum-known-h c = search needs
+
+enum-told-3 : tie.Need-enum-told-3
+enum-told-3 c = search needs
+
+returns-3 : tie.Need-returns-3
+returns-3 c = line-fails _ _ _ _ (took-stop (two (c .before .before .before .before)) (omega arith) (ap readOf (sym (c .enum-told3 .given .1)) ∙ c .before .before .number-at3 .ensures))
+
+ends-requires : tie.Need-ends-requires
+ends-requires c κs = search needs
+
+returns-4 : tie.Need-returns-4
+returns-4 c = line-fails _ _ _ _ (sym (not-true _ (c .if1 .taken)) ∙ c .before .ends .ensures ∙ took-end (three (c .before .before .before)) (omega arith))
+
+returns-5 : tie.Need-returns-5
+returns-5 c = below-low _ _ _ _ _ _ _ (line-ends (c .before)) (three (c .before .before .before .before) .values) (c .if2 .taken)
+
+returns-6 : tie.Need-returns-6
+returns-6 c = above-high _ _ _ _ _ _ _ (line-ends (c .before .before)) (three (c .before .before .before .before .before) .values) (c .before .if2 .left) (c .if3 .taken)
+
+in-range-requires : tie.Need-in-range-requires
+in-range-requires c κs = search needs
+
+returns-7 : tie.Need-returns-7
+returns-7 c = out-of-range _ _ _ _ _ _ _ (line-ends (c .before .before .before .before)) (three (c .before .before .before .before .before .before .before) .values) (c .before .before .before .if2 .left) (c .before .before .if3 .left) (sym (c .before .in-range .ensures) ∙ not-true _ (c .if4 .taken))
+
+returns-8 : tie.Need-returns-8
+returns-8 c = delivery-good _ _ _ _ _ _ _ (line-ends (c .before .before .before .before)) (three (c .before .before .before .before .before .before .before) .values) (c .before .before .before .if2 .left) (c .before .before .if3 .left) (sym (c .before .in-range .ensures) ∙ not-false _ (c .if4 .left))
+
+pub judge-delivery-spec : {M : Type 1} → statement M
+judge-delivery-spec =
+    tie.close
+    (tie.spec
+    number-at-requires
+    enum-known-f
+    enum-told
+    returns
+    number-at-requires-2
+    enum-known-g
+    enum-told-2
+    returns-2
+    number-at-requires-3
+    enum-known-h
+    enum-told-3
+    returns-3
+    ends-requires
+    returns-4
+    returns-5
+    returns-6
+    in-range-requires
+    returns-7
+    returns-8)

@@ -1,0 +1,137 @@
+-- `snapshot::list_parts` meets its contract. The loop's invariant: the numbers so far are those of the lines passed. Assumes nothing.
+use Prim.Native.Nat.{_-_}
+use mathlib.Core.Path.{refl, sym, ap, _∙_}
+use mathlib.Core.List.{[], _∷_}
+use native.Mathlib.Omega.{arith}
+use borrow.Author.Needs.{needs}
+use borrow.Author.Tests.{not-true, not-false}
+use Rattle.fields.specs.Reading.{readOf}
+use Rattle.lines.proofs.Reading.{Took, took-start, took-next, took-stop, took-end}
+use Rattle.snapshot.proofs.Judging.{Listing, list-start, list-stop, list-next, list-end}
+use Rattle.snapshot.proofs.list_parts.Statement.{statement}
+use Rattle.snapshot.proofs.list_parts.Tie as tie
+
+abbrev Inv-loop : tie.InvT-loop
+Inv-loop text block k d₀ i₀ at₀ d i at = Listing text block k d i at
+
+abbrev μ-loop : tie.MeasureT-loop
+μ-loop text block k d₀ i₀ at₀ d i at = k - i
+
+array-write-d : tie.Need-array-write-d Inv-loop μ-loop
+array-write-d c = search needs
+
+cast-d : tie.Need-cast-d Inv-loop μ-loop
+cast-d c = search needs
+
+array-write-d-2 : tie.Need-array-write-d-2 Inv-loop μ-loop
+array-write-d-2 c = search needs
+
+loop-holds : tie.Need-loop-holds Inv-loop μ-loop
+loop-holds c = list-start _ _ _ (c .before .pre)
+
+number-at-requires : tie.Need-number-at-requires Inv-loop μ-loop
+number-at-requires c κs = search needs
+
+enum-known-f : tie.Need-enum-known-f Inv-loop μ-loop
+enum-known-f c = search needs
+
+enum-told : tie.Need-enum-told Inv-loop μ-loop
+enum-told c = search needs
+
+not-listed-requires : tie.Need-not-listed-requires Inv-loop μ-loop
+not-listed-requires c κs = search needs
+
+returns : tie.Need-returns Inv-loop μ-loop
+returns c = list-stop (c .before .before .before .before .before .loop .inv) (c .before .before .before .before .loop-test .taken) _ (took-stop (took-start _ _ 2) (omega arith) (ap readOf (sym (c .before .enum-told .given .1)) ∙ c .before .before .before .number-at .ensures)) (c .not-listed .ensures)
+
+number-at-requires-2 : tie.Need-number-at-requires-2 Inv-loop μ-loop
+number-at-requires-2 c κs = search needs
+
+enum-known-g : tie.Need-enum-known-g Inv-loop μ-loop
+enum-known-g c = search needs
+
+enum-told-2 : tie.Need-enum-told-2 Inv-loop μ-loop
+enum-told-2 c = search needs
+
+not-listed-requires-2 : tie.Need-not-listed-requires-2 Inv-loop μ-loop
+not-listed-requires-2 c κs = search needs
+
+returns-2 : tie.Need-returns-2 Inv-loop μ-loop
+returns-2 c = list-stop (c .before .before .before .before .before .before .before .before .before .loop .inv) (c .before .before .before .before .before .before .before .before .loop-test .taken) _ (took-stop (took-next (took-start _ _ 2) (omega arith) _ (ap readOf (sym (c .before .before .before .before .before .f .given .1)) ∙ c .before .before .before .before .before .before .before .number-at .ensures)) (omega arith) (ap readOf (sym (c .before .enum-told2 .given .1)) ∙ c .before .before .before .number-at2 .ensures)) (c .not-listed2 .ensures)
+
+ends-requires : tie.Need-ends-requires Inv-loop μ-loop
+ends-requires c κs = search needs
+
+not-listed-requires-3 : tie.Need-not-listed-requires-3 Inv-loop μ-loop
+not-listed-requires-3 c κs = search needs
+
+returns-3 : tie.Need-returns-3 Inv-loop μ-loop
+returns-3 c = list-stop (c .before .before .before .before .before .before .before .before .before .before .before .before .loop .inv) (c .before .before .before .before .before .before .before .before .before .before .before .loop-test .taken) _ (sym (not-true _ (c .before .if1 .taken)) ∙ c .before .before .ends .ensures ∙ took-end (took-next (took-next (took-start _ _ 2) (omega arith) _ (ap readOf (sym (c .before .before .before .before .before .before .before .before .f .given .1)) ∙ c .before .before .before .before .before .before .before .before .before .before .number-at .ensures)) (omega arith) _ (ap readOf (sym (c .before .before .before .before .g .given .1)) ∙ c .before .before .before .before .before .before .number-at2 .ensures)) (omega arith)) (c .not-listed3 .ensures)
+
+add-x : tie.Need-add-x Inv-loop μ-loop
+add-x c = omega (arith, c .before .before .before .before .before .before .before .before .before .before .before .loop .inv .few)
+
+add-y : tie.Need-add-y Inv-loop μ-loop
+add-y c = omega (arith, c .before .before .before .before .before .before .before .before .before .before .before .loop .inv .few)
+
+mul-d : tie.Need-mul-d Inv-loop μ-loop
+mul-d c = omega (arith, c .before .before .before .before .before .before .before .before .before .before .before .loop .inv .few)
+
+array-write-d-3 : tie.Need-array-write-d-3 Inv-loop μ-loop
+array-write-d-3 c = omega (arith, c .before .before .before .before .before .before .before .before .before .before .before .loop .inv .few)
+
+mul-d-2 : tie.Need-mul-d-2 Inv-loop μ-loop
+mul-d-2 c = omega (arith, c .before .before .before .before .before .before .before .before .before .before .before .loop .inv .few)
+
+array-write-d-4 : tie.Need-array-write-d-4 Inv-loop μ-loop
+array-write-d-4 c = omega (arith, c .before .before .before .before .before .before .before .before .before .before .before .loop .inv .few)
+
+add-at : tie.Need-add-at Inv-loop μ-loop
+add-at c = omega (arith, c .before .before .before .before .before .before .before .before .before .before .before .loop .inv .few, c .before .before .before .before .before .before .before .before .before .before .before .loop .inv .at-line)
+
+add-i : tie.Need-add-i Inv-loop μ-loop
+add-i c = omega arith
+
+loop-less : tie.Need-loop-less Inv-loop μ-loop
+loop-less c = omega arith
+
+loop-again : tie.Need-loop-again Inv-loop μ-loop
+loop-again c = let w = (took-next (took-next (took-start _ _ 2) (omega arith) _ (ap readOf (sym (c .before .before .before .before .before .before .before .f .given .1)) ∙ c .before .before .before .before .before .before .before .before .before .number-at .ensures)) (omega arith) _ (ap readOf (sym (c .before .before .before .g .given .1)) ∙ c .before .before .before .before .before .number-at2 .ensures)) in list-next (c .before .before .before .before .before .before .before .before .before .before .before .loop .inv) (c .before .before .before .before .before .before .before .before .before .before .loop-test .taken) _ _ (sym (took-end w (omega arith)) ∙ sym (c .before .ends .ensures) ∙ not-false _ (c .if1 .left)) (w .values)
+
+returns-4 : tie.Need-returns-4 Inv-loop μ-loop
+returns-4 c = list-end (c .before .loop .inv) (c .loop-test .left) _ refl
+
+pub list-parts-spec : {M : Type 1} → statement M
+list-parts-spec =
+    tie.close
+    (tie.spec
+    Inv-loop
+    μ-loop
+    array-write-d
+    cast-d
+    array-write-d-2
+    loop-holds
+    number-at-requires
+    enum-known-f
+    enum-told
+    not-listed-requires
+    returns
+    number-at-requires-2
+    enum-known-g
+    enum-told-2
+    not-listed-requires-2
+    returns-2
+    ends-requires
+    not-listed-requires-3
+    returns-3
+    add-x
+    add-y
+    mul-d
+    array-write-d-3
+    mul-d-2
+    array-write-d-4
+    add-at
+    add-i
+    loop-less
+    loop-again
+    returns-4)

@@ -1,0 +1,91 @@
+-- `snapshot::sound_ok` meets its contract. The loop's invariant: the partitions that are left decide. Assumes nothing.
+use borrow.Author.Needs.{needs}
+use mathlib.Core.Path.{_≡_, sym, ap, _∙_}
+use Prim.Native.Nat.{ℕ, _+_, _-_, _*_, _≤_}
+use native.Mathlib.Omega.{arith}
+use borrow.Author.Tests.{not-true, not-false}
+use lib.ListN.{length}
+use Rattle.snapshot.proofs.Sounding.{SoundLeft, fit-slice, sound-start, sound-room, sound-stop, sound-next, sound-end}
+use Rattle.snapshot.proofs.sound_ok.Statement.{statement}
+use Rattle.snapshot.proofs.sound_ok.Tie as tie
+
+abbrev Inv-loop : tie.InvT-loop
+Inv-loop g lens fences p₀ a₀ p a = SoundLeft g lens fences p a
+
+abbrev μ-loop : tie.MeasureT-loop
+μ-loop g lens fences p₀ a₀ p a = length lens - p
+
+loop-holds : tie.Need-loop-holds Inv-loop μ-loop
+loop-holds c = let q = c .before .before .before .pre in sound-start _ _ _ (q .0) (q .1) (q .2) (fit-slice _ (λ i. omega (arith, c .before .before .shared-slice-known .given i)))
+
+mul-e : tie.Need-mul-e Inv-loop μ-loop
+mul-e c = search needs
+
+shared-slice-read-e : tie.Need-shared-slice-read-e Inv-loop μ-loop
+shared-slice-read-e c = omega arith
+
+cast-e : tie.Need-cast-e Inv-loop μ-loop
+cast-e c = omega (arith, c .shared-slice-known4 .given (c .before .before .loop .p))
+
+add-e : tie.Need-add-e Inv-loop μ-loop
+add-e c = omega (arith, sound-room (c .before .loop-test .taken) (c .before .before .loop .inv), c .before .before .loop .inv .total)
+
+mul-between : tie.Need-mul-between Inv-loop μ-loop
+mul-between c = omega (arith, sound-room (c .before .loop-test .taken) (c .before .before .loop .inv), c .before .before .loop .inv .total)
+
+sub-between : tie.Need-sub-between Inv-loop μ-loop
+sub-between c = omega arith
+
+part-between-start : tie.Need-part-between-start Inv-loop μ-loop
+part-between-start c = omega (arith, sound-room (c .before .loop-test .taken) (c .before .before .loop .inv), c .before .before .loop .inv .total)
+
+part-between-end : tie.Need-part-between-end Inv-loop μ-loop
+part-between-end c = omega (arith, sound-room (c .before .loop-test .taken) (c .before .before .loop .inv), c .before .before .loop .inv .total)
+
+low-of-requires : tie.Need-low-of-requires Inv-loop μ-loop
+low-of-requires c κs = let q = c .before .before .before .before .before .before .before .pre in (omega (arith, q .0), q .1)
+
+high-of-requires : tie.Need-high-of-requires Inv-loop μ-loop
+high-of-requires c κs = omega (arith, c .before .before .before .before .before .before .before .before .pre .0)
+
+between-requires : tie.Need-between-requires Inv-loop μ-loop
+between-requires c κs = search needs
+
+returns : tie.Need-returns Inv-loop μ-loop
+returns c = sound-stop (c .before .before .before .before .before .before .loop-test .taken) (c .before .before .before .before .before .before .before .loop .inv) _ (c .before .before .before .low-of .ensures) (c .before .before .high-of .ensures) (c .before .between .ensures) (not-true _ (c .if1 .taken))
+
+add-p : tie.Need-add-p Inv-loop μ-loop
+add-p c = omega arith
+
+loop-less : tie.Need-loop-less Inv-loop μ-loop
+loop-less c = omega arith
+
+loop-again : tie.Need-loop-again Inv-loop μ-loop
+loop-again c = sound-next (c .before .before .before .before .before .before .loop-test .taken) (c .before .before .before .before .before .before .before .loop .inv) _ (c .before .before .before .low-of .ensures) (c .before .before .high-of .ensures) (c .before .between .ensures) (not-false _ (c .if1 .left))
+
+returns-2 : tie.Need-returns-2 Inv-loop μ-loop
+returns-2 c = sound-end (c .loop-test .left) (c .before .loop .inv)
+
+pub sound-ok-spec : {M : Type 1} → statement M
+sound-ok-spec =
+    tie.close
+    (tie.spec
+    Inv-loop
+    μ-loop
+    loop-holds
+    mul-e
+    shared-slice-read-e
+    cast-e
+    add-e
+    mul-between
+    sub-between
+    part-between-start
+    part-between-end
+    low-of-requires
+    high-of-requires
+    between-requires
+    returns
+    add-p
+    loop-less
+    loop-again
+    returns-2)
