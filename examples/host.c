@@ -110,6 +110,33 @@ static void judge_write(const char *call, const meltusk_answer *a, const column 
     judge(good);
 }
 
+/* A snapshot of the laid column, written, read back, and refused when damaged. */
+static void judge_snapshot(const column *laid)
+{
+    uint8_t text[MELTUSK_SNAPSHOT_BYTES(USED, 2)];
+    column c = *laid;
+    meltusk_written w = meltusk_write_snapshot(c.directory, MELTUSK_DIRECTORY, c.growers, SLOTS,
+                                               c.weights, SLOTS, c.yields, SLOTS, text, sizeof text);
+    meltusk_applied r;
+
+    printf("write_snapshot: refusal %" PRIu32 ", bytes %" PRIu64, w.refusal, w.bytes);
+    judge(w.refusal == 0 && w.bytes == sizeof text && memcmp(&c, laid, sizeof c) == 0);
+    fwrite(text, 1, sizeof text, stdout);
+
+    memset(&c, 0, sizeof c);
+    r = meltusk_read_snapshot(text, sizeof text, c.growers, SLOTS, c.weights, SLOTS, c.yields,
+                              SLOTS);
+    memcpy(c.directory, r.directory, sizeof c.directory);
+    printf("read_snapshot: refusal %" PRIu32, r.refusal);
+    judge(r.refusal == 0 && memcmp(&c, laid, sizeof c) == 0);
+
+    text[sizeof text - 2] = '\t';
+    r = meltusk_read_snapshot(text, sizeof text, c.growers, SLOTS, c.weights, SLOTS, c.yields,
+                              SLOTS);
+    printf("read_snapshot with a tab for a digit: refusal %" PRIu32, r.refusal);
+    judge(r.refusal == 14 && memcmp(&c, laid, sizeof c) == 0);
+}
+
 int main(void)
 {
     const column laid = lay();
@@ -167,6 +194,8 @@ int main(void)
     printf("partition 50: refusal %" PRIu32 ", start %" PRIu32 ", count %" PRIu32, p.refusal,
            p.start, p.count);
     judge(p.refusal == 0 && p.start == 4 && p.count == 4 && memcmp(&c, &laid, sizeof c) == 0);
+
+    judge_snapshot(&laid);
 
     printf("%d wrong\n", wrong);
     return wrong != 0;

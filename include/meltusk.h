@@ -20,14 +20,17 @@
  *    4  the used slots of an unpartitioned set are 1 to the smaller of C and
  *       64 block lengths
  *    5  its growers never fall
- *    6  a layout or directory has its shape
+ *    6  a layout or directory has its shape; and, of a column to be written, every
+ *       record is in its grower's partition
  *    7  lo is at most hi
  *    8  weights are at most 100,000 and yields at most 10,000
  *    9  the histogram slice has 640 counts, none above 1,000,000
  *   10  each count to be raised stays within 1,000,000
  *   11  some layout is permitted
- *   12  there is a free slot
+ *   12  there is a free slot; for a text to be read, there are as many slots as
+ *       it has deliveries
  *   13  the delivery is in its partition
+ *   14  the text is a snapshot
  *   15  the output slice is long enough
  *
  * The slots: three slices of one length hold the deliveries, slot by slot:
@@ -37,6 +40,13 @@
  * partition lengths, 64 fences; those past the first K are 0. Fences rise
  * strictly, and the lengths total at most C. Anything else is refused by 6 (a
  * block length out of range by 2), a slice of another length by 6.
+ *
+ * The snapshot: a column as a text. Every number is decimal, right-justified in
+ * 11 columns with blanks, without leading zeros, zero as 0; LF ends a line. Line
+ * 1 has the block length, the deliveries M and the partitions K; K lines have a
+ * length and a fence; M lines have a grower, a weight and a yield, partition by
+ * partition. That is MELTUSK_SNAPSHOT_BYTES(M, K) bytes and no other text of the
+ * same column: what is read and written again is the same to the byte.
  *
  * The histograms: 640 counts, 64 for each of pq, rs, re, sc, de, in, udf, utf,
  * udb and utb, in that order. A list of calls is recorded from all zeros.
@@ -54,6 +64,8 @@ extern "C" {
 #define MELTUSK_DIRECTORY 130
 #define MELTUSK_HISTOGRAMS 640
 #define MELTUSK_PARTITIONS 64
+/* The bytes of a snapshot of m deliveries in k partitions. */
+#define MELTUSK_SNAPSHOT_BYTES(m, k) (34 + 23 * (size_t)(k) + 34 * (size_t)(m))
 
 /* Matching records, their weight, and their oil (weight times yield). */
 typedef struct {
@@ -76,7 +88,7 @@ typedef struct {
     meltusk_totals totals; /* of find and range */
 } meltusk_answer;
 
-/* What applying a layout answers: the directory, all 0 when refused. */
+/* What applying a layout and reading a snapshot answer: the directory, all 0 when refused. */
 typedef struct {
     uint32_t refusal;
     uint32_t directory[MELTUSK_DIRECTORY];
@@ -101,6 +113,12 @@ typedef struct {
     uint32_t count;
     int64_t cost;
 } meltusk_planned;
+
+/* What writing a snapshot answers: how many bytes it wrote. */
+typedef struct {
+    uint32_t refusal;
+    uint64_t bytes;
+} meltusk_written;
 
 /*
  * Applies a layout to an unpartitioned set: block length, used slots, the
@@ -244,6 +262,29 @@ meltusk_planned meltusk_plan(uint32_t rr, uint32_t sr, uint32_t rw,
                              const uint32_t *yields, size_t yields_count,
                              const uint32_t *histograms, size_t histograms_count,
                              uint32_t *ends, size_t ends_count);
+
+/*
+ * Writes a column as a snapshot. Checks 2 3 6 8 15 (8: all records). Writes
+ * MELTUSK_SNAPSHOT_BYTES(M, K) bytes to `text`; what lies past them stays.
+ */
+meltusk_written meltusk_write_snapshot(const uint32_t *directory, size_t directory_count,
+                                       const uint32_t *growers, size_t growers_count,
+                                       const uint32_t *weights, size_t weights_count,
+                                       const uint32_t *yields, size_t yields_count,
+                                       uint8_t *text, size_t text_count);
+
+/*
+ * Reads a snapshot. Checks 3 12 14; 12 goes ahead of 14 only where line 1 is
+ * three numbers in range. 14 also refuses values out of range, fences that do
+ * not rise, a grower outside its partition, an M that is not the sum of the
+ * lengths, and a text that is shorter or longer. Writes the first M slots of
+ * each slice, once the whole text is judged; what lies past them stays. The
+ * directory is answered by value.
+ */
+meltusk_applied meltusk_read_snapshot(const uint8_t *text, size_t text_count,
+                                      uint32_t *growers, size_t growers_count,
+                                      uint32_t *weights, size_t weights_count,
+                                      uint32_t *yields, size_t yields_count);
 
 #ifdef __cplusplus
 }

@@ -191,7 +191,9 @@ module _ (f : List ℕ) (full : length f ≡ 11) where
         r = field-read f n e
 
         front : take (suc i) (leading blank 10 (n / 10)) ≡ take i f ++ getD f i 0 ∷ []
-        front = sym (take-append-le (suc i) (leading blank 10 (n / 10)) (lastDigit n ∷ []) (omega (arith, length-leading blank 10 (n / 10)))) ∙ ap (take (suc i)) (r .field) ∙ take-suc f i 0 (omega arith)
+        front =
+            sym (take-append-le (suc i) (leading blank 10 (n / 10)) (lastDigit n ∷ []) (omega (arith, length-leading blank 10 (n / 10)))) ∙ ap (take (suc i)) (r .field)
+            ∙ take-suc f i 0 (omega arith)
 
         pre : Prefix (take i f ++ getD f i 0 ∷ []) (suc i)
         pre = subst (λ (p : List ℕ). Prefix p (suc i)) front (prefix-of 10 (n / 10) (suc i) (omega (arith, r .most)) (omega arith))

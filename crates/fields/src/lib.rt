@@ -108,11 +108,11 @@ pub fn spelled_at(text: &[u8], at: usize) -> u32
     ensures { λ r. ⌜ r ≡ valueAt at (now (text .entry)) ⌝ }
 {
     let mut v: u64 = 0;
-    let mut i = 0;
-    while i < WIDTH {
-        let b = text[at + i];
+    let mut k = 0;
+    while k < WIDTH {
+        let b = text[at + k];
         v = v * 10 + wide(b % 16);
-        i += 1;
+        k += 1;
     }
     v as u32
 }

@@ -90,14 +90,19 @@ module _ (t : List ℕ) where
   line-form (suc n) at =
       let z : at + 11 + lineLength n ≡ at + lineLength (suc n) = omega arith in
       rw (field-at at)
-      (outer (fieldOk at t) ∙ then-line (fieldOk at t) (lineOk n (at + 11) t) (valueAt at t) (λ (v : ℕ). andThen (numbersThen n (drop (at + 11) t)) (λ (r : Taken (List ℕ)). some (taken (v ∷ r .value) (r .rest))))
+      (outer (fieldOk at t)
+      ∙ then-line (fieldOk at t) (lineOk n (at + 11) t) (valueAt at t)
+      (λ (v : ℕ). andThen (numbersThen n (drop (at + 11) t)) (λ (r : Taken (List ℕ)). some (taken (v ∷ r .value) (r .rest))))
       (columnAt 11 (at + 11) n t) (drop (at + 11 + lineLength n) t) (drop (at + lineLength (suc n)) t) (ap (λ (k : ℕ). drop k t) z)
       (ap (λ (o : Option (Taken (List ℕ))). andThen o (λ (r : Taken (List ℕ)). some (taken (valueAt at t ∷ r .value) (r .rest)))) (line-form n (at + 11))))
     where
       outer : (b : Bool)
-          → andThen (andThen (onlyIf b (valueAt at t)) (λ (v : ℕ). andThen (takeNumbers n (drop 11 (drop at t))) (λ (r : Taken (List ℕ)). some (taken (v ∷ r .value) (r .rest))))) (λ (r : Taken (List ℕ)). andThen (afterLineEnd (r .rest)) (λ w. some (taken (r .value) w)))
+          → andThen (andThen (onlyIf b (valueAt at t)) (λ (v : ℕ). andThen (takeNumbers n (drop 11 (drop at t))) (λ (r : Taken (List ℕ)). some (taken (v ∷ r .value) (r .rest)))))
+          (λ (r : Taken (List ℕ)). andThen (afterLineEnd (r .rest)) (λ w. some (taken (r .value) w)))
           ≡ andThen (onlyIf b (valueAt at t)) (λ (v : ℕ). andThen (numbersThen n (drop (at + 11) t)) (λ (r : Taken (List ℕ)). some (taken (v ∷ r .value) (r .rest))))
-      outer true = line-more n (valueAt at t) (drop 11 (drop at t)) ∙ ap (λ (u : List ℕ). andThen (numbersThen n u) (λ (r : Taken (List ℕ)). some (taken (valueAt at t ∷ r .value) (r .rest)))) (drop-drop 11 at t)
+      outer true =
+          line-more n (valueAt at t) (drop 11 (drop at t))
+          ∙ ap (λ (u : List ℕ). andThen (numbersThen n u) (λ (r : Taken (List ℕ)). some (taken (valueAt at t ∷ r .value) (r .rest)))) (drop-drop 11 at t)
       outer false = refl
 
   pub line-at : (n at : ℕ) → takeLine n (drop at t) ≡ onlyIf (lineOk n at t) (taken (columnAt 11 at n t) (drop (at + lineLength n) t))
@@ -111,9 +116,11 @@ module _ (t : List ℕ) where
       let s : ℕ = lineLength n in
       let z : at + s + s * m ≡ at + s * suc m = omega arith in
       rw (line-at n at)
-      (both (lineOk n at t) (linesOk n m (at + s) t) (taken (columnAt 11 at n t) (drop (at + s) t)) (λ (r : Taken (List ℕ)). andThen (takeLines m n (r .rest)) (λ q. some (taken (r .value ∷ q .value) (q .rest))))
+      (both (lineOk n at t) (linesOk n m (at + s) t) (taken (columnAt 11 at n t) (drop (at + s) t))
+      (λ (r : Taken (List ℕ)). andThen (takeLines m n (r .rest)) (λ q. some (taken (r .value ∷ q .value) (q .rest))))
       (taken (columnAt 11 at n t ∷ rowsAt n m (at + s) t) (drop (at + s * suc m) t))
-      (ap (λ (o : Option (Taken (List (List ℕ)))). andThen o (λ q. some (taken (columnAt 11 at n t ∷ q .value) (q .rest)))) (lines-at m n (at + s)) ∙ go (linesOk n m (at + s) t) (ap (λ (k : ℕ). drop k t) z)))
+      (ap (λ (o : Option (Taken (List (List ℕ)))). andThen o (λ q. some (taken (columnAt 11 at n t ∷ q .value) (q .rest)))) (lines-at m n (at + s))
+      ∙ go (linesOk n m (at + s) t) (ap (λ (k : ℕ). drop k t) z)))
     where
       go : (b : Bool) → drop (at + lineLength n + lineLength n * m) t ≡ drop (at + lineLength n * suc m) t
           → andThen (onlyIf b (taken (rowsAt n m (at + lineLength n) t) (drop (at + lineLength n + lineLength n * m) t))) (λ q. some (taken (columnAt 11 at n t ∷ q .value) (q .rest)))

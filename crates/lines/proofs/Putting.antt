@@ -26,7 +26,8 @@ one-put at t u a e h =
     ∙ placed-joined at (at + 11) (numberField a) (lineEnd ∷ []) t (omega arith) (omega arith)
     ∙ ap (λ (l : List ℕ). placed at (l ++ lineEnd ∷ []) t) (sym (append-nil (numberField a)))
 
-pub more-put : (at : ℕ) (t u v : List ℕ) (a : ℕ) (ns : List ℕ) → u ≡ placed at (numberField a) t → v ≡ placed (at + 11) (line ns) u → at + (11 * length (a ∷ ns) + 1) ≤ length t → v ≡ placed at (line (a ∷ ns)) t
+pub more-put : (at : ℕ) (t u v : List ℕ) (a : ℕ) (ns : List ℕ) → u ≡ placed at (numberField a) t → v ≡ placed (at + 11) (line ns) u → at + (11 * length (a ∷ ns) + 1) ≤ length t
+    → v ≡ placed at (line (a ∷ ns)) t
 unfolding line flatten
 more-put at t u v a ns e q h =
     q

@@ -206,13 +206,18 @@ module _ (L : ℕ) (b : Book) (g : Good L b) where
   book-again : bookOf head ps ds ≡ b
   unfolding head ps ds
   book-again =
-      ap (λ (l : List ℕ). record { directory = record { block = b .directory .block; lengths = l; fences = map (nth 1) ps }; deliveries = map deliveryOf ds }) (pairs-lengths (b .directory .lengths) (b .directory .fences) (g .even))
-      ∙ ap (λ (l : List ℕ). record { directory = record { block = b .directory .block; lengths = b .directory .lengths; fences = l }; deliveries = map deliveryOf ds }) (pairs-fences (b .directory .lengths) (b .directory .fences) (g .even))
+      ap (λ (l : List ℕ). record { directory = record { block = b .directory .block; lengths = l; fences = map (nth 1) ps }; deliveries = map deliveryOf ds })
+      (pairs-lengths (b .directory .lengths) (b .directory .fences) (g .even))
+      ∙ ap (λ (l : List ℕ). record { directory = record { block = b .directory .block; lengths = b .directory .lengths; fences = l }; deliveries = map deliveryOf ds })
+      (pairs-fences (b .directory .lengths) (b .directory .fences) (g .even))
       ∙ ap (λ (l : List Delivery). record { directory = b .directory; deliveries = l }) (threes-deliveries (b .deliveries))
 
   pub header-read : takeHeader L (bookText b) ≡ some (taken head (lines ps ++ (lines ds ++ [])))
   unfolding head
-  header-read = rw text-is (take-header L (b .directory .block) (sumOf (b .directory .lengths)) (length (b .directory .lengths)) (lines ps ++ (lines ds ++ [])) (g .block) (omega (arith, g .total, g .slots)) (g .some-parts) (g .few) (g .count-fits))
+  header-read =
+      rw text-is
+      (take-header L (b .directory .block) (sumOf (b .directory .lengths)) (length (b .directory .lengths)) (lines ps ++ (lines ds ++ [])) (g .block)
+      (omega (arith, g .total, g .slots)) (g .some-parts) (g .few) (g .count-fits))
 
   -- the slots that the text asks for
   pub room-for : (n : ℕ) → slotsForBook L (bookText b) n ≡ leb (length (b .deliveries)) n
@@ -257,7 +262,8 @@ module _ (L : ℕ) where
     text-of =
         let z : t4 ≡ [] = no-rest t4 (and-fst (eqb (length t4) 0) (bookOk h (bookOf h ps ds)) ok) in
         let x : h .block ∷ sumOf (map (nth 0) ps) ∷ length (map (nth 0) ps) ∷ [] ≡ hs
-        = ap₂ (λ (m k : ℕ). h .block ∷ m ∷ k ∷ []) used-is (length-map ps (nth 0) ∙ parts .count) ∙ ap (λ (y : Header). y .block ∷ y .used ∷ y .count ∷ []) (sym is-head) ∙ row-three hs (first .count) in
+        = ap₂ (λ (m k : ℕ). h .block ∷ m ∷ k ∷ []) used-is (length-map ps (nth 0) ∙ parts .count) ∙ ap (λ (y : Header). y .block ∷ y .used ∷ y .count ∷ []) (sym is-head)
+        ∙ row-three hs (first .count) in
         let ls : List (List ℕ) = partitionRows (map (nth 0) ps) (map (nth 1) ps) in
         let rs : List (List ℕ) = map deliveryRow (map deliveryOf ds) in
         let y : lines ls ≡ lines ps = ap lines (pairs-again ps (parts .rows)) in
@@ -287,7 +293,9 @@ module _ (L : ℕ) where
           even = length-map ps (nth 1) ∙ sym (length-map ps (nth 0));
           some-parts = omega (arith, n, hg .one);
           few = omega (arith, n, hg .few);
-          count-fits = let f = fit-nth 3 2 (hs ∷ []) (row (record { count = first .count; fit = first .fit }) no-rows) in omega (arith, n, fit-first (nth 2 hs) [] f, ap (λ (x : Header). x .count) is-head);
+          count-fits =
+              let f = fit-nth 3 2 (hs ∷ []) (row (record { count = first .count; fit = first .fit }) no-rows) in
+              omega (arith, n, fit-first (nth 2 hs) [] f, ap (λ (x : Header). x .count) is-head);
           total = used-is ∙ sym m;
           slots = omega (arith, m, hg .used);
           rises = and-snd s r (and-fst (s && r) v o2);
@@ -303,11 +311,18 @@ module _ (L : ℕ) where
   pub read-text : (t : List ℕ) (b : Book) → readBook L t ≡ some b → IsBookText L t b
   unfolding readBook takeHeader
   read-text t b e =
-      let p = through (takeHeader L t) (λ (h : Taken Header). andThen (takeLines (h .value .count) 2 (h .rest)) (λ ps. andThen (takeLines (h .value .used) 3 (ps .rest)) (λ ds. onlyIf (eqb (length (ds .rest)) 0 && bookOk (h .value) (bookOf (h .value) (ps .value) (ds .value))) (bookOf (h .value) (ps .value) (ds .value))))) b e in
+      let p = through (takeHeader L t)
+      (λ (h : Taken Header). andThen (takeLines (h .value .count) 2 (h .rest))
+      (λ ps. andThen (takeLines (h .value .used) 3 (ps .rest))
+      (λ ds. onlyIf (eqb (length (ds .rest)) 0 && bookOk (h .value) (bookOf (h .value) (ps .value) (ds .value))) (bookOf (h .value) (ps .value) (ds .value))))) b e in
       let h : Header = p .value .value in
-      let q = through (takeLines (h .count) 2 (p .value .rest)) (λ (ps : Taken (List (List ℕ))). andThen (takeLines (h .used) 3 (ps .rest)) (λ ds. onlyIf (eqb (length (ds .rest)) 0 && bookOk h (bookOf h (ps .value) (ds .value))) (bookOf h (ps .value) (ds .value)))) b (p .next) in
+      let q = through (takeLines (h .count) 2 (p .value .rest))
+      (λ (ps : Taken (List (List ℕ))). andThen (takeLines (h .used) 3 (ps .rest))
+      (λ ds. onlyIf (eqb (length (ds .rest)) 0 && bookOk h (bookOf h (ps .value) (ds .value))) (bookOf h (ps .value) (ds .value)))) b
+      (p .next) in
       let ps : List (List ℕ) = q .value .value in
-      let r = through (takeLines (h .used) 3 (q .value .rest)) (λ (ds : Taken (List (List ℕ))). onlyIf (eqb (length (ds .rest)) 0 && bookOk h (bookOf h ps (ds .value))) (bookOf h ps (ds .value))) b (q .next) in
+      let r = through (takeLines (h .used) 3 (q .value .rest))
+      (λ (ds : Taken (List (List ℕ))). onlyIf (eqb (length (ds .rest)) 0 && bookOk h (bookOf h ps (ds .value))) (bookOf h ps (ds .value))) b (q .next) in
       let ds : List (List ℕ) = r .value .value in
       let o = only (eqb (length (r .value .rest)) 0 && bookOk h (bookOf h ps ds)) (bookOf h ps ds) b (r .next) in
       let u = through (takeLine 3 t) (λ (r : Taken (List ℕ)). onlyIf (headerOk L (headerOf (r .value))) (taken (headerOf (r .value)) (r .rest))) (p .value) (p .first) in

@@ -55,8 +55,10 @@ module _ (L : ℕ) where
       let u : T (every (eqb 0) (drop k x) && every (eqb 0) (drop k y)) = subst T (every-joined (eqb 0) (drop k x) (drop k y)) t in
       let a : length (take k r) ≡ k = length-take-le k r (omega arith) in
       let c : length (take k y) ≡ k = length-take-le k y (omega arith) in
-      let z : drop k x ≡ replicate (L - k) 0 = zeros-are (drop k x) (and-fst (every (eqb 0) (drop k x)) (every (eqb 0) (drop k y)) u) ∙ ap (λ (n : ℕ). replicate n 0) (length-drop k x ∙ ap (λ (n : ℕ). n - k) nx) in
-      let w : drop k y ≡ replicate (L - k) 0 = zeros-are (drop k y) (and-snd (every (eqb 0) (drop k x)) (every (eqb 0) (drop k y)) u) ∙ ap (λ (n : ℕ). replicate n 0) (length-drop k y ∙ ap (λ (n : ℕ). n - k) ny) in
+      let z : drop k x ≡ replicate (L - k) 0
+      = zeros-are (drop k x) (and-fst (every (eqb 0) (drop k x)) (every (eqb 0) (drop k y)) u) ∙ ap (λ (n : ℕ). replicate n 0) (length-drop k x ∙ ap (λ (n : ℕ). n - k) nx) in
+      let w : drop k y ≡ replicate (L - k) 0
+      = zeros-are (drop k y) (and-snd (every (eqb 0) (drop k x)) (every (eqb 0) (drop k y)) u) ∙ ap (λ (n : ℕ). replicate n 0) (length-drop k y ∙ ap (λ (n : ℕ). n - k) ny) in
       let p : padded L (take k r) ≡ x
       = ap (λ (n : ℕ). take k r ++ replicate (L - n) 0) a ∙ ap₂ (λ (l m : List ℕ). l ++ m) (sym (take-take k L r f)) (sym z) ∙ take-append-drop k x in
       let q : padded L (take k y) ≡ y

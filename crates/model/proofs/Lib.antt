@@ -28,3 +28,4 @@ pub mod ColumnBooks
 pub mod WriteLaws
 pub mod Laws
 pub mod Marked
+pub mod BooksComputed

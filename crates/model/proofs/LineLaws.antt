@@ -129,7 +129,9 @@ line-taken n t r e =
     let w = fields-taken n t (p .value) (p .first) in
     let s : taken (p .value .value) (q .value) ≡ r = cc (q .next) in
     subst (TookLine n t) s (record {
-      text = append-assoc (flatten (map numberField (p .value .value))) (lineEnd ∷ []) (q .value) ∙ ap (λ (l : List ℕ). flatten (map numberField (p .value .value)) ++ l) (after-end (p .value .rest) (q .value) (q .first)) ∙ w .text;
+      text =
+          append-assoc (flatten (map numberField (p .value .value))) (lineEnd ∷ []) (q .value)
+          ∙ ap (λ (l : List ℕ). flatten (map numberField (p .value .value)) ++ l) (after-end (p .value .rest) (q .value) (q .first)) ∙ w .text;
       count = w .count;
       fit = w .fit;
     })

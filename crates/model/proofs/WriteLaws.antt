@@ -84,7 +84,9 @@ module _ (L : ℕ) where
   write-accepted c out e = go (firstFailed (writeChecks L c (length out))) (eqb (firstFailed (writeChecks L c (length out))) 0) refl e
     where
       go : (n : ℕ) (b : Bool) → eqb n 0 ≡ b
-          → (cond {A = WriteResult} b (record { answer = record { refusal = 0; bytes = length (snapshotText L c) }; text = snapshotText L c ++ drop (length (snapshotText L c)) out }) (record { answer = record { refusal = n; bytes = 0 }; text = out })) .answer .refusal ≡ 0 → n ≡ 0
+          →
+          (cond {A = WriteResult} b (record { answer = record { refusal = 0; bytes = length (snapshotText L c) }; text = snapshotText L c ++ drop (length (snapshotText L c)) out })
+          (record { answer = record { refusal = n; bytes = 0 }; text = out })) .answer .refusal ≡ 0 → n ≡ 0
       go n true q r = eqb→eq n 0 (subst T (sym q) tt)
       go n false q r = r
 

@@ -29,3 +29,4 @@ pub mod Program
 pub mod Laws
 pub mod Text
 pub mod Examples
+pub mod SnapshotExamples

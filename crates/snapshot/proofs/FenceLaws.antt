@@ -91,3 +91,12 @@ rises-to l (suc q) t z h =
     let e : q + 1 ≡ suc q = omega arith in
     let f : suc q - 1 ≡ q = omega arith in
     rw f (rw e at (rises-next l q t (omega arith)))
+
+-- the greatest grower of a partition with another behind it, and of the last
+pub high-inner : (l : List ℕ) (p : ℕ) → p + 1 < length l → getD l p 0 ≡ highOf l p
+unfolding highOf
+high-inner l p h = rw (lt-ltb (p + 1) (length l) h)
+
+pub high-last : (l : List ℕ) (p : ℕ) → length l ≤ p + 1 → mostNumber ≡ highOf l p
+unfolding highOf
+high-last l p h = rw (le-ltb (p + 1) (length l) h)

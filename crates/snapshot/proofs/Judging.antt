@@ -205,7 +205,8 @@ module _ {t : List ℕ} {b k : ℕ} {d : List ℕ} {i e : ℕ} (w : Listing t b 
           so-far =
               ap (λ (l : List ℕ). set (set l (2 + i) n) (66 + i) f) (w .so-far)
               ∙ store-two b k (columnAt 23 34 i t) (columnAt 23 45 i t) i n f (length-column 23 34 i t) (length-column 23 45 i t) (omega (arith, w .few))
-              ∙ ap₂ (λ (l m : List ℕ). b ∷ k ∷ (padded 64 l ++ padded 64 m)) (ap (λ (v : ℕ). columnAt 23 34 i t ++ v ∷ []) a ∙ sym (column-more 23 34 i t)) (ap (λ (v : ℕ). columnAt 23 45 i t ++ v ∷ []) c ∙ sym (column-more 23 45 i t));
+              ∙ ap₂ (λ (l m : List ℕ). b ∷ k ∷ (padded 64 l ++ padded 64 m)) (ap (λ (v : ℕ). columnAt 23 34 i t ++ v ∷ []) a ∙ sym (column-more 23 34 i t))
+              (ap (λ (v : ℕ). columnAt 23 45 i t ++ v ∷ []) c ∙ sym (column-more 23 45 i t));
           lines = lines-then 0 ∙ rw ok;
         }
 
@@ -214,7 +215,8 @@ module _ {t : List ℕ} {b k : ℕ} {d : List ℕ} {i e : ℕ} (w : Listing t b 
   list-end h x q =
       let z : i ≡ k = omega (arith, w .left) in
       let o : linesOk 2 k 34 t ≡ true = ap (λ (n : ℕ). linesOk 2 n 34 t) (sym z) ∙ w .lines in
-      let n : d ≡ directoryNumbers 64 (directoryAt b k t) = w .so-far ∙ rw z (ap (λ (n : ℕ). b ∷ n ∷ (padded 64 (columnAt 23 34 k t) ++ padded 64 (columnAt 23 45 k t))) (sym (length-column 23 34 k t))) in
+      let n : d ≡ directoryNumbers 64 (directoryAt b k t)
+      = w .so-far ∙ rw z (ap (λ (n : ℕ). b ∷ n ∷ (padded 64 (columnAt 23 34 k t) ++ padded 64 (columnAt 23 45 k t))) (sym (length-column 23 34 k t))) in
       q ∙ ap (λ (l : List ℕ). record { refusal = 0; numbers = l }) n ∙ sym (rw o)
 
 -- The tests of a directory's numbers, one after the other.

@@ -95,13 +95,17 @@ module _ (t : List ℕ) (c : ℕ) (x : Judged) (hd : Head) (e : hd ≡ headFound
         pub answer-lines : (l .refusal ≡ 0 → ⊥) → x ≡ notJudged (l .refusal) → x ≡ judgedOf t c
         unfolding listedIn
         answer-lines n q =
-            let o = when (linesOk 2 (headerAt t .count) 34 t) (record { refusal = 0; numbers = directoryNumbers 64 (directoryAt (headerAt t .block) (headerAt t .count) t) }) notListed l (λ (y : Listed). y .refusal) found n refl in
+            let o = when (linesOk 2 (headerAt t .count) 34 t)
+            (record { refusal = 0; numbers = directoryNumbers 64 (directoryAt (headerAt t .block) (headerAt t .count) t) }) notListed l (λ (y : Listed). y .refusal) found n refl in
             not-right (rw (o .0)) (q ∙ ap (λ (y : Listed). notJudged (y .refusal)) (o .1))
 
         module _ (y : l .refusal ≡ 0) (size : length t ≡ 34 + 23 * hd .count + 34 * hd .used) where
           listed : (linesOk 2 (headerAt t .count) 34 t ≡ true) × (l ≡ record { refusal = 0; numbers = directoryNumbers 64 (directoryAt (headerAt t .block) (headerAt t .count) t) })
           unfolding listedIn
-          listed = whenYes (linesOk 2 (headerAt t .count) 34 t) (record { refusal = 0; numbers = directoryNumbers 64 (directoryAt (headerAt t .block) (headerAt t .count) t) }) notListed l (λ (y : Listed). y .refusal) found y fourteen
+          listed =
+              whenYes (linesOk 2 (headerAt t .count) 34 t)
+              (record { refusal = 0; numbers = directoryNumbers 64 (directoryAt (headerAt t .block) (headerAt t .count) t) }) notListed l
+              (λ (y : Listed). y .refusal) found y fourteen
 
           whole : length t ≡ start t + 34 * headerAt t .used
           whole = lift (λ (y : Head). length t ≡ 34 + 23 * y .count + 34 * y .used → length t ≡ start t + 34 * headerAt t .used) (λ s. s) size
@@ -126,8 +130,11 @@ module _ (t : List ℕ) (c : ℕ) (x : Judged) (hd : Head) (e : hd ≡ headFound
                 let r : linesRight t ≡ true = sym tested ∙ passed _ g o in
                 q
                 ∙ lift (λ (y : Head). record { refusal = 0; used = y .used; start = 34 + 23 * y .count; directory = l .numbers } ≡ judgedBook (some (bookAt t)))
-                (ap₂ (λ (u : ℕ) (d : List ℕ). record { refusal = 0; used = u; start = start t; directory = d }) (sym (length-map (rowsAt 3 (headerAt t .used) (start t) t) deliveryOf ∙ length-rows-at t 3 (headerAt t .used) (start t))) (ap (λ (y : Listed). y .numbers) (listed .1))
-                ∙ ap (λ (k : ℕ). record { refusal = 0; used = length (bookAt t .deliveries); start = 34 + 23 * k; directory = directoryNumbers 64 (bookAt t .directory) }) (sym (length-column 23 34 (headerAt t .count) t)))
+                (ap₂ (λ (u : ℕ) (d : List ℕ). record { refusal = 0; used = u; start = start t; directory = d })
+                (sym (length-map (rowsAt 3 (headerAt t .used) (start t) t) deliveryOf ∙ length-rows-at t 3 (headerAt t .used) (start t)))
+                (ap (λ (y : Listed). y .numbers) (listed .1))
+                ∙ ap (λ (k : ℕ). record { refusal = 0; used = length (bookAt t .deliveries); start = 34 + 23 * k; directory = directoryNumbers 64 (bookAt t .directory) })
+                (sym (length-column 23 34 (headerAt t .count) t)))
                 ∙ sym (book-is ∙ rw r)
 
 -- What an accepted text holds.
@@ -203,7 +210,8 @@ stored t n j e z =
 -- Reading.
 
 same-result : {d d' g g' w w' y y' : List ℕ} → d ≡ d' → g ≡ g' → w ≡ w' → y ≡ y'
-    → _≡_ {A = ReadResult} (record { refusal = 0; column = record { directory = d; growers = g; weights = w; yields = y } }) (record { refusal = 0; column = record { directory = d'; growers = g'; weights = w'; yields = y' } })
+    → _≡_ {A = ReadResult} (record { refusal = 0; column = record { directory = d; growers = g; weights = w; yields = y } })
+    (record { refusal = 0; column = record { directory = d'; growers = g'; weights = w'; yields = y' } })
 same-result p q r s = cc
 
 -- number i of each delivery line, as the deliveries' own
@@ -247,7 +255,8 @@ module _ (t gs ws ys : List ℕ) where
           let s : at ≡ start t + 11 * i = omega (arith, k, a .start-is) in
           r
           ∙ ap₂ (λ (u v : ℕ). columnAt 34 u v t ++ drop v old) s (a .used)
-          ∙ ap₂ (λ (l : List ℕ) (k : ℕ). l ++ drop k old) (sym (numbers-read f i p (rowsAt 3 m (start t) t) ∙ column-of t 3 i h m (start t))) (sym (length-map (rowsAt 3 m (start t) t) deliveryOf ∙ length-rows-at t 3 m (start t)))
+          ∙ ap₂ (λ (l : List ℕ) (k : ℕ). l ++ drop k old) (sym (numbers-read f i p (rowsAt 3 m (start t) t) ∙ column-of t 3 i h m (start t)))
+          (sym (length-map (rowsAt 3 m (start t) t) deliveryOf ∙ length-rows-at t 3 m (start t)))
 
       pub read-done : (gs' ws' ys' : List ℕ)
           → gs' ≡ columnAt 34 (j .start) (j .used) t ++ drop (j .used) gs
@@ -256,6 +265,7 @@ module _ (t gs ws ys : List ℕ) where
           → resultOf (record { refusal = 0; directory = j .directory }) gs' ws' ys' ≡ readCall 64 t gs ws ys
       unfolding columnRead
       read-done gs' ws' ys' u v w =
-          same-result (a .directory) (slice-is growerOf 0 (j .start) (omega arith) (omega arith) (λ l. refl) gs gs' u) (slice-is weightOf 1 (j .start + 11) (omega arith) (omega arith) (λ l. refl) ws ws' v)
+          same-result (a .directory) (slice-is growerOf 0 (j .start) (omega arith) (omega arith) (λ l. refl) gs gs' u)
+          (slice-is weightOf 1 (j .start + 11) (omega arith) (omega arith) (λ l. refl) ws ws' v)
           (slice-is yieldOf 2 (j .start + 22) (omega arith) (omega arith) (λ l. refl) ys ys' w)
           ∙ sym call-is

@@ -121,9 +121,16 @@ module _ (t : List ℕ) where
             ap₂ (λ (u v : List (List ℕ)). every (rowOk (lowOf fences p) (highOf fences p)) u && fenced fences (p + 1) ns v) ta tb
             ∙ ap₂ (λ (u v : Bool). u && v) x y
             ∙ pairs-swap (every inRange (map deliveryOf a)) (every (inPlace fences p) (map (nth 0) a)) (every inRange (map deliveryOf b)) (everyAt (inPlace fences) (p + 1) (parts ns (map (nth 0) b)))
-            ∙ ap₂ (λ (u v : List (List ℕ)). every inRange (map deliveryOf u) && every inRange (map deliveryOf v) && (every (inPlace fences p) (map (nth 0) u) && everyAt (inPlace fences) (p + 1) (parts ns (map (nth 0) v)))) (sym ta) (sym tb)
-            ∙ ap₂ (λ (u v : List Delivery). every inRange u && every inRange v && (every (inPlace fences p) (map (nth 0) (take n rs)) && everyAt (inPlace fences) (p + 1) (parts ns (map (nth 0) (drop n rs))))) (map-take deliveryOf n rs) (map-drop deliveryOf n rs)
-            ∙ ap₂ (λ (u : Bool) (v : Bool). u && v) (sym (every-cut inRange n (map deliveryOf rs))) (ap₂ (λ (u v : List ℕ). every (inPlace fences p) u && everyAt (inPlace fences) (p + 1) (parts ns v)) (map-take (nth 0) n rs) (map-drop (nth 0) n rs))
+            ∙ ap₂
+            (λ (u v : List (List ℕ)). every inRange (map deliveryOf u) && every inRange (map deliveryOf v) &&
+            (every (inPlace fences p) (map (nth 0) u) && everyAt (inPlace fences) (p + 1) (parts ns (map (nth 0) v))))
+            (sym ta) (sym tb)
+            ∙ ap₂
+            (λ (u v : List Delivery). every inRange u && every inRange v &&
+            (every (inPlace fences p) (map (nth 0) (take n rs)) && everyAt (inPlace fences) (p + 1) (parts ns (map (nth 0) (drop n rs)))))
+            (map-take deliveryOf n rs) (map-drop deliveryOf n rs)
+            ∙ ap₂ (λ (u : Bool) (v : Bool). u && v) (sym (every-cut inRange n (map deliveryOf rs)))
+            (ap₂ (λ (u v : List ℕ). every (inPlace fences p) u && everyAt (inPlace fences) (p + 1) (parts ns v)) (map-take (nth 0) n rs) (map-drop (nth 0) n rs))
 
   -- The book in a text.
 
@@ -155,7 +162,8 @@ module _ (t : List ℕ) where
   pub header-form : takeHeader 64 t ≡ onlyIf (headOk t) (taken h (drop 34 t))
   unfolding takeHeader headOk
   header-form =
-      chain (takeLine 3 t) (lineOk 3 0 t) (taken (columnAt 11 0 3 t) (drop 34 t)) (λ (r : Taken (List ℕ)). onlyIf (headerOk 64 (headerOf (r .value))) (taken (headerOf (r .value)) (r .rest))) (headerOk 64 h) (taken h (drop 34 t)) (line-at t 3 0) refl
+      chain (takeLine 3 t) (lineOk 3 0 t) (taken (columnAt 11 0 3 t) (drop 34 t))
+      (λ (r : Taken (List ℕ)). onlyIf (headerOk 64 (headerOf (r .value))) (taken (headerOf (r .value)) (r .rest))) (headerOk 64 h) (taken h (drop 34 t)) (line-at t 3 0) refl
 
   abbrev rowsPart : List (List ℕ) → List ℕ → Option Book
   rowsPart ps u = andThen (takeLines m 3 u) (λ (ds : Taken (List (List ℕ))). onlyIf (eqb (length (ds .rest)) 0 && bookOk h (bookOf h ps (ds .value))) (bookOf h ps (ds .value)))
@@ -164,7 +172,9 @@ module _ (t : List ℕ) where
   linesRight = linesOk 2 k 34 t && (linesOk 3 m start t && (leb (length t) (start + 34 * m) && bookOk h bookAt))
 
   book-there : bookOf h (rowsAt 2 k 34 t) (rowsAt 3 m start t) ≡ bookAt
-  book-there = ap₂ (λ (a b : List ℕ). record { directory = record { block = h .block; lengths = a; fences = b }; deliveries = map deliveryOf (rowsAt 3 m start t) }) (column-of t 2 0 (omega arith) k 34) (column-of t 2 1 (omega arith) k 34)
+  book-there =
+      ap₂ (λ (a b : List ℕ). record { directory = record { block = h .block; lengths = a; fences = b }; deliveries = map deliveryOf (rowsAt 3 m start t) })
+      (column-of t 2 0 (omega arith) k 34) (column-of t 2 1 (omega arith) k 34)
 
   rows-form : rowsPart (rowsAt 2 k 34 t) (drop start t) ≡ onlyIf (linesOk 3 m start t && (leb (length t) (start + 34 * m) && bookOk h bookAt)) bookAt
   rows-form =
@@ -177,9 +187,12 @@ module _ (t : List ℕ) where
   unfolding readBook
   book-form =
       chain (takeHeader 64 t) (headOk t) (taken h (drop 34 t)) (λ (x : Taken Header). andThen (takeLines (x .value .count) 2 (x .rest)) (λ (ps : Taken (List (List ℕ))).
-      andThen (takeLines (x .value .used) 3 (ps .rest)) (λ (ds : Taken (List (List ℕ))). onlyIf (eqb (length (ds .rest)) 0 && bookOk (x .value) (bookOf (x .value) (ps .value) (ds .value))) (bookOf (x .value) (ps .value) (ds .value)))))
+      andThen (takeLines (x .value .used) 3 (ps .rest))
+      (λ (ds : Taken (List (List ℕ))). onlyIf (eqb (length (ds .rest)) 0 && bookOk (x .value) (bookOf (x .value) (ps .value) (ds .value)))
+      (bookOf (x .value) (ps .value) (ds .value)))))
       linesRight bookAt header-form
-      (chain (takeLines k 2 (drop 34 t)) (linesOk 2 k 34 t) (taken (rowsAt 2 k 34 t) (drop start t)) (λ (ps : Taken (List (List ℕ))). rowsPart (ps .value) (ps .rest)) (linesOk 3 m start t && (leb (length t) (start + 34 * m) && bookOk h bookAt)) bookAt (lines-at t k 2 34) rows-form)
+      (chain (takeLines k 2 (drop 34 t)) (linesOk 2 k 34 t) (taken (rowsAt 2 k 34 t) (drop start t)) (λ (ps : Taken (List (List ℕ))). rowsPart (ps .value) (ps .rest))
+      (linesOk 3 m start t && (leb (length t) (start + 34 * m) && bookOk h bookAt)) bookAt (lines-at t k 2 34) rows-form)
 
   pub slots-form : (n : ℕ) → headOk t ≡ true → slotsForBook 64 t n ≡ leb m n
   unfolding slotsForBook
@@ -247,6 +260,8 @@ module _ (t : List ℕ) (b k : ℕ) (few : k ≤ 64) where
   unfolding numbersOk directoryOf directoryNumbers
   numbers-are start m =
       let n = length-column 23 34 k t in
-      let x : take k (drop 2 (directoryNumbers 64 d)) ≡ d .lengths = ap (λ (j : ℕ). take j (drop 2 (directoryNumbers 64 d))) (sym n) ∙ ap (λ (e : Directory). e .lengths) (directory-again 64 d in-parts) in
-      let y : take k (drop 66 (directoryNumbers 64 d)) ≡ d .fences = ap (λ (j : ℕ). take j (drop 66 (directoryNumbers 64 d))) (sym n) ∙ ap (λ (e : Directory). e .fences) (directory-again 64 d in-parts) in
+      let x : take k (drop 2 (directoryNumbers 64 d)) ≡ d .lengths
+      = ap (λ (j : ℕ). take j (drop 2 (directoryNumbers 64 d))) (sym n) ∙ ap (λ (e : Directory). e .lengths) (directory-again 64 d in-parts) in
+      let y : take k (drop 66 (directoryNumbers 64 d)) ≡ d .fences
+      = ap (λ (j : ℕ). take j (drop 66 (directoryNumbers 64 d))) (sym n) ∙ ap (λ (e : Directory). e .fences) (directory-again 64 d in-parts) in
       ap₂ (λ (l f : List ℕ). rising f && (eqb (sumOf l) m && partsOk f 0 l start t)) x y

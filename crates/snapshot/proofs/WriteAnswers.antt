@@ -97,7 +97,10 @@ module _ (c : Column) (room : ℕ) where
     pub values-are : allValuesOk (take used (c .weights)) (take used (c .yields)) ≡ every inRange (allRecords 64 c)
     values-are =
         let g = part-length (c .growers) refl in
-        sym (ap (every inRange) records-are ∙ values-rows (take used (c .growers)) (take used (c .weights)) (take used (c .yields)) (part-length (c .weights) (l .sl .weights) ∙ sym g) (part-length (c .yields) (l .sl .yields) ∙ sym g))
+        sym
+        (ap (every inRange) records-are
+        ∙ values-rows (take used (c .growers)) (take used (c .weights)) (take used (c .yields)) (part-length (c .weights) (l .sl .weights) ∙ sym g)
+        (part-length (c .yields) (l .sl .yields) ∙ sym g))
 
     -- the text's lines, and their lengths
     abbrev headLine : List ℕ
@@ -122,7 +125,9 @@ module _ (c : Column) (room : ℕ) where
     rows-size : length rowLines ≡ 34 * used
     rows-size =
         let g = part-length (c .growers) refl in
-        length-rows-of (take used (c .growers)) (take used (c .weights)) (take used (c .yields)) (part-length (c .weights) (l .sl .weights) ∙ sym g) (part-length (c .yields) (l .sl .yields) ∙ sym g) ∙ ap (λ (n : ℕ). 34 * n) g
+        length-rows-of (take used (c .growers)) (take used (c .weights)) (take used (c .yields)) (part-length (c .weights) (l .sl .weights) ∙ sym g)
+        (part-length (c .yields) (l .sl .yields) ∙ sym g)
+        ∙ ap (λ (n : ℕ). 34 * n) g
 
     pub text-size : length (snapshotText 64 c) ≡ 34 + 23 * getD (c .directory) 1 0 + 34 * used
     text-size = ap length text-is ∙ omega (arith, length-append (headLine ++ partLines) rowLines, length-append headLine partLines, head-size, parts-size, rows-size)
@@ -143,14 +148,17 @@ module _ (c : Column) (room : ℕ) where
     unfolding checkedOf firstFailed
     check-room x e v h q = let f : firstFailed (writeChecks 64 c room) ≡ 15 = checks-are ∙ rw (e, v, lt-leb (length (snapshotText 64 c)) room (omega (arith, text-size))) in q ∙ sym (rw f)
 
-    pub check-passed : (x : Checked) (m : ℕ) → sound 64 c ≡ true → every inRange (allRecords 64 c) ≡ true → 34 + 23 * getD (c .directory) 1 0 + 34 * used ≤ room → m ≡ used → x ≡ record { refusal = 0; used = m } → x ≡ checkedOf c room
+    pub check-passed : (x : Checked) (m : ℕ) → sound 64 c ≡ true → every inRange (allRecords 64 c) ≡ true → 34 + 23 * getD (c .directory) 1 0 + 34 * used ≤ room → m ≡ used
+        → x ≡ record { refusal = 0; used = m } → x ≡ checkedOf c room
     unfolding checkedOf firstFailed
     check-passed x m e v h u q =
         let f : firstFailed (writeChecks 64 c room) ≡ 0 = checks-are ∙ rw (e, v, le-leb (length (snapshotText 64 c)) room (omega (arith, text-size))) in
         q ∙ ap (λ (n : ℕ). record { refusal = 0; used = n }) u ∙ sym (rw f)
 
 module _ (c : Column) (l : Lent c) where
-  pub sound-is : (r : Bool) → r ≡ soundGrowers (take (2 + getD (c .directory) 1 0 - 2) (drop 2 (c .directory))) (take (66 + getD (c .directory) 1 0 - 66) (drop 66 (c .directory))) (c .growers) → sound 64 c ≡ r
+  pub sound-is : (r : Bool)
+      → r ≡ soundGrowers (take (2 + getD (c .directory) 1 0 - 2) (drop 2 (c .directory))) (take (66 + getD (c .directory) 1 0 - 66) (drop 66 (c .directory))) (c .growers)
+      → sound 64 c ≡ r
   unfolding sound
   sound-is r e = sym (e ∙ ap₂ (λ (a b : List ℕ). soundGrowers a b (c .growers)) (l .lens-is) (l .fences-is))
 
@@ -193,7 +201,13 @@ module _ (c : Column) (out : List ℕ) (x : Checked) (e : x ≡ checkedOf c (len
   can-write n =
       let p : firstFailed (writeChecks 64 c (length out)) ≡ 0 = sym refusal-is ∙ n in
       let w = writable 64 c (length out) p in
-      let q : firstFailed (lentChecks 64 c) ≡ 0 = rw (is-true (directoryBlockOk 64 (c .directory)) (w .block), is-true (slicesOk (c .growers) (c .weights) (c .yields)) (w .slices), is-true (directoryOk 64 (length (c .growers)) (c .directory)) (w .shape)) in
+      let q : firstFailed (lentChecks 64 c) ≡ 0
+      = rw (
+        is-true (directoryBlockOk 64 (c .directory)) (w .block),
+        is-true (slicesOk (c .growers) (c .weights) (c .yields)) (w .slices),
+        is-true
+            (directoryOk 64 (length (c .growers)) (c .directory)) (w .shape),
+      ) in
       let l = lent-is c q in
       record {
         passed = p;
@@ -221,7 +235,9 @@ module _ (c : Column) (out : List ℕ) (x : Checked) (e : x ≡ checkedOf c (len
         let ps = parts-size c 0 l in
         let rs = rows-size c 0 l in
         let f₁ : t₁ ≡ placed 0 h out = e₁ ∙ ap (λ (u : ℕ). placed 0 (line (getD (c .directory) 0 0 ∷ u ∷ k ∷ [])) out) (w .used) in
-        let f₂ : t₂ ≡ placed 0 (h ++ p) out = e₂ ∙ ap₂ (λ (u v : List ℕ). placed 34 (lines (partitionRows u v)) t₁) (l .lens-is) (l .fences-is) ∙ ap (placed 34 p) f₁ ∙ placed-joined 0 34 h p out (omega arith) (omega (arith, w .room)) in
+        let f₂ : t₂ ≡ placed 0 (h ++ p) out
+        = e₂ ∙ ap₂ (λ (u v : List ℕ). placed 34 (lines (partitionRows u v)) t₁) (l .lens-is) (l .fences-is) ∙ ap (placed 34 p) f₁
+        ∙ placed-joined 0 34 h p out (omega arith) (omega (arith, w .room)) in
         let f₃ : t₃ ≡ placed 0 (h ++ p ++ r) out
         = e₃ ∙ ap (λ (u : ℕ). placed (34 + 23 * k) (lines (rowsOf (take u (c .growers)) (take u (c .weights)) (take u (c .yields)))) t₂) (w .used) ∙ ap (placed (34 + 23 * k) r) f₂
         ∙ placed-joined 0 (34 + 23 * k) (h ++ p) r out (omega (arith, length-append h p)) (omega (arith, length-append h p, w .room)) in

@@ -31,7 +31,9 @@ use model::Written;
 const MOST_SLOTS: u32 = 262144;
 
 const MOST_PARTITIONS: u32 = 64;
-// The refusal of a text with more deliveries than slots (01: 12).
+// The answer of an accepted call, and the refusal of a text with more deliveries than slots (01: 0 and 12).
+const ACCEPTED: u32 = 0;
+
 const TOO_FEW_SLOTS: u32 = 12;
 // Where a directory's lengths and fences begin.
 const LENGTHS: usize = 2;
@@ -354,11 +356,9 @@ pub fn read(text: &[u8], growers: &mut [u32], weights: &mut [u32], yields: &mut 
     lines::store(text, a, growers, m);
     lines::store(text, a + WIDTH, weights, m);
     lines::store(text, a + 2 * WIDTH, yields, m);
+    let refusal = ACCEPTED;
     let directory = j.directory;
-    Applied {
-        refusal: 0,
-        directory,
-    }
+    Applied { refusal, directory }
 }
 
 // The partition lines from a byte on.

@@ -99,7 +99,9 @@ module _ (L : ℕ) where
     -- the column of its own book, in other slices
     column-is : (gs ws ys : List ℕ) → columnRead L (some (bookIn L c)) gs ws ys ≡ readInto L c gs ws ys
     unfolding columnRead
-    column-is gs ws ys = same-column (numbers-again L (length (c .growers)) (c .directory) (v .shape)) (one growerOf (cols .growers) gs) (one weightOf (cols .weights) ws) (one yieldOf (cols .yields) ys)
+    column-is gs ws ys =
+        same-column (numbers-again L (length (c .growers)) (c .directory) (v .shape)) (one growerOf (cols .growers) gs) (one weightOf (cols .weights) ws)
+        (one yieldOf (cols .yields) ys)
       where
         one : (f : Delivery → ℕ) {s : List ℕ} → s ≡ map f (slots c) → (old : List ℕ) → map f (allRecords L c) ++ drop (length (allRecords L c)) old ≡ take m s ++ drop m old
         one f {s} e old = ap₂ (λ (a : List ℕ) (k : ℕ). a ++ drop k old) (numbers-used f s e) (length-records L c v)
@@ -179,8 +181,10 @@ module _ (L : ℕ) where
     sound-in : T (sound L (columnIn b gs ws ys))
     unfolding sound
     sound-in =
-        let e : soundGrowers (lengthsOf L (columnIn b gs ws ys)) (fencesOf L (columnIn b gs ws ys)) (columnIn b gs ws ys .growers) ≡ soundGrowers (b .directory .lengths) (b .directory .fences) (map growerOf (b .deliveries))
-        = ap (λ (d : Directory). soundGrowers (d .lengths) (d .fences) (columnIn b gs ws ys .growers)) there ∙ sound-used (b .directory .lengths) (b .directory .fences) (map growerOf (b .deliveries)) _ (omega (arith, g .total, length-map (b .deliveries) growerOf)) in
+        let e : soundGrowers (lengthsOf L (columnIn b gs ws ys)) (fencesOf L (columnIn b gs ws ys)) (columnIn b gs ws ys .growers) ≡ soundGrowers (b .directory .lengths)
+        (b .directory .fences) (map growerOf (b .deliveries))
+        = ap (λ (d : Directory). soundGrowers (d .lengths) (d .fences) (columnIn b gs ws ys .growers)) there
+        ∙ sound-used (b .directory .lengths) (b .directory .fences) (map growerOf (b .deliveries)) _ (omega (arith, g .total, length-map (b .deliveries) growerOf)) in
         subst T (sym e) (g .sound)
 
     writable-in : (room : ℕ) → length (bookText b) ≤ room → Writable L (columnIn b gs ws ys) room
@@ -225,7 +229,9 @@ module _ (L : ℕ) where
       let w = was-read text gs ws ys ok in
       let b : Book = w .book in
       let i = read-text L text b (w .is-read) in
-      let n : length (b .deliveries) ≤ length gs = leb→le (length (b .deliveries)) (length gs) (subst T (room-for L b (i .good) (length gs)) (subst (λ (t : List ℕ). T (slotsForBook L t (length gs))) (sym (i .text)) (w .room))) in
+      let n : length (b .deliveries) ≤ length gs
+      = leb→le (length (b .deliveries)) (length gs)
+      (subst T (room-for L b (i .good) (length gs)) (subst (λ (t : List ℕ). T (slotsForBook L t (length gs))) (sym (i .text)) (w .room))) in
       ap (λ (x : Column). writeCall L x out) (w .column)
       ∙ written-again b gs ws ys (i .good) (sliced gs ws ys (w .slices)) n out (subst (λ (t : List ℕ). length t ≤ length out) (sym (i .text)) h)
       ∙ ap (λ (t : List ℕ). record { answer = record { refusal = 0; bytes = length t }; text = t ++ drop (length t) out }) (i .text)

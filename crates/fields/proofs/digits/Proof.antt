@@ -22,19 +22,19 @@ shared-slice-read-b : tie.Need-shared-slice-read-b Inv-loop μ-loop
 shared-slice-read-b c = omega (arith, c .before .before .loop .inv .fits)
 
 returns : tie.Need-returns Inv-loop μ-loop
-returns c = low (c .before .before .before .loop .inv) (c .before .before .loop-test .taken) (c .if1 .taken)
+returns c = low (c .before .before .before .loop .inv) (omega arith) (c .if1 .taken)
 
 returns-2 : tie.Need-returns-2 Inv-loop μ-loop
-returns-2 c = high (c .before .before .before .before .loop .inv) (c .before .before .before .loop-test .taken) (c .if2 .taken)
+returns-2 c = high (c .before .before .before .before .loop .inv) (omega arith) (c .if2 .taken)
 
 mul-v : tie.Need-mul-v Inv-loop μ-loop
-mul-v c = omega (arith, most-digits (c .before .before .before .before .loop .inv) (c .before .before .before .loop-test .taken))
+mul-v c = omega (arith, most-digits (c .before .before .before .before .loop .inv) (omega arith))
 
 wide-requires : tie.Need-wide-requires Inv-loop μ-loop
 wide-requires c κs = search needs
 
 add-v : tie.Need-add-v Inv-loop μ-loop
-add-v c = omega (arith, most-digits (c .before .before .before .before .before .loop .inv) (c .before .before .before .before .loop-test .taken), c .wide .ensures)
+add-v c = omega (arith, most-digits (c .before .before .before .before .before .loop .inv) (omega arith), c .wide .ensures)
 
 add-i : tie.Need-add-i Inv-loop μ-loop
 add-i c = omega arith
@@ -43,10 +43,10 @@ loop-less : tie.Need-loop-less Inv-loop μ-loop
 loop-less c = omega arith
 
 loop-again : tie.Need-loop-again Inv-loop μ-loop
-loop-again c = digits-next (c .before .before .before .before .before .loop .inv) (c .before .before .before .before .loop-test .taken) (c .before .before .if1 .left) (c .before .if2 .left) (c .wide .ensures)
+loop-again c = digits-next (c .before .before .before .before .before .loop .inv) (omega arith) (c .before .before .if1 .left) (c .before .if2 .left) (c .wide .ensures)
 
 returns-3 : tie.Need-returns-3 Inv-loop μ-loop
-returns-3 c = large (c .before .before .loop .inv) (c .before .loop-test .left) (c .if3 .taken)
+returns-3 c = large (c .before .before .loop .inv) (omega arith) (c .if3 .taken)
 
 cast-t14 : tie.Need-cast-t14 Inv-loop μ-loop
 cast-t14 c = search needs
@@ -55,7 +55,7 @@ add-t15 : tie.Need-add-t15 Inv-loop μ-loop
 add-t15 c = omega (arith, c .before .before .loop .inv .fits)
 
 returns-4 : tie.Need-returns-4 Inv-loop μ-loop
-returns-4 c = done (c .before .before .loop .inv) (c .before .loop-test .left) (c .if3 .left)
+returns-4 c = done (c .before .before .loop .inv) (omega arith) (c .if3 .left)
 
 pub digits-spec : {M : Type 1} → statement M
 digits-spec =

@@ -8,10 +8,10 @@ use Rattle.fields.proofs.spelled_at.Statement.{statement}
 use Rattle.fields.proofs.spelled_at.Tie as tie
 
 abbrev Inv-loop : tie.InvT-loop
-Inv-loop text at v₀ i₀ v i = Spelling text at (valueAt at text) v i
+Inv-loop text at v₀ k₀ v k = Spelling text at (valueAt at text) v k
 
 abbrev μ-loop : tie.MeasureT-loop
-μ-loop text at v₀ i₀ v i = 11 - i
+μ-loop text at v₀ k₀ v k = 11 - k
 
 loop-holds : tie.Need-loop-holds Inv-loop μ-loop
 loop-holds c = spell-start _ _ (c .before .pre)
@@ -31,8 +31,8 @@ wide-requires c κs = search needs
 add-v : tie.Need-add-v Inv-loop μ-loop
 add-v c = let w = c .before .before .before .loop .inv in let h = c .before .before .loop-test .taken in omega (arith, most-spelled w h, low-bits w h, digit w h, c .wide .ensures)
 
-add-i : tie.Need-add-i Inv-loop μ-loop
-add-i c = omega arith
+add-k : tie.Need-add-k Inv-loop μ-loop
+add-k c = omega arith
 
 loop-less : tie.Need-loop-less Inv-loop μ-loop
 loop-less c = omega arith
@@ -58,7 +58,7 @@ spelled-at-spec =
     mul-v
     wide-requires
     add-v
-    add-i
+    add-k
     loop-less
     loop-again
     cast-result

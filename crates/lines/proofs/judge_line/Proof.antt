@@ -29,7 +29,10 @@ enum-told : tie.Need-enum-told Inv-loop μ-loop
 enum-told c = search needs
 
 returns : tie.Need-returns Inv-loop μ-loop
-returns c = ap textRefusal (fields-stop (c .before .before .before .loop-test .taken) (c .before .before .before .before .loop .inv) (ap readOf (sym (c .enum-told .given .1)) ∙ c .before .before .number-at .ensures))
+returns c =
+    ap textRefusal
+    (fields-stop (c .before .before .before .loop-test .taken) (c .before .before .before .before .loop .inv)
+    (ap readOf (sym (c .enum-told .given .1)) ∙ c .before .before .number-at .ensures))
 
 add-i : tie.Need-add-i Inv-loop μ-loop
 add-i c = omega arith
@@ -38,7 +41,9 @@ loop-less : tie.Need-loop-less Inv-loop μ-loop
 loop-less c = omega arith
 
 loop-again : tie.Need-loop-again Inv-loop μ-loop
-loop-again c = fields-next (c .before .before .before .before .loop-test .taken) (c .before .before .before .before .before .loop .inv) _ (ap readOf (sym (c .before .f .given .1)) ∙ c .before .before .before .number-at .ensures)
+loop-again c =
+    fields-next (c .before .before .before .before .loop-test .taken) (c .before .before .before .before .before .loop .inv) _
+    (ap readOf (sym (c .before .f .given .1)) ∙ c .before .before .before .number-at .ensures)
 
 ends-requires : tie.Need-ends-requires Inv-loop μ-loop
 ends-requires c κs = search needs

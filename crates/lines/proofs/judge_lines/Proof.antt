@@ -27,10 +27,15 @@ judge-line-requires : tie.Need-judge-line-requires Inv-loop μ-loop
 judge-line-requires c κs = search needs
 
 returns : tie.Need-returns Inv-loop μ-loop
-returns c = let q = c .before .judge-line .ensures in let f = failed _ q (c .if1 .taken) in q ∙ ap textRefusal (f ∙ lines-stop (c .before .before .loop-test .taken) (c .before .before .before .loop .inv) f)
+returns c =
+    let q = c .before .judge-line .ensures in
+    let f = failed _ q (c .if1 .taken) in
+    q ∙ ap textRefusal (f ∙ lines-stop (c .before .before .loop-test .taken) (c .before .before .before .loop .inv) f)
 
 add-e : tie.Need-add-e Inv-loop μ-loop
-add-e c = omega (arith, c .before .before .before .loop .inv .near, c .before .before .before .before .before .pre .0, c .before .before .before .before .before .pre .1, c .before .before .before .before .before .pre .2)
+add-e c =
+    omega
+    (arith, c .before .before .before .loop .inv .near, c .before .before .before .before .before .pre .0, c .before .before .before .before .before .pre .1, c .before .before .before .before .before .pre .2)
 
 add-i : tie.Need-add-i Inv-loop μ-loop
 add-i c = omega arith
@@ -39,7 +44,9 @@ loop-less : tie.Need-loop-less Inv-loop μ-loop
 loop-less c = omega arith
 
 loop-again : tie.Need-loop-again Inv-loop μ-loop
-loop-again c = lines-next (c .before .before .before .before .before .pre .1) (c .before .before .loop-test .taken) (c .before .before .before .loop .inv) (passed _ (c .before .judge-line .ensures) (c .if1 .left))
+loop-again c =
+    lines-next (c .before .before .before .before .before .pre .1) (c .before .before .loop-test .taken) (c .before .before .before .loop .inv)
+    (passed _ (c .before .judge-line .ensures) (c .if1 .left))
 
 returns-2 : tie.Need-returns-2 Inv-loop μ-loop
 returns-2 c = ap textRefusal (lines-end (c .loop-test .left) (c .before .loop .inv))

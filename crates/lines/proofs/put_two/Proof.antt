@@ -17,7 +17,9 @@ same-length : tie.Need-same-length
 same-length c = search needs
 
 returns : tie.Need-returns
-returns c = more-put _ _ _ _ _ _ (c .before .before .before .before .before .before .put-number .ensures) (c .before .before .put-one .ensures) (c .before .before .before .before .before .before .before .before .before .pre)
+returns c =
+    more-put _ _ _ _ _ _ (c .before .before .before .before .before .before .put-number .ensures) (c .before .before .put-one .ensures)
+    (c .before .before .before .before .before .before .before .before .before .pre)
 
 pub put-two-spec : {M : Type 1} → statement M
 put-two-spec =

@@ -40,7 +40,9 @@ sound-there : (c : tie.Else2) → sound 64 (col (c .before .before .before .befo
 sound-there c = is-sound (c .before) ∙ not-false _ (c .if2 .left)
 
 in-range : (c : tie.After-values-ok) → every inRange (allRecords 64 (col (c .before .before .before .before .before .before .before .before))) ≡ c .values-ok .result
-in-range c = values-there (col (c .before .before .before .before .before .before .before .before)) (held (c .before .before .before .before .before .before .before .before)) _ _ (used (c .before .before .before .before .before .before .before .before)) (c .values-ok .ensures)
+in-range c =
+    values-there (col (c .before .before .before .before .before .before .before .before)) (held (c .before .before .before .before .before .before .before .before)) _ _
+    (used (c .before .before .before .before .before .before .before .before)) (c .values-ok .ensures)
 
 lent-requires : tie.Need-lent-requires
 lent-requires c κs = search needs
@@ -49,7 +51,9 @@ not-checked-requires : tie.Need-not-checked-requires
 not-checked-requires c κs = search needs
 
 returns : tie.Need-returns
-returns c = let s = c .before .before .before .before .before .before .before in check-lent (lent s) _ _ _ (shape-refusal (lentChecks 64 (lent s)) _ 0 _ (c .before .before .lent .ensures)) (c .before .if1 .taken) (c .not-checked .ensures)
+returns c =
+    let s = c .before .before .before .before .before .before .before in
+    check-lent (lent s) _ _ _ (shape-refusal (lentChecks 64 (lent s)) _ 0 _ (c .before .before .lent .ensures)) (c .before .if1 .taken) (c .not-checked .ensures)
 
 shared-slice-read-k : tie.Need-shared-slice-read-k
 shared-slice-read-k c = omega (arith, held (c .before) .size, held (c .before) .few)
@@ -88,13 +92,19 @@ not-checked-requires-2 : tie.Need-not-checked-requires-2
 not-checked-requires-2 c κs = search needs
 
 returns-2 : tie.Need-returns-2
-returns-2 c = check-sound (col (c .before .before .before .before .before .before)) _ (held (c .before .before .before .before .before .before)) _ (is-sound (c .before .before) ∙ not-true _ (c .before .if2 .taken)) (c .not-checked2 .ensures)
+returns-2 c =
+    check-sound (col (c .before .before .before .before .before .before)) _ (held (c .before .before .before .before .before .before)) _
+    (is-sound (c .before .before) ∙ not-true _ (c .before .if2 .taken)) (c .not-checked2 .ensures)
 
 slice-aggregate-values-ok : tie.Need-slice-aggregate-values-ok
-slice-aggregate-values-ok c = let l = held (c .before .before .before .before .before .before) in sym (length-take-le _ _ (omega (arith, used (c .before .before .before .before .before .before), l .room, l .sl .weights)))
+slice-aggregate-values-ok c =
+    let l = held (c .before .before .before .before .before .before) in
+    sym (length-take-le _ _ (omega (arith, used (c .before .before .before .before .before .before), l .room, l .sl .weights)))
 
 slice-aggregate-values-ok-2 : tie.Need-slice-aggregate-values-ok-2
-slice-aggregate-values-ok-2 c = let l = held (c .before .before .before .before .before .before .before) in sym (length-take-le _ _ (omega (arith, used (c .before .before .before .before .before .before .before), l .room, l .sl .yields)))
+slice-aggregate-values-ok-2 c =
+    let l = held (c .before .before .before .before .before .before .before) in
+    sym (length-take-le _ _ (omega (arith, used (c .before .before .before .before .before .before .before), l .room, l .sl .yields)))
 
 values-ok-requires : tie.Need-values-ok-requires
 values-ok-requires c κs = search needs
@@ -103,28 +113,48 @@ not-checked-requires-3 : tie.Need-not-checked-requires-3
 not-checked-requires-3 c κs = search needs
 
 returns-3 : tie.Need-returns-3
-returns-3 c = check-values (col (c .before .before .before .before .before .before .before .before .before .before)) _ (held (c .before .before .before .before .before .before .before .before .before .before)) _ (sound-there (c .before .before .before .before .before)) (in-range (c .before .before) ∙ not-true _ (c .before .if3 .taken)) (c .not-checked3 .ensures)
+returns-3 c =
+    check-values (col (c .before .before .before .before .before .before .before .before .before .before)) _
+    (held (c .before .before .before .before .before .before .before .before .before .before)) _ (sound-there (c .before .before .before .before .before))
+    (in-range (c .before .before) ∙ not-true _ (c .before .if3 .taken)) (c .not-checked3 .ensures)
 
 mul-if4 : tie.Need-mul-if4
-mul-if4 c = let l = held (c .before .before .before .before .before .before .before .before .before) in omega (arith, l .few, used (c .before .before .before .before .before .before .before .before .before), l .room, l .sl .most)
+mul-if4 c =
+    let l = held (c .before .before .before .before .before .before .before .before .before) in
+    omega (arith, l .few, used (c .before .before .before .before .before .before .before .before .before), l .room, l .sl .most)
 
 add-if4 : tie.Need-add-if4
-add-if4 c = let l = held (c .before .before .before .before .before .before .before .before .before) in omega (arith, l .few, used (c .before .before .before .before .before .before .before .before .before), l .room, l .sl .most)
+add-if4 c =
+    let l = held (c .before .before .before .before .before .before .before .before .before) in
+    omega (arith, l .few, used (c .before .before .before .before .before .before .before .before .before), l .room, l .sl .most)
 
 mul-if4-2 : tie.Need-mul-if4-2
-mul-if4-2 c = let l = held (c .before .before .before .before .before .before .before .before .before) in omega (arith, l .few, used (c .before .before .before .before .before .before .before .before .before), l .room, l .sl .most)
+mul-if4-2 c =
+    let l = held (c .before .before .before .before .before .before .before .before .before) in
+    omega (arith, l .few, used (c .before .before .before .before .before .before .before .before .before), l .room, l .sl .most)
 
 add-if4-2 : tie.Need-add-if4-2
-add-if4-2 c = let l = held (c .before .before .before .before .before .before .before .before .before) in omega (arith, l .few, used (c .before .before .before .before .before .before .before .before .before), l .room, l .sl .most)
+add-if4-2 c =
+    let l = held (c .before .before .before .before .before .before .before .before .before) in
+    omega (arith, l .few, used (c .before .before .before .before .before .before .before .before .before), l .room, l .sl .most)
 
 not-checked-requires-4 : tie.Need-not-checked-requires-4
 not-checked-requires-4 c κs = search needs
 
 returns-4 : tie.Need-returns-4
-returns-4 c = check-room (col (c .before .before .before .before .before .before .before .before .before .before .before)) _ (held (c .before .before .before .before .before .before .before .before .before .before .before)) _ (sound-there (c .before .before .before .before .before .before)) (in-range (c .before .before .before) ∙ not-false _ (c .before .before .if3 .left)) (omega (arith, used (c .before .before .before .before .before .before .before .before .before .before .before), c .before .if4 .taken)) (c .not-checked4 .ensures)
+returns-4 c =
+    check-room (col (c .before .before .before .before .before .before .before .before .before .before .before)) _
+    (held (c .before .before .before .before .before .before .before .before .before .before .before)) _ (sound-there (c .before .before .before .before .before .before))
+    (in-range (c .before .before .before) ∙ not-false _ (c .before .before .if3 .left))
+    (omega (arith, used (c .before .before .before .before .before .before .before .before .before .before .before), c .before .if4 .taken)) (c .not-checked4 .ensures)
 
 returns-5 : tie.Need-returns-5
-returns-5 c = check-passed (col (c .before .before .before .before .before .before .before .before .before .before)) _ (held (c .before .before .before .before .before .before .before .before .before .before)) _ _ (sound-there (c .before .before .before .before .before)) (in-range (c .before .before) ∙ not-false _ (c .before .if3 .left)) (omega (arith, used (c .before .before .before .before .before .before .before .before .before .before), c .if4 .left)) (used (c .before .before .before .before .before .before .before .before .before .before)) refl
+returns-5 c =
+    check-passed (col (c .before .before .before .before .before .before .before .before .before .before)) _
+    (held (c .before .before .before .before .before .before .before .before .before .before)) _ _ (sound-there (c .before .before .before .before .before))
+    (in-range (c .before .before) ∙ not-false _ (c .before .if3 .left))
+    (omega (arith, used (c .before .before .before .before .before .before .before .before .before .before), c .if4 .left))
+    (used (c .before .before .before .before .before .before .before .before .before .before)) refl
 
 pub check-write-spec : {M : Type 1} → statement M
 check-write-spec =

@@ -21,7 +21,9 @@ one c = took-next (took-start _ _ 3) (omega arith) _ (ap readOf (sym (c .f .give
 two : (c : tie.After-g) → Took (from (c .before .before .before .before) .args .text .now) 0 3 2 (c .g .given .0 .1 .0) (c .before .before .before .before .f .given .0 .0 ∷ c .g .given .0 .0 ∷ [])
 two c = took-next (one (c .before .before .before .before)) (omega arith) _ (ap readOf (sym (c .g .given .1)) ∙ c .before .before .number-at2 .ensures)
 
-three : (c : tie.After-h) → Took (from (c .before .before .before .before .before .before .before .before) .args .text .now) 0 3 3 (c .h .given .0 .1 .0) (c .before .before .before .before .before .before .before .before .f .given .0 .0 ∷ c .before .before .before .before .g .given .0 .0 ∷ c .h .given .0 .0 ∷ [])
+three : (c : tie.After-h)
+    → Took (from (c .before .before .before .before .before .before .before .before) .args .text .now) 0 3 3 (c .h .given .0 .1 .0)
+    (c .before .before .before .before .before .before .before .before .f .given .0 .0 ∷ c .before .before .before .before .g .given .0 .0 ∷ c .h .given .0 .0 ∷ [])
 three c = took-next (two (c .before .before .before .before)) (omega arith) _ (ap readOf (sym (c .h .given .1)) ∙ c .before .before .number-at3 .ensures)
 
 number-at-requires : tie.Need-number-at-requires
@@ -52,7 +54,10 @@ no-head-requires-2 : tie.Need-no-head-requires-2
 no-head-requires-2 c κs = search needs
 
 returns-2 : tie.Need-returns-2
-returns-2 c = head-fails _ _ (took-stop (one (c .before .before .before .before .before)) (omega arith) (ap readOf (sym (c .before .enum-told2 .given .1)) ∙ c .before .before .before .number-at2 .ensures)) (c .no-head2 .ensures)
+returns-2 c =
+    head-fails _ _
+    (took-stop (one (c .before .before .before .before .before)) (omega arith) (ap readOf (sym (c .before .enum-told2 .given .1)) ∙ c .before .before .before .number-at2 .ensures))
+    (c .no-head2 .ensures)
 
 number-at-requires-3 : tie.Need-number-at-requires-3
 number-at-requires-3 c κs = search needs
@@ -67,7 +72,10 @@ no-head-requires-3 : tie.Need-no-head-requires-3
 no-head-requires-3 c κs = search needs
 
 returns-3 : tie.Need-returns-3
-returns-3 c = head-fails _ _ (took-stop (two (c .before .before .before .before .before)) (omega arith) (ap readOf (sym (c .before .enum-told3 .given .1)) ∙ c .before .before .before .number-at3 .ensures)) (c .no-head3 .ensures)
+returns-3 c =
+    head-fails _ _
+    (took-stop (two (c .before .before .before .before .before)) (omega arith) (ap readOf (sym (c .before .enum-told3 .given .1)) ∙ c .before .before .before .number-at3 .ensures))
+    (c .no-head3 .ensures)
 
 ends-requires : tie.Need-ends-requires
 ends-requires c κs = search needs
@@ -85,10 +93,17 @@ no-head-requires-5 : tie.Need-no-head-requires-5
 no-head-requires-5 c κs = search needs
 
 returns-5 : tie.Need-returns-5
-returns-5 c = head-range _ _ _ _ _ (sym (took-end (three (c .before .before .before .before .before .before)) (omega arith)) ∙ sym (c .before .before .before .before .ends .ensures) ∙ not-false _ (c .before .before .before .if1 .left)) (three (c .before .before .before .before .before .before) .values) (sym (c .before .before .header-ok .ensures) ∙ not-true _ (c .before .if2 .taken)) (c .no-head5 .ensures)
+returns-5 c =
+    head-range _ _ _ _ _
+    (sym (took-end (three (c .before .before .before .before .before .before)) (omega arith)) ∙ sym (c .before .before .before .before .ends .ensures)
+    ∙ not-false _ (c .before .before .before .if1 .left))
+    (three (c .before .before .before .before .before .before) .values) (sym (c .before .before .header-ok .ensures) ∙ not-true _ (c .before .if2 .taken)) (c .no-head5 .ensures)
 
 returns-6 : tie.Need-returns-6
-returns-6 c = head-done _ _ _ _ _ (sym (took-end (three (c .before .before .before .before .before)) (omega arith)) ∙ sym (c .before .before .before .ends .ensures) ∙ not-false _ (c .before .before .if1 .left)) (three (c .before .before .before .before .before) .values) (sym (c .before .header-ok .ensures) ∙ not-false _ (c .if2 .left)) refl
+returns-6 c =
+    head-done _ _ _ _ _
+    (sym (took-end (three (c .before .before .before .before .before)) (omega arith)) ∙ sym (c .before .before .before .ends .ensures) ∙ not-false _ (c .before .before .if1 .left))
+    (three (c .before .before .before .before .before) .values) (sym (c .before .header-ok .ensures) ∙ not-false _ (c .if2 .left)) refl
 
 pub head-of-spec : {M : Type 1} → statement M
 head-of-spec =

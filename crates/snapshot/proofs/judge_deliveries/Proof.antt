@@ -22,7 +22,10 @@ judge-delivery-requires : tie.Need-judge-delivery-requires Inv-loop μ-loop
 judge-delivery-requires c κs = search needs
 
 returns : tie.Need-returns Inv-loop μ-loop
-returns c = let q = c .before .judge-delivery .ensures in let f = failed _ q (c .if1 .taken) in q ∙ ap textRefusal (f ∙ deliveries-stop (c .before .before .before .loop .inv) (c .before .before .loop-test .taken) f)
+returns c =
+    let q = c .before .judge-delivery .ensures in
+    let f = failed _ q (c .if1 .taken) in
+    q ∙ ap textRefusal (f ∙ deliveries-stop (c .before .before .before .loop .inv) (c .before .before .loop-test .taken) f)
 
 add-e : tie.Need-add-e Inv-loop μ-loop
 add-e c = omega (arith, c .before .before .before .loop .inv .at-line, c .before .before .before .before .before .pre)

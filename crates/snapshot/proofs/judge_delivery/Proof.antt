@@ -20,14 +20,21 @@ from c = c .before .before .before .before
 one : (c : tie.After-f) → Took (from (c) .args .text .now) (from (c) .args .at) 3 1 (c .f .given .0 .1 .0) (c .f .given .0 .0 ∷ [])
 one c = took-next (took-start _ _ 3) (omega arith) _ (ap readOf (sym (c .f .given .1)) ∙ c .before .before .number-at .ensures)
 
-two : (c : tie.After-g) → Took (from (c .before .before .before .before) .args .text .now) (from (c .before .before .before .before) .args .at) 3 2 (c .g .given .0 .1 .0) (c .before .before .before .before .f .given .0 .0 ∷ c .g .given .0 .0 ∷ [])
+two : (c : tie.After-g)
+    → Took (from (c .before .before .before .before) .args .text .now) (from (c .before .before .before .before) .args .at) 3 2 (c .g .given .0 .1 .0)
+    (c .before .before .before .before .f .given .0 .0 ∷ c .g .given .0 .0 ∷ [])
 two c = took-next (one (c .before .before .before .before)) (omega arith) _ (ap readOf (sym (c .g .given .1)) ∙ c .before .before .number-at2 .ensures)
 
-three : (c : tie.After-h) → Took (from (c .before .before .before .before .before .before .before .before) .args .text .now) (from (c .before .before .before .before .before .before .before .before) .args .at) 3 3 (c .h .given .0 .1 .0) (c .before .before .before .before .before .before .before .before .f .given .0 .0 ∷ c .before .before .before .before .g .given .0 .0 ∷ c .h .given .0 .0 ∷ [])
+three : (c : tie.After-h)
+    → Took (from (c .before .before .before .before .before .before .before .before) .args .text .now)
+    (from (c .before .before .before .before .before .before .before .before) .args .at) 3 3 (c .h .given .0 .1 .0)
+    (c .before .before .before .before .before .before .before .before .f .given .0 .0 ∷ c .before .before .before .before .g .given .0 .0 ∷ c .h .given .0 .0 ∷ [])
 three c = took-next (two (c .before .before .before .before)) (omega arith) _ (ap readOf (sym (c .h .given .1)) ∙ c .before .before .number-at3 .ensures)
 
 -- an LF behind them: the line is good
-line-ends : (c : tie.Else1) → lineOk 3 (from (c .before .before .before .before .before .before .before .before .before .before .before) .args .at) (from (c .before .before .before .before .before .before .before .before .before .before .before) .args .text .now) ≡ true
+line-ends : (c : tie.Else1)
+    → lineOk 3 (from (c .before .before .before .before .before .before .before .before .before .before .before) .args .at)
+    (from (c .before .before .before .before .before .before .before .before .before .before .before) .args .text .now) ≡ true
 line-ends c = sym (took-end (three (c .before .before .before)) (omega arith)) ∙ sym (c .before .ends .ensures) ∙ not-false _ (c .if1 .left)
 
 number-at-requires : tie.Need-number-at-requires
@@ -82,10 +89,14 @@ in-range-requires : tie.Need-in-range-requires
 in-range-requires c κs = search needs
 
 returns-7 : tie.Need-returns-7
-returns-7 c = out-of-range _ _ _ _ _ _ _ (line-ends (c .before .before .before .before)) (three (c .before .before .before .before .before .before .before) .values) (c .before .before .before .if2 .left) (c .before .before .if3 .left) (sym (c .before .in-range .ensures) ∙ not-true _ (c .if4 .taken))
+returns-7 c =
+    out-of-range _ _ _ _ _ _ _ (line-ends (c .before .before .before .before)) (three (c .before .before .before .before .before .before .before) .values)
+    (c .before .before .before .if2 .left) (c .before .before .if3 .left) (sym (c .before .in-range .ensures) ∙ not-true _ (c .if4 .taken))
 
 returns-8 : tie.Need-returns-8
-returns-8 c = delivery-good _ _ _ _ _ _ _ (line-ends (c .before .before .before .before)) (three (c .before .before .before .before .before .before .before) .values) (c .before .before .before .if2 .left) (c .before .before .if3 .left) (sym (c .before .in-range .ensures) ∙ not-false _ (c .if4 .left))
+returns-8 c =
+    delivery-good _ _ _ _ _ _ _ (line-ends (c .before .before .before .before)) (three (c .before .before .before .before .before .before .before) .values)
+    (c .before .before .before .if2 .left) (c .before .before .if3 .left) (sym (c .before .in-range .ensures) ∙ not-false _ (c .if4 .left))
 
 pub judge-delivery-spec : {M : Type 1} → statement M
 judge-delivery-spec =

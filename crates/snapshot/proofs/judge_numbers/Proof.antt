@@ -40,7 +40,9 @@ total-requires : tie.Need-total-requires
 total-requires c κs = search needs
 
 returns-2 : tie.Need-returns-2
-returns-2 c = other-sum _ _ _ _ _ _ (c .before .before .before .before .strictly-rising .ensures) (not-false _ (c .before .before .before .if1 .left)) _ (c .before .total .ensures) (c .if2 .taken)
+returns-2 c =
+    other-sum _ _ _ _ _ _ (c .before .before .before .before .strictly-rising .ensures) (not-false _ (c .before .before .before .if1 .left)) _ (c .before .total .ensures)
+    (λ z. omega (arith, z))
 
 sub-judge-parts : tie.Need-sub-judge-parts
 sub-judge-parts c = omega arith
@@ -61,10 +63,17 @@ part-judge-parts-end-2 : tie.Need-part-judge-parts-end-2
 part-judge-parts-end-2 c = let p = c .before .before .before .before .before .before .before .before .before .pre in omega (arith, p .0, p .1)
 
 judge-parts-requires : tie.Need-judge-parts-requires
-judge-parts-requires c κs = let s = c .before .before .before .before .before .before .before .before .before .before in let p = s .pre in let a = s .args in parts-asked (a .text .now) (a .start) (a .numbers .now) (a .k) (a .m) _ (c .before .before .before .before .before .before .strictly-rising .ensures) (not-false _ (c .before .before .before .before .before .if1 .left)) _ (c .before .before .before .total .ensures) (p .0) (p .1) (c .before .before .if2 .left) (p .2)
+judge-parts-requires c κs =
+    let s = c .before .before .before .before .before .before .before .before .before .before in
+    let p = s .pre in
+    let a = s .args in
+    parts-asked (a .text .now) (a .start) (a .numbers .now) (a .k) (a .m) _ (c .before .before .before .before .before .before .strictly-rising .ensures)
+    (not-false _ (c .before .before .before .before .before .if1 .left)) _ (c .before .before .before .total .ensures) (p .0) (p .1) (omega arith) (p .2)
 
 returns-3 : tie.Need-returns-3
-returns-3 c = same-sum _ _ _ _ _ _ (c .before .before .before .before .before .before .before .strictly-rising .ensures) (not-false _ (c .before .before .before .before .before .before .if1 .left)) _ (c .before .before .before .before .total .ensures) _ (c .before .before .before .if2 .left) (c .judge-parts .ensures)
+returns-3 c =
+    same-sum _ _ _ _ _ _ (c .before .before .before .before .before .before .before .strictly-rising .ensures)
+    (not-false _ (c .before .before .before .before .before .before .if1 .left)) _ (c .before .before .before .before .total .ensures) _ (omega arith) (c .judge-parts .ensures)
 
 pub judge-numbers-spec : {M : Type 1} → statement M
 judge-numbers-spec =

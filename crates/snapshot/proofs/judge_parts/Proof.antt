@@ -35,16 +35,41 @@ high-of-requires : tie.Need-high-of-requires Inv-loop μ-loop
 high-of-requires c κs = omega (arith, c .before .before .before .before .before .before .before .pre .0)
 
 judge-deliveries-requires : tie.Need-judge-deliveries-requires Inv-loop μ-loop
-judge-deliveries-requires c κs = omega (arith, part-room (c .before .before .before .before .loop .inv) (c .before .before .before .loop-test .taken), c .before .before .before .before .before .before .before .before .pre .2)
+judge-deliveries-requires c κs =
+    omega (
+      arith,
+      part-room (c .before .before .before .before .loop .inv)
+          (c .before .before .before .loop-test .taken),
+      c .before .before .before .before .before .before .before .before .pre .2,
+    )
 
 returns : tie.Need-returns Inv-loop μ-loop
-returns c = let q = c .before .judge-deliveries .ensures in let f = failed _ q (c .if1 .taken) in q ∙ ap textRefusal (f ∙ parts-stop (c .before .before .before .before .before .before .loop .inv) (c .before .before .before .before .before .loop-test .taken) (c .before .before .before .low-of .ensures) (c .before .before .high-of .ensures) f)
+returns c =
+    let q = c .before .judge-deliveries .ensures in
+    let f = failed _ q (c .if1 .taken) in
+    q
+    ∙ ap textRefusal
+    (f
+    ∙ parts-stop (c .before .before .before .before .before .before .loop .inv) (c .before .before .before .before .before .loop-test .taken)
+    (c .before .before .before .low-of .ensures) (c .before .before .high-of .ensures) f)
 
 mul-e : tie.Need-mul-e Inv-loop μ-loop
-mul-e c = omega (arith, part-room (c .before .before .before .before .before .before .loop .inv) (c .before .before .before .before .before .loop-test .taken), c .before .before .before .before .before .before .before .before .before .before .pre .2)
+mul-e c =
+    omega (
+      arith,
+      part-room (c .before .before .before .before .before .before .loop .inv)
+          (c .before .before .before .before .before .loop-test .taken),
+      c .before .before .before .before .before .before .before .before .before .before .pre .2,
+    )
 
 add-e : tie.Need-add-e Inv-loop μ-loop
-add-e c = omega (arith, part-room (c .before .before .before .before .before .before .loop .inv) (c .before .before .before .before .before .loop-test .taken), c .before .before .before .before .before .before .before .before .before .before .pre .2)
+add-e c =
+    omega (
+      arith,
+      part-room (c .before .before .before .before .before .before .loop .inv)
+          (c .before .before .before .before .before .loop-test .taken),
+      c .before .before .before .before .before .before .before .before .before .before .pre .2,
+    )
 
 add-p : tie.Need-add-p Inv-loop μ-loop
 add-p c = omega arith
@@ -53,7 +78,9 @@ loop-less : tie.Need-loop-less Inv-loop μ-loop
 loop-less c = omega arith
 
 loop-again : tie.Need-loop-again Inv-loop μ-loop
-loop-again c = parts-next (c .before .before .before .before .before .before .loop .inv) (c .before .before .before .before .before .loop-test .taken) (c .before .before .before .low-of .ensures) (c .before .before .high-of .ensures) (passed _ (c .before .judge-deliveries .ensures) (c .if1 .left))
+loop-again c =
+    parts-next (c .before .before .before .before .before .before .loop .inv) (c .before .before .before .before .before .loop-test .taken)
+    (c .before .before .before .low-of .ensures) (c .before .before .high-of .ensures) (passed _ (c .before .judge-deliveries .ensures) (c .if1 .left))
 
 returns-2 : tie.Need-returns-2 Inv-loop μ-loop
 returns-2 c = ap textRefusal (parts-end (c .before .loop .inv) (c .loop-test .left))

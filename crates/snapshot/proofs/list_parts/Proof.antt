@@ -42,7 +42,9 @@ not-listed-requires : tie.Need-not-listed-requires Inv-loop μ-loop
 not-listed-requires c κs = search needs
 
 returns : tie.Need-returns Inv-loop μ-loop
-returns c = list-stop (c .before .before .before .before .before .loop .inv) (c .before .before .before .before .loop-test .taken) _ (took-stop (took-start _ _ 2) (omega arith) (ap readOf (sym (c .before .enum-told .given .1)) ∙ c .before .before .before .number-at .ensures)) (c .not-listed .ensures)
+returns c =
+    list-stop (c .before .before .before .before .before .loop .inv) (c .before .before .before .before .loop-test .taken) _
+    (took-stop (took-start _ _ 2) (omega arith) (ap readOf (sym (c .before .enum-told .given .1)) ∙ c .before .before .before .number-at .ensures)) (c .not-listed .ensures)
 
 number-at-requires-2 : tie.Need-number-at-requires-2 Inv-loop μ-loop
 number-at-requires-2 c κs = search needs
@@ -57,7 +59,14 @@ not-listed-requires-2 : tie.Need-not-listed-requires-2 Inv-loop μ-loop
 not-listed-requires-2 c κs = search needs
 
 returns-2 : tie.Need-returns-2 Inv-loop μ-loop
-returns-2 c = list-stop (c .before .before .before .before .before .before .before .before .before .loop .inv) (c .before .before .before .before .before .before .before .before .loop-test .taken) _ (took-stop (took-next (took-start _ _ 2) (omega arith) _ (ap readOf (sym (c .before .before .before .before .before .f .given .1)) ∙ c .before .before .before .before .before .before .before .number-at .ensures)) (omega arith) (ap readOf (sym (c .before .enum-told2 .given .1)) ∙ c .before .before .before .number-at2 .ensures)) (c .not-listed2 .ensures)
+returns-2 c =
+    list-stop (c .before .before .before .before .before .before .before .before .before .loop .inv)
+    (c .before .before .before .before .before .before .before .before .loop-test .taken) _
+    (took-stop
+    (took-next (took-start _ _ 2) (omega arith) _
+    (ap readOf (sym (c .before .before .before .before .before .f .given .1)) ∙ c .before .before .before .before .before .before .before .number-at .ensures))
+    (omega arith) (ap readOf (sym (c .before .enum-told2 .given .1)) ∙ c .before .before .before .number-at2 .ensures))
+    (c .not-listed2 .ensures)
 
 ends-requires : tie.Need-ends-requires Inv-loop μ-loop
 ends-requires c κs = search needs
@@ -66,7 +75,18 @@ not-listed-requires-3 : tie.Need-not-listed-requires-3 Inv-loop μ-loop
 not-listed-requires-3 c κs = search needs
 
 returns-3 : tie.Need-returns-3 Inv-loop μ-loop
-returns-3 c = list-stop (c .before .before .before .before .before .before .before .before .before .before .before .before .loop .inv) (c .before .before .before .before .before .before .before .before .before .before .before .loop-test .taken) _ (sym (not-true _ (c .before .if1 .taken)) ∙ c .before .before .ends .ensures ∙ took-end (took-next (took-next (took-start _ _ 2) (omega arith) _ (ap readOf (sym (c .before .before .before .before .before .before .before .before .f .given .1)) ∙ c .before .before .before .before .before .before .before .before .before .before .number-at .ensures)) (omega arith) _ (ap readOf (sym (c .before .before .before .before .g .given .1)) ∙ c .before .before .before .before .before .before .number-at2 .ensures)) (omega arith)) (c .not-listed3 .ensures)
+returns-3 c =
+    list-stop (c .before .before .before .before .before .before .before .before .before .before .before .before .loop .inv)
+    (c .before .before .before .before .before .before .before .before .before .before .before .loop-test .taken) _
+    (sym (not-true _ (c .before .if1 .taken)) ∙ c .before .before .ends .ensures
+    ∙ took-end
+    (took-next
+    (took-next (took-start _ _ 2) (omega arith) _
+    (ap readOf (sym (c .before .before .before .before .before .before .before .before .f .given .1))
+    ∙ c .before .before .before .before .before .before .before .before .before .before .number-at .ensures))
+    (omega arith) _ (ap readOf (sym (c .before .before .before .before .g .given .1)) ∙ c .before .before .before .before .before .before .number-at2 .ensures))
+    (omega arith))
+    (c .not-listed3 .ensures)
 
 add-x : tie.Need-add-x Inv-loop μ-loop
 add-x c = omega (arith, c .before .before .before .before .before .before .before .before .before .before .before .loop .inv .few)
@@ -87,7 +107,9 @@ array-write-d-4 : tie.Need-array-write-d-4 Inv-loop μ-loop
 array-write-d-4 c = omega (arith, c .before .before .before .before .before .before .before .before .before .before .before .loop .inv .few)
 
 add-at : tie.Need-add-at Inv-loop μ-loop
-add-at c = omega (arith, c .before .before .before .before .before .before .before .before .before .before .before .loop .inv .few, c .before .before .before .before .before .before .before .before .before .before .before .loop .inv .at-line)
+add-at c =
+    omega
+    (arith, c .before .before .before .before .before .before .before .before .before .before .before .loop .inv .few, c .before .before .before .before .before .before .before .before .before .before .before .loop .inv .at-line)
 
 add-i : tie.Need-add-i Inv-loop μ-loop
 add-i c = omega arith
@@ -96,7 +118,16 @@ loop-less : tie.Need-loop-less Inv-loop μ-loop
 loop-less c = omega arith
 
 loop-again : tie.Need-loop-again Inv-loop μ-loop
-loop-again c = let w = (took-next (took-next (took-start _ _ 2) (omega arith) _ (ap readOf (sym (c .before .before .before .before .before .before .before .f .given .1)) ∙ c .before .before .before .before .before .before .before .before .before .number-at .ensures)) (omega arith) _ (ap readOf (sym (c .before .before .before .g .given .1)) ∙ c .before .before .before .before .before .number-at2 .ensures)) in list-next (c .before .before .before .before .before .before .before .before .before .before .before .loop .inv) (c .before .before .before .before .before .before .before .before .before .before .loop-test .taken) _ _ (sym (took-end w (omega arith)) ∙ sym (c .before .ends .ensures) ∙ not-false _ (c .if1 .left)) (w .values)
+loop-again c =
+    let w =
+    (took-next
+    (took-next (took-start _ _ 2) (omega arith) _
+    (ap readOf (sym (c .before .before .before .before .before .before .before .f .given .1))
+    ∙ c .before .before .before .before .before .before .before .before .before .number-at .ensures))
+    (omega arith) _ (ap readOf (sym (c .before .before .before .g .given .1)) ∙ c .before .before .before .before .before .number-at2 .ensures)) in
+    list-next (c .before .before .before .before .before .before .before .before .before .before .before .loop .inv)
+    (c .before .before .before .before .before .before .before .before .before .before .loop-test .taken) _ _
+    (sym (took-end w (omega arith)) ∙ sym (c .before .ends .ensures) ∙ not-false _ (c .if1 .left)) (w .values)
 
 returns-4 : tie.Need-returns-4 Inv-loop μ-loop
 returns-4 c = list-end (c .before .loop .inv) (c .loop-test .left) _ refl

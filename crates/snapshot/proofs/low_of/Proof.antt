@@ -1,4 +1,4 @@
--- `snapshot::low_of` meets its contract. Assumes nothing.
+-- `snapshot::low_of` meets its contract: the fences rise, so that one more than a fence before the last fits. Assumes nothing.
 use native.Mathlib.Omega.{arith}
 use borrow.Author.Tests.{eq-eqb, ne-eqb}
 use Rattle.snapshot.specs.Texts.{lowOf}
@@ -21,7 +21,10 @@ shared-slice-read-result : tie.Need-shared-slice-read-result
 shared-slice-read-result c = search needs
 
 add-result : tie.Need-add-result
-add-result c = let a = c .before .before .args in let p = c .before .before .pre in omega (arith, rises-to (a .fences .now) (a .p) (p .1) (c .before .if1 .left) (p .0), c .shared-slice-known .given (a .p))
+add-result c =
+    let a = c .before .before .args in
+    let p = c .before .before .pre in
+    omega (arith, rises-to (a .fences .now) (a .p) (p .1) (c .before .if1 .left) (p .0), c .shared-slice-known .given (a .p))
 
 returns-2 : tie.Need-returns-2
 unfolding lowOf

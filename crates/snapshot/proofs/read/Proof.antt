@@ -1,13 +1,16 @@
 -- `snapshot::read` meets its contract: a refused text leaves the slices; the lines of an accepted one are good, so that each slice takes its column. Assumes nothing.
 use Prim.Native.Nat.{ℕ}
-use mathlib.Core.Path.{sym, _∙_}
+use mathlib.Core.Path.{_≡_, sym, _∙_}
 use mathlib.Core.List.{List}
 use native.Mathlib.Omega.{arith}
 use borrow.Author.Needs.{needs}
 use borrow.Author.Tests.{not-true, not-false}
 use lib.ListN.{length}
+use mathlib.Core.Bool.{true}
+use Rattle.model.specs.Blocks.{slicesOk}
 use Rattle.model.proofs.Tests.{of-true}
 use Rattle.model.proofs.WriteLaws.{Sliced, sliced}
+use Rattle.snapshot.specs.Answers.{judgedOf}
 use Rattle.snapshot.proofs.ReadAnswers.{Stored, stored, read-three, read-refused, read-done}
 use Rattle.snapshot.proofs.read.Statement.{statement}
 use Rattle.snapshot.proofs.read.Tie as tie
@@ -17,11 +20,24 @@ use Rattle.snapshot.proofs.read.Tie as tie
 abbrev text : tie.Else2 → List ℕ
 text c = c .before .before .before .before .before .before .before .before .before .before .before .args .text .now
 
-lent : (c : tie.Else2) → Stored (text c) (length (c .before .before .before .before .before .before .before .before .before .before .before .args .growers .now)) (c .before .judge .result)
-lent c = stored _ _ _ (c .before .judge .ensures) (c .if2 .left)
+abbrev from : tie.Else2 → tie.Start
+from c = c .before .before .before .before .before .before .before .before .before .before .before
 
-slices : (c : tie.Else2) → Sliced (c .before .before .before .before .before .before .before .before .before .before .before .args .growers .now) (c .before .before .before .before .before .before .before .before .before .before .before .args .weights .now) (c .before .before .before .before .before .before .before .before .before .before .before .args .yields .now)
-slices c = sliced _ _ _ (of-true _ (sym (c .before .before .before .slices-ok .ensures) ∙ not-false _ (c .before .before .if1 .left)))
+judged : (c : tie.Else2) → c .before .judge .result ≡ judgedOf (text c) (length (from c .args .growers .now))
+judged c = c .before .judge .ensures
+
+even : (c : tie.Else2) → slicesOk (from c .args .growers .now) (from c .args .weights .now) (from c .args .yields .now) ≡ true
+even c = sym (c .before .before .before .slices-ok .ensures) ∙ not-false _ (c .before .before .if1 .left)
+
+lent : (c : tie.Else2) → Stored (text c) (length (from c .args .growers .now)) (c .before .judge .result)
+lent c = stored _ _ _ (judged c) (c .if2 .left)
+
+slices : (c : tie.Else2) → Sliced (from c .args .growers .now) (from c .args .weights .now) (from c .args .yields .now)
+slices c = sliced _ _ _ (of-true _ (even c))
+
+-- the end, past the stores
+abbrev passed : tie.After-directory → tie.Else2
+passed c = c .before .before .before .before .before .before .before .before .before .before .before .before .before
 
 slices-ok-requires : tie.Need-slices-ok-requires
 slices-ok-requires c κs = search needs
@@ -57,7 +73,9 @@ same-length-6 : tie.Need-same-length-6
 same-length-6 c = search needs
 
 returns-2 : tie.Need-returns-2
-returns-2 c = read-refused _ _ _ _ (sym (c .before .before .before .before .slices-ok .ensures) ∙ not-false _ (c .before .before .before .if1 .left)) _ (c .before .before .judge .ensures) _ (c .before .if2 .taken) (c .refused2 .ensures)
+returns-2 c =
+    read-refused _ _ _ _ (sym (c .before .before .before .before .slices-ok .ensures) ∙ not-false _ (c .before .before .before .if1 .left)) _ (c .before .before .judge .ensures) _
+    (c .before .if2 .taken) (c .refused2 .ensures)
 
 store-requires : tie.Need-store-requires
 store-requires c κs = let w = lent (c .before) in (omega (arith, w .begins), w .used, w .room, w .growers)
@@ -66,7 +84,9 @@ add-store : tie.Need-add-store
 add-store c = omega (arith, lent (c .before .before .before .before) .begins)
 
 store-requires-2 : tie.Need-store-requires-2
-store-requires-2 c κs = let w = lent (c .before .before .before .before .before) in (omega (arith, w .begins), w .used, omega (arith, w .room, slices (c .before .before .before .before .before) .weights), w .weights)
+store-requires-2 c κs =
+    let w = lent (c .before .before .before .before .before) in
+    (omega (arith, w .begins), w .used, omega (arith, w .room, slices (c .before .before .before .before .before) .weights), w .weights)
 
 mul-store : tie.Need-mul-store
 mul-store c = search needs
@@ -75,7 +95,9 @@ add-store-2 : tie.Need-add-store-2
 add-store-2 c = omega (arith, lent (c .before .before .before .before .before .before .before .before) .begins)
 
 store-requires-3 : tie.Need-store-requires-3
-store-requires-3 c κs = let w = lent (c .before .before .before .before .before .before .before .before .before) in (omega (arith, w .begins), w .used, omega (arith, w .room, slices (c .before .before .before .before .before .before .before .before .before) .yields), w .yields)
+store-requires-3 c κs =
+    let w = lent (c .before .before .before .before .before .before .before .before .before) in
+    (omega (arith, w .begins), w .used, omega (arith, w .room, slices (c .before .before .before .before .before .before .before .before .before) .yields), w .yields)
 
 same-length-7 : tie.Need-same-length-7
 same-length-7 c = search needs
@@ -87,7 +109,10 @@ same-length-9 : tie.Need-same-length-9
 same-length-9 c = search needs
 
 returns-3 : tie.Need-returns-3
-returns-3 c = read-done _ _ _ _ (sym (c .before .before .before .before .before .before .before .before .before .before .before .before .before .before .before .before .slices-ok .ensures) ∙ not-false _ (c .before .before .before .before .before .before .before .before .before .before .before .before .before .before .before .if1 .left)) _ (c .before .before .before .before .before .before .before .before .before .before .before .before .before .before .judge .ensures) (c .before .before .before .before .before .before .before .before .before .before .before .before .before .if2 .left) _ _ _ (c .before .before .before .before .before .before .before .before .before .before .before .store .ensures) (c .before .before .before .before .before .before .before .store2 .ensures) (c .before .before .before .store3 .ensures)
+returns-3 c =
+    let e = passed c in
+    read-done _ _ _ _ (even e) _ (judged e) (e .if2 .left) _ _ _ (c .before .before .before .before .before .before .before .before .before .before .before .store .ensures)
+    (c .before .before .before .before .before .before .before .store2 .ensures) (c .before .before .before .store3 .ensures)
 
 pub read-spec : {M : Type 1} → statement M
 read-spec =

@@ -52,7 +52,9 @@ between-requires : tie.Need-between-requires Inv-loop μ-loop
 between-requires c κs = search needs
 
 returns : tie.Need-returns Inv-loop μ-loop
-returns c = sound-stop (c .before .before .before .before .before .before .loop-test .taken) (c .before .before .before .before .before .before .before .loop .inv) _ (c .before .before .before .low-of .ensures) (c .before .before .high-of .ensures) (c .before .between .ensures) (not-true _ (c .if1 .taken))
+returns c =
+    sound-stop (c .before .before .before .before .before .before .loop-test .taken) (c .before .before .before .before .before .before .before .loop .inv) _
+    (c .before .before .before .low-of .ensures) (c .before .before .high-of .ensures) (c .before .between .ensures) (not-true _ (c .if1 .taken))
 
 add-p : tie.Need-add-p Inv-loop μ-loop
 add-p c = omega arith
@@ -61,7 +63,9 @@ loop-less : tie.Need-loop-less Inv-loop μ-loop
 loop-less c = omega arith
 
 loop-again : tie.Need-loop-again Inv-loop μ-loop
-loop-again c = sound-next (c .before .before .before .before .before .before .loop-test .taken) (c .before .before .before .before .before .before .before .loop .inv) _ (c .before .before .before .low-of .ensures) (c .before .before .high-of .ensures) (c .before .between .ensures) (not-false _ (c .if1 .left))
+loop-again c =
+    sound-next (c .before .before .before .before .before .before .loop-test .taken) (c .before .before .before .before .before .before .before .loop .inv) _
+    (c .before .before .before .low-of .ensures) (c .before .before .high-of .ensures) (c .before .between .ensures) (not-false _ (c .if1 .left))
 
 returns-2 : tie.Need-returns-2 Inv-loop μ-loop
 returns-2 c = sound-end (c .loop-test .left) (c .before .loop .inv)

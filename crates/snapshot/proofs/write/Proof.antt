@@ -27,7 +27,8 @@ can c = can-write (col c) (from c .args .text .now) _ (c .before .check-write .e
 
 -- each slice has the used slots
 lengths : (c : tie.Else1)
-    → (c .before .check-write .result .used ≤ length (col c .growers)) × (c .before .check-write .result .used ≤ length (col c .weights)) × (c .before .check-write .result .used ≤ length (col c .yields))
+    → (c .before .check-write .result .used ≤ length (col c .growers)) × (c .before .check-write .result .used ≤ length (col c .weights)) ×
+    (c .before .check-write .result .used ≤ length (col c .yields))
 lengths c = let w = can c in let l = w .lent in (omega (arith, w .used, l .room), omega (arith, w .used, l .room, l .sl .weights), omega (arith, w .used, l .room, l .sl .yields))
 
 check-write-requires : tie.Need-check-write-requires
@@ -82,10 +83,16 @@ part-put-parts-start-2 : tie.Need-part-put-parts-start-2
 part-put-parts-start-2 c = search needs
 
 part-put-parts-end-2 : tie.Need-part-put-parts-end-2
-part-put-parts-end-2 c = let w = can (c .before .before .before .before .before .before .before .before .before) in let l = w .lent in omega (arith, l .size, l .few, w .used, w .room, l .room, l .sl .most)
+part-put-parts-end-2 c =
+    let w = can (c .before .before .before .before .before .before .before .before .before) in
+    let l = w .lent in
+    omega (arith, l .size, l .few, w .used, w .room, l .room, l .sl .most)
 
 put-parts-requires : tie.Need-put-parts-requires
-put-parts-requires c κs = let w = can (c .before .before .before .before .before .before .before .before .before .before) in let a = asked (col (c .before .before .before .before .before .before .before .before .before .before)) (w .lent) in (a .even, omega (arith, a .many, w .room))
+put-parts-requires c κs =
+    let w = can (c .before .before .before .before .before .before .before .before .before .before) in
+    let a = asked (col (c .before .before .before .before .before .before .before .before .before .before)) (w .lent) in
+    (a .even, omega (arith, a .many, w .room))
 
 slice-aggregate-put-rows : tie.Need-slice-aggregate-put-rows
 slice-aggregate-put-rows c = sym (length-take-le _ _ (lengths (c .before .before .before .before .before .before .before .before .before .before .before .before .before .before .before) .0))
@@ -94,22 +101,40 @@ slice-aggregate-put-rows-2 : tie.Need-slice-aggregate-put-rows-2
 slice-aggregate-put-rows-2 c = sym (length-take-le _ _ (lengths (c .before .before .before .before .before .before .before .before .before .before .before .before .before .before .before .before) .1))
 
 slice-aggregate-put-rows-3 : tie.Need-slice-aggregate-put-rows-3
-slice-aggregate-put-rows-3 c = sym (length-take-le _ _ (lengths (c .before .before .before .before .before .before .before .before .before .before .before .before .before .before .before .before .before) .2))
+slice-aggregate-put-rows-3 c =
+    sym
+    (length-take-le _ _ (lengths (c .before .before .before .before .before .before .before .before .before .before .before .before .before .before .before .before .before) .2))
 
 put-rows-requires : tie.Need-put-rows-requires
-put-rows-requires c κs = let w = can (c .before .before .before .before .before .before .before .before .before .before .before .before .before .before .before .before .before) in let l = lengths (c .before .before .before .before .before .before .before .before .before .before .before .before .before .before .before .before .before) in let x = length-take-le _ _ (l .0) in (length-take-le _ _ (l .1) ∙ sym x, length-take-le _ _ (l .2) ∙ sym x, omega (arith, x, w .room, w .used))
+put-rows-requires c κs =
+    let w = can (c .before .before .before .before .before .before .before .before .before .before .before .before .before .before .before .before .before) in
+    let l = lengths (c .before .before .before .before .before .before .before .before .before .before .before .before .before .before .before .before .before) in
+    let x = length-take-le _ _ (l .0) in
+    (length-take-le _ _ (l .1) ∙ sym x, length-take-le _ _ (l .2) ∙ sym x, omega (arith, x, w .room, w .used))
 
 mul-t30 : tie.Need-mul-t30
-mul-t30 c = let w = can (c .before .before .before .before .before .before .before .before .before .before .before .before .before .before .before .before .before .before .before .before) in let l = w .lent in omega (arith, l .size, l .few, w .used, w .room, l .room, l .sl .most)
+mul-t30 c =
+    let w = can
+    (c .before .before .before .before .before .before .before .before .before .before .before .before .before .before .before .before .before .before .before .before) in
+    let l = w .lent in
+    omega (arith, l .size, l .few, w .used, w .room, l .room, l .sl .most)
 
 add-t13 : tie.Need-add-t13
-add-t13 c = let w = can (c .before .before .before .before .before .before .before .before .before .before .before .before .before .before .before .before .before .before .before .before) in let l = w .lent in omega (arith, l .size, l .few, w .used, w .room, l .room, l .sl .most)
+add-t13 c =
+    let w = can
+    (c .before .before .before .before .before .before .before .before .before .before .before .before .before .before .before .before .before .before .before .before) in
+    let l = w .lent in
+    omega (arith, l .size, l .few, w .used, w .room, l .room, l .sl .most)
 
 same-length : tie.Need-same-length
 same-length c = search needs
 
 returns-2 : tie.Need-returns-2
-returns-2 c = let e = c .before .before .before .before .before .before .before .before .before .before .before .before .before .before .before .before .before .before .before .before in write-done (col e) (from e .args .text .now) _ (e .before .check-write .ensures) (e .if1 .left) _ _ _ (c .before .before .before .before .before .before .before .before .before .before .before .before .before .before .before .put-three .ensures) (c .before .before .before .before .before .before .before .before .before .put-parts .ensures) (c .before .before .put-rows .ensures)
+returns-2 c =
+    let e = c .before .before .before .before .before .before .before .before .before .before .before .before .before .before .before .before .before .before .before .before in
+    write-done (col e) (from e .args .text .now) _ (e .before .check-write .ensures) (e .if1 .left) _ _ _
+    (c .before .before .before .before .before .before .before .before .before .before .before .before .before .before .before .put-three .ensures)
+    (c .before .before .before .before .before .before .before .before .before .put-parts .ensures) (c .before .before .put-rows .ensures)
 
 pub write-spec : {M : Type 1} → statement M
 write-spec =
