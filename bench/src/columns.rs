@@ -13,20 +13,20 @@ const WRITES: usize = 32;
 /// Finds and ranges of a batch.
 const READS: usize = 8;
 
-const LIBRARY: Library = Library {
+pub const LIBRARY: Library = Library {
     empty: Empty::Place,
 };
 
 /// The two sides; each has its own column, exchanged after each repetition.
-const OURS: usize = 0;
-const SECOND: usize = 1;
+pub const OURS: usize = 0;
+pub const SECOND: usize = 1;
 
 #[derive(Clone, PartialEq, Eq)]
-struct Column {
-    directory: Vec<u32>,
-    growers: Vec<u32>,
-    weights: Vec<u32>,
-    yields: Vec<u32>,
+pub struct Column {
+    pub directory: Vec<u32>,
+    pub growers: Vec<u32>,
+    pub weights: Vec<u32>,
+    pub yields: Vec<u32>,
 }
 
 #[derive(Clone, Copy)]
@@ -112,13 +112,13 @@ fn make(side: usize, c: &mut Column, calls: &[Call], answers: &mut Vec<Answer>) 
 
 /// Growers spread evenly over all numbers, in the order of the unpartitioned
 /// set, laid in partitions of equal blocks.
-fn laid(r: &mut Random, partitions: usize) -> Column {
-    let step = (1u64 << 32) / USED as u64;
-    let mut growers: Vec<u32> = (0..USED)
+pub fn laid(r: &mut Random, partitions: usize, used: usize) -> Column {
+    let step = (1u64 << 32) / used as u64;
+    let mut growers: Vec<u32> = (0..used)
         .map(|i| (i as u64 * step + r.next() % step) as u32)
         .collect();
-    let mut weights: Vec<u32> = (0..USED).map(|_| r.within(0, 100_000) as u32).collect();
-    let mut yields: Vec<u32> = (0..USED).map(|_| r.within(0, 10_000) as u32).collect();
+    let mut weights: Vec<u32> = (0..used).map(|_| r.within(0, 100_000) as u32).collect();
+    let mut yields: Vec<u32> = (0..used).map(|_| r.within(0, 10_000) as u32).collect();
     for slice in [&mut growers, &mut weights, &mut yields] {
         slice.resize(SLOT_LIMIT, 0);
     }
@@ -127,7 +127,7 @@ fn laid(r: &mut Random, partitions: usize) -> Column {
     let applied = LIBRARY.apply_layout(
         &SetSlices {
             block: BLOCK_LENGTH_LIMIT,
-            used: USED as u32,
+            used: used as u32,
             growers: &growers,
             weights: &weights,
             yields: &yields,
@@ -175,7 +175,7 @@ fn used_delivery(r: &mut Random, c: &Column) -> Delivery {
 
 pub fn run(partitions: usize) {
     let mut r = Random::new(case_seed(100, partitions as u64));
-    let column = laid(&mut r, partitions);
+    let column = laid(&mut r, partitions, USED);
     let sorted: Vec<u32> = column.growers[..USED].to_vec();
     let mut bench = Bench {
         columns: [column.clone(), column],

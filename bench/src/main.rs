@@ -7,6 +7,7 @@ mod columns;
 mod meltusk;
 #[cfg(feature = "plan")]
 mod plans;
+mod snapshots;
 mod timing;
 
 fn main() {
@@ -16,6 +17,9 @@ fn main() {
     );
     for partitions in [1, 8, 64] {
         columns::run(partitions);
+    }
+    for partitions in [1, 64] {
+        snapshots::run(partitions);
     }
     #[cfg(feature = "plan")]
     {

@@ -38,6 +38,14 @@ impl Times {
         }
     }
 
+    /// The least median of either side.
+    pub fn least(&self) -> f64 {
+        self.least
+            .iter()
+            .flatten()
+            .fold(f64::INFINITY, |a, &b| a.min(b))
+    }
+
     pub fn print(&self, call: &str, size: usize) {
         let [ours, second] = self.least.map(|time| time.unwrap_or(f64::NAN));
         println!(
