@@ -17,7 +17,7 @@ use Rattle.model.specs.Column.{soundGrowers}
 use Rattle.model.specs.Fields.{line, lines, Taken, taken, takeLine, takeLines, nth}
 use Rattle.model.specs.Snapshot.{Header, Book, partitionRows, deliveryRow, deliveryOf, bookText, headerOk, headerOf, takeHeader, bookOk, bookOf, readBook, slotsForBook}
 use Rattle.model.proofs.Tests.{and-fst, and-snd, and-mk, is-true, eq→eqb}
-use Rattle.model.proofs.LineLaws.{Through, through, only, Fit, fit-cons, fit-none, fit-first, fit-rest, take-line, TookLine, line-taken, Row, Rows, no-rows, row, take-lines, TookLines, lines-taken}
+use Rattle.model.proofs.LineLaws.{through, only, Fit, fit-cons, fit-none, fit-first, fit-rest, take-line, TookLine, line-taken, Row, Rows, no-rows, row, take-lines, TookLines, lines-taken}
 
 fit-three : (a b c : ℕ) → a ≤ mostNumber → b ≤ mostNumber → c ≤ mostNumber → Fit (a ∷ b ∷ c ∷ [])
 fit-three a b c x y z = fit-cons a (b ∷ c ∷ []) x (fit-cons b (c ∷ []) y (fit-cons c [] z fit-none))

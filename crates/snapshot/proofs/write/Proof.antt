@@ -25,6 +25,13 @@ col c = lent (from c)
 can : (c : tie.Else1) → CanWrite (col c) (from c .args .text .now) (c .before .check-write .result) (c .before .check-write .ensures)
 can c = can-write (col c) (from c .args .text .now) _ (c .before .check-write .ensures) (c .if1 .left)
 
+-- places: line 1 is written, and then the partition lines
+abbrev headed : tie.After-slice-known2 → tie.Else1
+headed c = c .before .before .before .before .before .before .before
+
+abbrev listed : tie.After-slice-known3 → tie.After-slice-known2
+listed c = c .before .before .before .before .before .before
+
 -- each slice has the used slots
 lengths : (c : tie.Else1)
     → (c .before .check-write .result .used ≤ length (col c .growers)) × (c .before .check-write .result .used ≤ length (col c .weights)) ×
@@ -74,7 +81,7 @@ part-put-parts-start : tie.Need-part-put-parts-start
 part-put-parts-start c = search needs
 
 part-put-parts-end : tie.Need-part-put-parts-end
-part-put-parts-end c = let w = can (c .before .before .before .before .before .before .before .before) in let l = w .lent in omega (arith, l .size, l .few, w .used, w .room, l .room, l .sl .most)
+part-put-parts-end c = let w = can (headed (c .before)) in let l = w .lent in omega (arith, l .size, l .few, w .used, w .room, l .room, l .sl .most)
 
 sub-put-parts-2 : tie.Need-sub-put-parts-2
 sub-put-parts-2 c = search needs
@@ -83,57 +90,41 @@ part-put-parts-start-2 : tie.Need-part-put-parts-start-2
 part-put-parts-start-2 c = search needs
 
 part-put-parts-end-2 : tie.Need-part-put-parts-end-2
-part-put-parts-end-2 c =
-    let w = can (c .before .before .before .before .before .before .before .before .before) in
-    let l = w .lent in
-    omega (arith, l .size, l .few, w .used, w .room, l .room, l .sl .most)
+part-put-parts-end-2 c = let w = can (headed (c .before .before)) in let l = w .lent in omega (arith, l .size, l .few, w .used, w .room, l .room, l .sl .most)
 
 put-parts-requires : tie.Need-put-parts-requires
-put-parts-requires c κs =
-    let w = can (c .before .before .before .before .before .before .before .before .before .before) in
-    let a = asked (col (c .before .before .before .before .before .before .before .before .before .before)) (w .lent) in
-    (a .even, omega (arith, a .many, w .room))
+put-parts-requires c κs = let w = can (headed (c .before .before .before)) in let a = asked (col (headed (c .before .before .before))) (w .lent) in (a .even, omega (arith, a .many, w .room))
 
 slice-aggregate-put-rows : tie.Need-slice-aggregate-put-rows
-slice-aggregate-put-rows c = sym (length-take-le _ _ (lengths (c .before .before .before .before .before .before .before .before .before .before .before .before .before .before .before) .0))
+slice-aggregate-put-rows c = sym (length-take-le _ _ (lengths (headed (listed (c .before .before))) .0))
 
 slice-aggregate-put-rows-2 : tie.Need-slice-aggregate-put-rows-2
-slice-aggregate-put-rows-2 c = sym (length-take-le _ _ (lengths (c .before .before .before .before .before .before .before .before .before .before .before .before .before .before .before .before) .1))
+slice-aggregate-put-rows-2 c = sym (length-take-le _ _ (lengths (headed (listed (c .before .before .before))) .1))
 
 slice-aggregate-put-rows-3 : tie.Need-slice-aggregate-put-rows-3
-slice-aggregate-put-rows-3 c =
-    sym
-    (length-take-le _ _ (lengths (c .before .before .before .before .before .before .before .before .before .before .before .before .before .before .before .before .before) .2))
+slice-aggregate-put-rows-3 c = sym (length-take-le _ _ (lengths (headed (listed (c .before .before .before .before))) .2))
 
 put-rows-requires : tie.Need-put-rows-requires
 put-rows-requires c κs =
-    let w = can (c .before .before .before .before .before .before .before .before .before .before .before .before .before .before .before .before .before) in
-    let l = lengths (c .before .before .before .before .before .before .before .before .before .before .before .before .before .before .before .before .before) in
+    let w = can (headed (listed (c .before .before .before .before))) in
+    let l = lengths (headed (listed (c .before .before .before .before))) in
     let x = length-take-le _ _ (l .0) in
     (length-take-le _ _ (l .1) ∙ sym x, length-take-le _ _ (l .2) ∙ sym x, omega (arith, x, w .room, w .used))
 
 mul-t30 : tie.Need-mul-t30
-mul-t30 c =
-    let w = can
-    (c .before .before .before .before .before .before .before .before .before .before .before .before .before .before .before .before .before .before .before .before) in
-    let l = w .lent in
-    omega (arith, l .size, l .few, w .used, w .room, l .room, l .sl .most)
+mul-t30 c = let w = can (headed (listed (c .before .before .before .before .before .before .before))) in let l = w .lent in omega (arith, l .size, l .few, w .used, w .room, l .room, l .sl .most)
 
 add-t13 : tie.Need-add-t13
-add-t13 c =
-    let w = can
-    (c .before .before .before .before .before .before .before .before .before .before .before .before .before .before .before .before .before .before .before .before) in
-    let l = w .lent in
-    omega (arith, l .size, l .few, w .used, w .room, l .room, l .sl .most)
+add-t13 c = let w = can (headed (listed (c .before .before .before .before .before .before .before))) in let l = w .lent in omega (arith, l .size, l .few, w .used, w .room, l .room, l .sl .most)
 
 same-length : tie.Need-same-length
 same-length c = search needs
 
 returns-2 : tie.Need-returns-2
 returns-2 c =
-    let e = c .before .before .before .before .before .before .before .before .before .before .before .before .before .before .before .before .before .before .before .before in
+    let e = headed (listed (c .before .before .before .before .before .before .before)) in
     write-done (col e) (from e .args .text .now) _ (e .before .check-write .ensures) (e .if1 .left) _ _ _
-    (c .before .before .before .before .before .before .before .before .before .before .before .before .before .before .before .put-three .ensures)
+    (listed (c .before .before .before .before .before .before .before) .before .before .put-three .ensures)
     (c .before .before .before .before .before .before .before .before .before .put-parts .ensures) (c .before .before .put-rows .ensures)
 
 pub write-spec : {M : Type 1} → statement M
