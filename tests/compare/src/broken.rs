@@ -9,7 +9,7 @@ use second::{Delivery, BLOCK_LIMIT, FENCES, LENGTHS, SLOT_LIMIT, WEIGHT_LIMIT, Y
 
 /// One change of a column or of a call on it.
 #[derive(Clone, Copy, Debug, PartialEq, Eq)]
-enum Fault {
+pub enum Fault {
     /// Weight or yield of a record that the call scans.
     ScannedWeight(u32),
     ScannedYield(u32),
@@ -44,7 +44,7 @@ enum Fault {
 use Fault::*;
 
 /// Later ones can be put after earlier ones.
-const FAULTS: &[Fault] = &[
+pub const FAULTS: &[Fault] = &[
     ScannedWeight(WEIGHT_LIMIT + 1),
     ScannedWeight(u32::MAX),
     ScannedYield(YIELD_LIMIT + 1),
@@ -115,12 +115,20 @@ fn slice(c: &mut Column, i: usize) -> &mut Vec<u32> {
 }
 
 impl Fault {
-    fn is_large(self) -> bool {
+    pub fn is_large(self) -> bool {
         matches!(self, Length(n) if n > 1_000)
     }
 
+    /// Whether it changes the call and leaves the column.
+    pub fn is_of_call(self) -> bool {
+        matches!(
+            self,
+            OfferedWeight(_) | OfferedYield(_) | RangeFalls | Absent
+        )
+    }
+
     /// Puts the fault; false if it cannot be put here.
-    fn put(self, r: &mut Random, c: &mut Column, call: &mut Call) -> bool {
+    pub fn put(self, r: &mut Random, c: &mut Column, call: &mut Call) -> bool {
         let k = c.directory[1] as usize;
         match self {
             ScannedWeight(_) | ScannedYield(_) | OtherWeight | OtherYield => {
@@ -230,7 +238,7 @@ impl Fault {
     }
 
     /// The refusal of an else accepted call with this fault alone.
-    fn expected(self, call: &Call) -> u32 {
+    pub fn expected(self, call: &Call) -> u32 {
         let on = |yes: bool, number: u32| if yes { number } else { 0 };
         let partition = matches!(call, Call::Partition(_));
         let insert = matches!(call, Call::Insert(_));
@@ -251,7 +259,7 @@ impl Fault {
 }
 
 /// A sound column with records and a free slot.
-fn base(r: &mut Random) -> Column {
+pub fn base(r: &mut Random) -> Column {
     loop {
         let c = inputs::clean_column(r, Kind::Sound);
         let used = c.view().used();

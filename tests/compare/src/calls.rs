@@ -126,7 +126,7 @@ pub struct Pair {
 /// Most slots printed of a failed case.
 const PRINTED: usize = 100;
 
-fn slots_text(growers: &[u32], weights: &[u32], yields: &[u32]) -> String {
+pub fn slots_text(growers: &[u32], weights: &[u32], yields: &[u32]) -> String {
     let lengths = [growers.len(), weights.len(), yields.len()];
     let shown = lengths.iter().min().map_or(0, |&n| n.min(PRINTED));
     let mut text = format!("slice lengths {lengths:?}, slots");
@@ -139,7 +139,7 @@ fn slots_text(growers: &[u32], weights: &[u32], yields: &[u32]) -> String {
     text
 }
 
-fn directory_text(directory: &[u32]) -> String {
+pub fn directory_text(directory: &[u32]) -> String {
     if directory.len() != DIRECTORY {
         return format!("directory {directory:?}");
     }

@@ -6,7 +6,7 @@ use second::random::Random;
 use second::{Delivery, UnlaidSet, DIRECTORY_LEN, FENCES, LENGTHS, WEIGHT_LIMIT, YIELD_LIMIT};
 
 /// A column that owns its slices.
-#[derive(Clone, Debug)]
+#[derive(Clone, Debug, PartialEq, Eq)]
 pub struct Column {
     pub directory: Vec<u32>,
     pub growers: Vec<u32>,

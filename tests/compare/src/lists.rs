@@ -148,7 +148,8 @@ fn largest(run: &mut Run) -> Result<(), String> {
     })
 }
 
-fn main_column() -> Column {
+/// The column of the main case.
+pub fn main_column() -> Column {
     let mut directory = vec![0; DIRECTORY_LEN];
     directory[..2].copy_from_slice(&[2, 2]);
     directory[LENGTHS..LENGTHS + 2].copy_from_slice(&[4, 4]);

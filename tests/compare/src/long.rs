@@ -42,6 +42,11 @@ impl Long {
     fn slice(&mut self) -> &mut [u32] {
         unsafe { std::slice::from_raw_parts_mut(self.address.cast(), self.count) }
     }
+
+    /// As many bytes, of the same memory.
+    fn bytes(&mut self) -> &mut [u8] {
+        unsafe { std::slice::from_raw_parts_mut(self.address.cast(), self.count) }
+    }
 }
 
 impl Drop for Long {
@@ -71,12 +76,18 @@ fn calls(run: &mut Run, column: &mut ColumnSlices, expected: u32) -> Result<(), 
     Ok(())
 }
 
+/// One record in one partition.
+fn one_record() -> [u32; DIRECTORY_LEN] {
+    let mut directory = [0; DIRECTORY_LEN];
+    directory[..2].copy_from_slice(&[1, 1]);
+    directory[LENGTHS] = 1;
+    directory[FENCES] = 9;
+    directory
+}
+
 /// Made only where so many addresses can be reserved; no calls otherwise.
 fn long(run: &mut Run) -> Result<(), String> {
-    let mut proper = [0; DIRECTORY_LEN];
-    proper[..2].copy_from_slice(&[1, 1]);
-    proper[LENGTHS] = 1;
-    proper[FENCES] = 9;
+    let proper = one_record();
     let library = Library { empty: Empty::Null };
     let (Some(mut long_slots), Some(mut long_directory)) = (Long::new(2), Long::new(DIRECTORY_LEN))
     else {
@@ -161,4 +172,49 @@ fn long(run: &mut Run) -> Result<(), String> {
     calls(run, &mut column, 6)
 }
 
-pub const TESTS: &[(&str, Test)] = &[("broken input, slice counts past 32 bits", long)];
+/// The snapshot of one record 0, 0, 0.
+const TEXT: &[u8] = b"          1          1          1
+          1          9
+          0          0          0
+";
+
+/// A long text is no snapshot, a long room is enough, and long slices are
+/// refused by 3.
+fn snapshots(run: &mut Run) -> Result<(), String> {
+    let library = Library { empty: Empty::Null };
+    let directory = one_record();
+    let (Some(mut slots), Some(mut text), Some(mut room)) =
+        (Long::new(1), Long::new(TEXT.len()), Long::new(0))
+    else {
+        return Ok(());
+    };
+    let (mut a, mut b, mut c) = ([0], [0], [0]);
+    text.bytes()[..TEXT.len()].copy_from_slice(TEXT);
+    let read = library.read_snapshot(text.bytes(), &mut a, &mut b, &mut c);
+    let written = library.write_snapshot(&directory, &a, &b, &c, room.bytes());
+    // Each refusal and the one it has to be.
+    let mut refusals = vec![(read.refusal, 14), (written.refusal, 0)];
+    for which in 0..3 {
+        let long = slots.slice();
+        let [g, w, y] = match which {
+            0 => [long, &mut a, &mut b],
+            1 => [&mut a, long, &mut b],
+            _ => [&mut a, &mut b, long],
+        };
+        let mut out = [0; TEXT.len()];
+        let written = library.write_snapshot(&directory, g, w, y, &mut out);
+        let read = library.read_snapshot(TEXT, g, w, y);
+        refusals.extend([(written.refusal, 3), (read.refusal, 3)]);
+    }
+    run.snapshots.calls += refusals.len() as u64;
+    let right = refusals.iter().all(|(is, should)| is == should);
+    match right && &room.bytes()[..TEXT.len()] == TEXT {
+        true => Ok(()),
+        false => Err(format!("refusals {refusals:?}, {written:?}")),
+    }
+}
+
+pub const TESTS: &[(&str, Test)] = &[
+    ("broken input, slice counts past 32 bits", long),
+    ("snapshots: slice counts past 32 bits", snapshots),
+];

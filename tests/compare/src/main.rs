@@ -21,6 +21,7 @@ mod memory;
 #[cfg(feature = "plan")]
 mod plan;
 mod seen;
+mod snapshots;
 
 use second::random::{case_seed, Random};
 use seen::Seen;
@@ -37,6 +38,7 @@ const CHILD: &str = "MELTUSK_COMPARE_CHILD";
 pub struct Run {
     scale: f64,
     pub seen: Seen,
+    pub snapshots: snapshots::seen::Seen,
     #[cfg(feature = "plan")]
     pub planned: plan::seen::Seen,
 }
@@ -50,7 +52,7 @@ impl Run {
         let planned = self.planned.calls;
         #[cfg(not(feature = "plan"))]
         let planned = 0;
-        self.seen.calls + planned
+        self.seen.calls + self.snapshots.calls + planned
     }
 
     /// Random cases of one test, each with its own seed. `count` is that of
@@ -84,6 +86,7 @@ fn tests() -> Vec<(&'static str, Test)> {
     tests.extend(long::TESTS);
     tests.extend(layouts::TESTS);
     tests.push(("every answer of every call has occurred", every_answer));
+    tests.extend(snapshots::TESTS);
     #[cfg(feature = "plan")]
     tests.extend(plan::TESTS);
     tests
@@ -94,6 +97,7 @@ fn run_tests(scale: f64) {
     let mut run = Run {
         scale,
         seen: Seen::default(),
+        snapshots: snapshots::seen::Seen::default(),
         #[cfg(feature = "plan")]
         planned: plan::seen::Seen::default(),
     };

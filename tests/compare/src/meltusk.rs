@@ -43,8 +43,15 @@ pub struct PartitionSlice {
     pub count: u32,
 }
 
+#[repr(C)]
+#[derive(Clone, Copy, Debug, PartialEq, Eq)]
+pub struct Written {
+    pub refusal: u32,
+    pub bytes: u64,
+}
+
 mod declared {
-    use super::{Answer, Applied, PartitionSlice};
+    use super::{Answer, Applied, PartitionSlice, Written};
 
     extern "C" {
         pub fn meltusk_apply_layout(
@@ -135,6 +142,30 @@ mod declared {
             growers_count: usize,
             grower: u32,
         ) -> PartitionSlice;
+
+        pub fn meltusk_write_snapshot(
+            directory: *const u32,
+            directory_count: usize,
+            growers: *const u32,
+            growers_count: usize,
+            weights: *const u32,
+            weights_count: usize,
+            yields: *const u32,
+            yields_count: usize,
+            text: *mut u8,
+            text_count: usize,
+        ) -> Written;
+
+        pub fn meltusk_read_snapshot(
+            text: *const u8,
+            text_count: usize,
+            growers: *mut u32,
+            growers_count: usize,
+            weights: *mut u32,
+            weights_count: usize,
+            yields: *mut u32,
+            yields_count: usize,
+        ) -> Applied;
     }
 }
 
@@ -173,7 +204,7 @@ pub struct Library {
 
 impl Library {
     #[inline]
-    pub fn pointer(&self, slice: &[u32]) -> *const u32 {
+    pub fn pointer<T>(&self, slice: &[T]) -> *const T {
         if slice.is_empty() && self.empty == Empty::Null {
             std::ptr::null()
         } else {
@@ -182,7 +213,7 @@ impl Library {
     }
 
     #[inline]
-    pub fn pointer_mut(&self, slice: &mut [u32]) -> *mut u32 {
+    pub fn pointer_mut<T>(&self, slice: &mut [T]) -> *mut T {
         if slice.is_empty() && self.empty == Empty::Null {
             std::ptr::null_mut()
         } else {
@@ -315,6 +346,53 @@ impl Library {
                 self.pointer(growers),
                 growers.len(),
                 grower,
+            )
+        }
+    }
+
+    #[inline]
+    pub fn write_snapshot(
+        &self,
+        directory: &[u32],
+        growers: &[u32],
+        weights: &[u32],
+        yields: &[u32],
+        text: &mut [u8],
+    ) -> Written {
+        unsafe {
+            declared::meltusk_write_snapshot(
+                self.pointer(directory),
+                directory.len(),
+                self.pointer(growers),
+                growers.len(),
+                self.pointer(weights),
+                weights.len(),
+                self.pointer(yields),
+                yields.len(),
+                self.pointer_mut(text),
+                text.len(),
+            )
+        }
+    }
+
+    #[inline]
+    pub fn read_snapshot(
+        &self,
+        text: &[u8],
+        growers: &mut [u32],
+        weights: &mut [u32],
+        yields: &mut [u32],
+    ) -> Applied {
+        unsafe {
+            declared::meltusk_read_snapshot(
+                self.pointer(text),
+                text.len(),
+                self.pointer_mut(growers),
+                growers.len(),
+                self.pointer_mut(weights),
+                weights.len(),
+                self.pointer_mut(yields),
+                yields.len(),
             )
         }
     }

@@ -1,26 +1,44 @@
 //! Slices lent to a call, in one allocation with guard elements around each.
 
 use second::random::Random;
+use std::fmt::Display;
 
 /// Most guard elements beside a slice.
 const GUARDS: usize = 8;
 
+/// An element of a slice.
+pub trait Cell: Copy + PartialEq + Display {
+    fn any(r: &mut Random) -> Self;
+}
+
+impl Cell for u32 {
+    fn any(r: &mut Random) -> u32 {
+        r.next() as u32
+    }
+}
+
+impl Cell for u8 {
+    fn any(r: &mut Random) -> u8 {
+        r.next() as u8
+    }
+}
+
 #[derive(Debug)]
-pub struct Memory {
-    cells: Vec<u32>,
+pub struct Memory<T = u32> {
+    cells: Vec<T>,
     /// First cell and the cell past the last of each slice.
     spans: Vec<(usize, usize)>,
 }
 
-impl Clone for Memory {
-    fn clone(&self) -> Memory {
+impl<T: Cell> Clone for Memory<T> {
+    fn clone(&self) -> Memory<T> {
         Memory {
             cells: self.cells.clone(),
             spans: self.spans.clone(),
         }
     }
 
-    fn clone_from(&mut self, other: &Memory) {
+    fn clone_from(&mut self, other: &Memory<T>) {
         self.cells.clone_from(&other.cells);
         self.spans.clone_from(&other.spans);
     }
@@ -28,10 +46,10 @@ impl Clone for Memory {
 
 /// Guards hold numbers of the slice beside them, or any number: a read past
 /// a slice then changes the answer, and a write past it is seen.
-fn push_guards(r: &mut Random, cells: &mut Vec<u32>, beside: &[u32]) {
+fn push_guards<T: Cell>(r: &mut Random, cells: &mut Vec<T>, beside: &[T]) {
     for _ in 0..r.within(1, GUARDS) {
         let guard = if beside.is_empty() || r.one_in(2) {
-            r.next() as u32
+            T::any(r)
         } else {
             beside[r.below(beside.len())]
         };
@@ -39,8 +57,8 @@ fn push_guards(r: &mut Random, cells: &mut Vec<u32>, beside: &[u32]) {
     }
 }
 
-impl Memory {
-    pub fn new(r: &mut Random, slices: &[&[u32]]) -> Memory {
+impl<T: Cell> Memory<T> {
+    pub fn new(r: &mut Random, slices: &[&[T]]) -> Memory<T> {
         let total: usize = slices.iter().map(|s| s.len()).sum();
         let mut cells = Vec::with_capacity(total + GUARDS * (slices.len() + 1));
         let mut spans = Vec::with_capacity(slices.len());
@@ -54,13 +72,18 @@ impl Memory {
         Memory { cells, spans }
     }
 
-    pub fn slice(&self, i: usize) -> &[u32] {
+    /// The last `n` cells of a slice become guards.
+    pub fn shorten(&mut self, i: usize, n: usize) {
+        self.spans[i].1 -= n;
+    }
+
+    pub fn slice(&self, i: usize) -> &[T] {
         let (first, past) = self.spans[i];
         &self.cells[first..past]
     }
 
     /// The first N slices, to be lent to one call.
-    pub fn lend<const N: usize>(&mut self) -> [&mut [u32]; N] {
+    pub fn lend<const N: usize>(&mut self) -> [&mut [T]; N] {
         let mut rest = self.cells.as_mut_slice();
         let mut at = 0;
         std::array::from_fn(|i| {
@@ -75,12 +98,12 @@ impl Memory {
 
     /// Whether slices and guards are the same. The memory may have been
     /// written anywhere meanwhile.
-    pub fn equals(&self, other: &Memory) -> bool {
+    pub fn equals(&self, other: &Memory<T>) -> bool {
         std::hint::black_box(&self.cells) == std::hint::black_box(&other.cells)
     }
 
     /// The first cell that differs from the second implementation's.
-    pub fn difference(&self, second: &Memory, names: &[&str]) -> Option<String> {
+    pub fn difference(&self, second: &Memory<T>, names: &[&str]) -> Option<String> {
         let at = (0..self.cells.len()).find(|&i| self.cells[i] != second.cells[i])?;
         let values = format!("{} for {}", self.cells[at], second.cells[at]);
         for (&(first, past), name) in self.spans.iter().zip(names) {

@@ -1,0 +1,195 @@
+//! A snapshot written or read by both implementations, and the comparison
+//! after it.
+
+use super::seen::Seen;
+use crate::calls::{directory_text, of_applied, slots_text};
+use crate::inputs::Column;
+use crate::meltusk::{Applied, Library, Written, DIRECTORY};
+use crate::memory::{Cell, Memory};
+use second::random::Random;
+use second::{snapshot_size, BLOCK_LIMIT, LENGTHS};
+
+/// Order of the slices of a column in its memory.
+const NAMES: [&str; 4] = ["growers", "weights", "yields", "directory"];
+
+/// Most bytes printed of a failed case.
+const PRINTED: usize = 2_000;
+
+/// A text to be read.
+#[derive(Clone, Debug)]
+pub struct Text {
+    bytes: Vec<u8>,
+    /// The first of them are lent. The others were cut off and stand behind
+    /// the text: a read past its end finds what was there.
+    lent: usize,
+}
+
+impl Text {
+    pub fn new(mut lent: Vec<u8>, cut: &[u8]) -> Text {
+        let count = lent.len();
+        lent.extend_from_slice(cut);
+        Text {
+            bytes: lent,
+            lent: count,
+        }
+    }
+
+    pub fn whole(bytes: &[u8]) -> Text {
+        Text::new(bytes.to_vec(), &[])
+    }
+
+    pub fn lent(&self) -> &[u8] {
+        &self.bytes[..self.lent]
+    }
+}
+
+/// Bytes of the text of a column whose directory has its shape.
+pub fn size(c: &Column) -> usize {
+    snapshot_size(c.view().used(), c.view().partitions())
+}
+
+/// The text that the second implementation writes of a column.
+pub fn text_of(c: &Column) -> Result<Vec<u8>, String> {
+    let mut text = vec![0; size(c)];
+    let a = second::snapshot_write(&c.growers, &c.weights, &c.yields, &c.directory, &mut text);
+    match a.refusal {
+        0 => Ok(text),
+        number => Err(format!("the second implementation wrote no text: {number}")),
+    }
+}
+
+/// Slots as they may be before reading; none is 0.
+pub fn old_slots(r: &mut Random, lengths: [usize; 3]) -> [Vec<u32>; 3] {
+    lengths.map(|n| {
+        (0..n)
+            .map(|_| r.within(1, u32::MAX as usize) as u32)
+            .collect()
+    })
+}
+
+fn memory_text<T: Cell>(after: &Memory<T>, expected: &Memory<T>, names: &[&str]) -> String {
+    match after.difference(expected, names) {
+        Some(text) => format!("{} differ, first {text}", names.join(", ")),
+        None => format!("{} the same", names.join(", ")),
+    }
+}
+
+fn shown(text: &[u8]) -> String {
+    let more = if text.len() > PRINTED { " .." } else { "" };
+    let first = &text[..text.len().min(PRINTED)];
+    format!("{} bytes \"{}\"{more}", text.len(), first.escape_ascii())
+}
+
+/// Writes a column by both into `room` bytes; compares answers, texts, slices
+/// and guards. Answers the refusal and the bytes that the library wrote.
+pub fn write(
+    r: &mut Random,
+    seen: &mut Seen,
+    library: &Library,
+    c: &Column,
+    room: usize,
+) -> Result<(u32, Vec<u8>), String> {
+    let old: Vec<u8> = (0..room).map(|_| r.within(1, 255) as u8).collect();
+    let mut compiled_text = Memory::new(r, &[&old]);
+    let mut second_text = compiled_text.clone();
+    let mut slots = Memory::new(r, &[&c.growers, &c.weights, &c.yields, &c.directory]);
+    let before = slots.clone();
+    let [growers, weights, yields, directory] = slots.lend();
+    let [text] = compiled_text.lend();
+    let compiled = library.write_snapshot(directory, growers, weights, yields, text);
+    let [text] = second_text.lend();
+    let answer = second::snapshot_write(&c.growers, &c.weights, &c.yields, &c.directory, text);
+    let second = Written {
+        refusal: answer.refusal,
+        bytes: answer.written as u64,
+    };
+    seen.note_write(c, room, second.refusal);
+    let text = compiled_text.slice(0);
+    let same = compiled == second && compiled_text.equals(&second_text) && slots.equals(&before);
+    if same && text[answer.written..] == old[answer.written..] {
+        return Ok((second.refusal, text[..answer.written].to_vec()));
+    }
+    Err(format!(
+        "write_snapshot: compiled {compiled:?}, second {second:?}; {}; {}; text {}, room {room}, {}, {}",
+        memory_text(&compiled_text, &second_text, &["text"]),
+        memory_text(&slots, &before, &NAMES),
+        shown(text),
+        directory_text(&c.directory),
+        slots_text(&c.growers, &c.weights, &c.yields)
+    ))
+}
+
+/// Whether an answer leaves what it has to: the slots past M if accepted, all
+/// slots and a directory of zeros if refused.
+fn leaves(answer: &Applied, before: &Memory, after: &Memory) -> bool {
+    let lengths = &answer.directory[LENGTHS..LENGTHS + BLOCK_LIMIT];
+    let used: usize = lengths.iter().map(|&n| n as usize).sum();
+    let zeros = answer.directory == [0; DIRECTORY];
+    (0..3).all(|i| before.slice(i)[used..] == after.slice(i)[used..])
+        && (answer.refusal != 0) == zeros
+}
+
+/// Reads a text by both into slots that hold `old`; compares answers, slices,
+/// text and guards. Answers the refusal and the library's column.
+pub fn read(
+    r: &mut Random,
+    seen: &mut Seen,
+    library: &Library,
+    text: &Text,
+    old: &[Vec<u32>; 3],
+) -> Result<(u32, Column), String> {
+    let mut lent = Memory::new(r, &[&text.bytes]);
+    lent.shorten(0, text.bytes.len() - text.lent);
+    let lent_before = lent.clone();
+    let mut compiled_slots = Memory::new(r, &[&old[0], &old[1], &old[2]]);
+    let mut second_slots = compiled_slots.clone();
+    let before = compiled_slots.clone();
+    let [bytes] = lent.lend();
+    let [growers, weights, yields] = compiled_slots.lend();
+    let compiled = library.read_snapshot(bytes, growers, weights, yields);
+    let [growers, weights, yields] = second_slots.lend();
+    let second = of_applied(second::snapshot_read(text.lent(), growers, weights, yields));
+    seen.note_read(&second, old[0].len());
+    let same =
+        compiled == second && compiled_slots.equals(&second_slots) && lent.equals(&lent_before);
+    if same && leaves(&compiled, &before, &compiled_slots) {
+        let column = Column {
+            directory: compiled.directory.to_vec(),
+            growers: compiled_slots.slice(0).to_vec(),
+            weights: compiled_slots.slice(1).to_vec(),
+            yields: compiled_slots.slice(2).to_vec(),
+        };
+        return Ok((second.refusal, column));
+    }
+    Err(format!(
+        "read_snapshot: compiled {} with {}, second {} with {}; {}; {}; text {}, before: {}",
+        compiled.refusal,
+        directory_text(&compiled.directory),
+        second.refusal,
+        directory_text(&second.directory),
+        memory_text(&compiled_slots, &second_slots, &NAMES[..3]),
+        memory_text(&lent, &lent_before, &["text"]),
+        shown(text.lent()),
+        slots_text(&old[0], &old[1], &old[2])
+    ))
+}
+
+/// Reads a text; one that is accepted is written again and has to give the
+/// same bytes.
+pub fn read_back(
+    r: &mut Random,
+    seen: &mut Seen,
+    library: &Library,
+    text: &Text,
+    old: &[Vec<u32>; 3],
+) -> Result<(u32, Column), String> {
+    let (refusal, column) = read(r, seen, library, text, old)?;
+    if refusal == 0 {
+        let (refusal, again) = write(r, seen, library, &column, text.lent)?;
+        if refusal != 0 || again != text.lent() {
+            let (was, is) = (shown(text.lent()), shown(&again));
+            return Err(format!("read and written, {refusal}: {was}, then {is}"));
+        }
+    }
+    Ok((refusal, column))
+}
