@@ -1,7 +1,8 @@
 -- `snapshot::judge_delivery` meets its contract: each number that is missing, the line's end, the fences or the range refuses the line. Assumes nothing.
 use mathlib.Core.Path.{_≡_, sym, ap, _∙_}
 use mathlib.Core.Bool.{true}
-use mathlib.Core.List.{[], _∷_}
+use Prim.Native.Nat.{ℕ}
+use mathlib.Core.List.{List, [], _∷_}
 use native.Mathlib.Omega.{arith}
 use borrow.Author.Needs.{needs}
 use borrow.Author.Tests.{not-true, not-false}
@@ -12,29 +13,34 @@ use Rattle.snapshot.proofs.Judging.{line-fails, below-low, above-high, 
 use Rattle.snapshot.proofs.judge_delivery.Statement.{statement}
 use Rattle.snapshot.proofs.judge_delivery.Tie as tie
 
--- The numbers taken so far.
+-- The numbers of the line that have been taken.
 
 abbrev from : tie.After-f → tie.Start
 from c = c .before .before .before .before
 
-one : (c : tie.After-f) → Took (from (c) .args .text .now) (from (c) .args .at) 3 1 (c .f .given .0 .1 .0) (c .f .given .0 .0 ∷ [])
+one : (c : tie.After-f) → Took (from c .args .text .now) (from c .args .at) 3 1 (c .f .given .0 .1 .0) (c .f .given .0 .0 ∷ [])
 one c = took-next (took-start _ _ 3) (omega arith) _ (ap readOf (sym (c .f .given .1)) ∙ c .before .before .number-at .ensures)
 
-two : (c : tie.After-g)
-    → Took (from (c .before .before .before .before) .args .text .now) (from (c .before .before .before .before) .args .at) 3 2 (c .g .given .0 .1 .0)
-    (c .before .before .before .before .f .given .0 .0 ∷ c .g .given .0 .0 ∷ [])
-two c = took-next (one (c .before .before .before .before)) (omega arith) _ (ap readOf (sym (c .g .given .1)) ∙ c .before .before .number-at2 .ensures)
+abbrev first : tie.After-g → tie.After-f
+first c = c .before .before .before .before
 
-three : (c : tie.After-h)
-    → Took (from (c .before .before .before .before .before .before .before .before) .args .text .now)
-    (from (c .before .before .before .before .before .before .before .before) .args .at) 3 3 (c .h .given .0 .1 .0)
-    (c .before .before .before .before .before .before .before .before .f .given .0 .0 ∷ c .before .before .before .before .g .given .0 .0 ∷ c .h .given .0 .0 ∷ [])
-three c = took-next (two (c .before .before .before .before)) (omega arith) _ (ap readOf (sym (c .h .given .1)) ∙ c .before .before .number-at3 .ensures)
+two : (c : tie.After-g) → Took (from (first c) .args .text .now) (from (first c) .args .at) 3 2 (c .g .given .0 .1 .0) (first c .f .given .0 .0 ∷ c .g .given .0 .0 ∷ [])
+two c = took-next (one (first c)) (omega arith) _ (ap readOf (sym (c .g .given .1)) ∙ c .before .before .number-at2 .ensures)
+
+abbrev second : tie.After-h → tie.After-g
+second c = c .before .before .before .before
+
+abbrev numbers : tie.After-h → List ℕ
+numbers c = first (second c) .f .given .0 .0 ∷ second c .g .given .0 .0 ∷ c .h .given .0 .0 ∷ []
+
+three : (c : tie.After-h) → Took (from (first (second c)) .args .text .now) (from (first (second c)) .args .at) 3 3 (c .h .given .0 .1 .0) (numbers c)
+three c = took-next (two (second c)) (omega arith) _ (ap readOf (sym (c .h .given .1)) ∙ c .before .before .number-at3 .ensures)
 
 -- an LF behind them: the line is good
-line-ends : (c : tie.Else1)
-    → lineOk 3 (from (c .before .before .before .before .before .before .before .before .before .before .before) .args .at)
-    (from (c .before .before .before .before .before .before .before .before .before .before .before) .args .text .now) ≡ true
+abbrev start : tie.Else1 → tie.Start
+start c = from (first (second (c .before .before .before)))
+
+line-ends : (c : tie.Else1) → lineOk 3 (start c .args .at) (start c .args .text .now) ≡ true
 line-ends c = sym (took-end (three (c .before .before .before)) (omega arith)) ∙ sym (c .before .ends .ensures) ∙ not-false _ (c .if1 .left)
 
 number-at-requires : tie.Need-number-at-requires

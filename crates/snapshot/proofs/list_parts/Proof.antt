@@ -1,7 +1,7 @@
 -- `snapshot::list_parts` meets its contract. The loop's invariant: the numbers so far are those of the lines passed. Assumes nothing.
-use Prim.Native.Nat.{_-_}
+use Prim.Native.Nat.{ℕ, _-_}
 use mathlib.Core.Path.{refl, sym, ap, _∙_}
-use mathlib.Core.List.{[], _∷_}
+use mathlib.Core.List.{List, [], _∷_}
 use native.Mathlib.Omega.{arith}
 use borrow.Author.Needs.{needs}
 use borrow.Author.Tests.{not-true, not-false}
@@ -16,6 +16,23 @@ Inv-loop text block k d₀ i₀ at₀ d i at = Listing text block k d i at
 
 abbrev μ-loop : tie.MeasureT-loop
 μ-loop text block k d₀ i₀ at₀ d i at = k - i
+
+-- The numbers of a line that have been taken.
+
+abbrev from : tie.After-f Inv-loop μ-loop → tie.At-loop Inv-loop μ-loop
+from c = c .before .before .before .before
+
+abbrev text : tie.After-f Inv-loop μ-loop → List ℕ
+text c = c .before .before .before .before .before .before .args .text .now
+
+one : (c : tie.After-f Inv-loop μ-loop) → Took (text c) (from c .loop .at) 2 1 (c .f .given .0 .1 .0) (c .f .given .0 .0 ∷ [])
+one c = took-next (took-start _ _ 2) (omega arith) _ (ap readOf (sym (c .f .given .1)) ∙ c .before .before .number-at .ensures)
+
+abbrev first : tie.After-g Inv-loop μ-loop → tie.After-f Inv-loop μ-loop
+first c = c .before .before .before .before
+
+two : (c : tie.After-g Inv-loop μ-loop) → Took (text (first c)) (from (first c) .loop .at) 2 2 (c .g .given .0 .1 .0) (first c .f .given .0 .0 ∷ c .g .given .0 .0 ∷ [])
+two c = took-next (one (first c)) (omega arith) _ (ap readOf (sym (c .g .given .1)) ∙ c .before .before .number-at2 .ensures)
 
 array-write-d : tie.Need-array-write-d Inv-loop μ-loop
 array-write-d c = search needs
@@ -62,10 +79,7 @@ returns-2 : tie.Need-returns-2 Inv-loop μ-loop
 returns-2 c =
     list-stop (c .before .before .before .before .before .before .before .before .before .loop .inv)
     (c .before .before .before .before .before .before .before .before .loop-test .taken) _
-    (took-stop
-    (took-next (took-start _ _ 2) (omega arith) _
-    (ap readOf (sym (c .before .before .before .before .before .f .given .1)) ∙ c .before .before .before .before .before .before .before .number-at .ensures))
-    (omega arith) (ap readOf (sym (c .before .enum-told2 .given .1)) ∙ c .before .before .before .number-at2 .ensures))
+    (took-stop (one (c .before .before .before .before .before)) (omega arith) (ap readOf (sym (c .before .enum-told2 .given .1)) ∙ c .before .before .before .number-at2 .ensures))
     (c .not-listed2 .ensures)
 
 ends-requires : tie.Need-ends-requires Inv-loop μ-loop
@@ -78,15 +92,7 @@ returns-3 : tie.Need-returns-3 Inv-loop μ-loop
 returns-3 c =
     list-stop (c .before .before .before .before .before .before .before .before .before .before .before .before .loop .inv)
     (c .before .before .before .before .before .before .before .before .before .before .before .loop-test .taken) _
-    (sym (not-true _ (c .before .if1 .taken)) ∙ c .before .before .ends .ensures
-    ∙ took-end
-    (took-next
-    (took-next (took-start _ _ 2) (omega arith) _
-    (ap readOf (sym (c .before .before .before .before .before .before .before .before .f .given .1))
-    ∙ c .before .before .before .before .before .before .before .before .before .before .number-at .ensures))
-    (omega arith) _ (ap readOf (sym (c .before .before .before .before .g .given .1)) ∙ c .before .before .before .before .before .before .number-at2 .ensures))
-    (omega arith))
-    (c .not-listed3 .ensures)
+    (sym (not-true _ (c .before .if1 .taken)) ∙ c .before .before .ends .ensures ∙ took-end (two (c .before .before .before .before)) (omega arith)) (c .not-listed3 .ensures)
 
 add-x : tie.Need-add-x Inv-loop μ-loop
 add-x c = omega (arith, c .before .before .before .before .before .before .before .before .before .before .before .loop .inv .few)
@@ -119,12 +125,7 @@ loop-less c = omega arith
 
 loop-again : tie.Need-loop-again Inv-loop μ-loop
 loop-again c =
-    let w =
-    (took-next
-    (took-next (took-start _ _ 2) (omega arith) _
-    (ap readOf (sym (c .before .before .before .before .before .before .before .f .given .1))
-    ∙ c .before .before .before .before .before .before .before .before .before .number-at .ensures))
-    (omega arith) _ (ap readOf (sym (c .before .before .before .g .given .1)) ∙ c .before .before .before .before .before .number-at2 .ensures)) in
+    let w = two (c .before .before .before) in
     list-next (c .before .before .before .before .before .before .before .before .before .before .before .loop .inv)
     (c .before .before .before .before .before .before .before .before .before .before .loop-test .taken) _ _
     (sym (took-end w (omega arith)) ∙ sym (c .before .ends .ensures) ∙ not-false _ (c .if1 .left)) (w .values)
