@@ -41,7 +41,8 @@ pub record PutEnds (t₀ : List ℕ) (at : ℕ) (ends t : List ℕ) (i e first :
 pub put-ends-start : (t : List ℕ) (at : ℕ) (ends : List ℕ) → at + 23 * length ends ≤ length t → PutEnds t at ends t 0 at 0
 put-ends-start t at ends h = record { left = omega arith; room = h; at-line = omega arith; size = refl; work = refl }
 
-pub put-ends-next : {t₀ : List ℕ} {at : ℕ} {ends t t' : List ℕ} {i e first : ℕ} → i < length ends → PutEnds t₀ at ends t i e first → t' ≡ placed e (line (first ∷ getD ends i 0 ∷ [])) t → PutEnds t₀ at ends t' (i + 1) (e + 23) (getD ends i 0 + 1)
+pub put-ends-next : {t₀ : List ℕ} {at : ℕ} {ends t t' : List ℕ} {i e first : ℕ} → i < length ends → PutEnds t₀ at ends t i e first
+    → t' ≡ placed e (line (first ∷ getD ends i 0 ∷ [])) t → PutEnds t₀ at ends t' (i + 1) (e + 23) (getD ends i 0 + 1)
 unfolding partitionTexts
 put-ends-next {t₀} {at} {ends} {t} {t'} {i} {e} {first} h w q =
     let l : List ℕ = line (first ∷ getD ends i 0 ∷ []) in
@@ -83,7 +84,9 @@ module _ (cost : ℤ) (ends : List ℕ) where
   pub length-ends-text : length (endsText cost ends) ≡ 32 + 23 * length ends
   unfolding endsText
   length-ends-text =
-      omega (arith, length-append (numberField (length ends) ++ signedField cost) (10 ∷ partitionTexts 0 ends), length-append (numberField (length ends)) (signedField cost), length-number (length ends), length-signed cost, length-parts 0 ends)
+      let k : List ℕ = numberField (length ends) in
+      let z : List ℕ = signedField cost in
+      omega (arith, length-append (k ++ z) (10 ∷ partitionTexts 0 ends), length-append k z, length-number (length ends), length-signed cost, length-parts 0 ends)
 
   module _ (z t₁ t₂ : List ℕ) (long : length z ≡ 1504) (few : length ends ≤ 64) (e₁ : t₁ ≡ placed 0 (numberField (length ends)) z) (e₂ : t₂ ≡ placed 11 (signedField cost) t₁) where
     abbrev p : List ℕ

@@ -8,7 +8,10 @@ use Rattle.layplan_text.proofs.answer.Tie as tie
 
 -- The block length, M and Q.
 
-sizes : (c : tie.After-spelled-at3) → Sizes ((c .before .before .before .before .before .before .before) .args .text .now) (c .before .before .spelled-at .result) (c .before .spelled-at2 .result) (c .spelled-at3 .result)
+abbrev from : tie.After-spelled-at3 → tie.Start
+from c = c .before .before .before .before .before .before .before
+
+sizes : (c : tie.After-spelled-at3) → Sizes (from c .args .text .now) (c .before .before .spelled-at .result) (c .before .spelled-at2 .result) (c .spelled-at3 .result)
 sizes c = record { block = c .before .before .spelled-at .ensures; used = c .before .spelled-at2 .ensures; count = c .spelled-at3 .ensures }
 
 spelled-at-requires : tie.Need-spelled-at-requires
@@ -36,7 +39,10 @@ slice-aggregate-record-lines : tie.Need-slice-aggregate-record-lines
 slice-aggregate-record-lines c = search needs
 
 record-lines-requires : tie.Need-record-lines-requires
-record-lines-requires c κs = let s = (c .before .before .before .before .before .before .before .before) in (calls-start (sizes (c .before)) (s .pre), calls-few (sizes (c .before)) (s .pre), calls-good (sizes (c .before)) (s .pre))
+record-lines-requires c κs =
+    let s = (c .before .before .before .before .before .before .before .before) in
+    let n = sizes (c .before) in
+    (calls-start n (s .pre), calls-few n (s .pre), calls-good n (s .pre))
 
 refused-requires : tie.Need-refused-requires
 refused-requires c κs = search needs
@@ -51,7 +57,9 @@ plan-requires : tie.Need-plan-requires
 plan-requires c κs = good _ ((c .before .before .before .before .before .before .before .before .before .before .before .before) .pre) .first
 
 returns-2 : tie.Need-returns-2
-returns-2 c = answer-planned _ _ _ (sizes (c .before .before .before .before .before .before)) _ _ (c .before .before .before .before .record-lines .ensures) _ (c .before .before .if1 .left) (c .plan .ensures)
+returns-2 c =
+    let n = sizes (c .before .before .before .before .before .before) in
+    answer-planned _ _ _ n _ _ (c .before .before .before .before .record-lines .ensures) _ (c .before .before .if1 .left) (c .plan .ensures)
 
 pub answer-spec : {M : Type 1} → statement M
 answer-spec =

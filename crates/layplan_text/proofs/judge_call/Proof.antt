@@ -2,7 +2,7 @@
 use Prim.Native.Nat.{ℕ}
 use mathlib.Core.Path.{_≡_, sym, ap, _∙_}
 use mathlib.Core.Bool.{true, false}
-use mathlib.Core.List.{List, [], _∷_}
+use mathlib.Core.List.{List, [], _∷_, _++_}
 use native.Mathlib.Omega.{arith}
 use borrow.Author.Needs.{needs}
 use borrow.Author.Tests.{not-true, not-false}
@@ -15,44 +15,68 @@ use Rattle.layplan_text.proofs.judge_call.Tie as tie
 
 -- The numbers taken so far.
 
-abbrev from : tie.After-f → tie.Start
-from c = c .before .before .before .before
+abbrev from-one : tie.After-f → tie.Start
+from-one c = c .before .before .before .before
 
-abbrev kind : tie.After-g → tie.After-f
-kind c = c .before .before .before .before
+abbrev ns-one : tie.After-f → List ℕ
+ns-one c = c .f .given .0 .0 ∷ []
 
-abbrev first : tie.After-h → tie.After-g
-first c = c .before .before .before .before
-
-abbrev second : tie.After-i → tie.After-h
-second c = c .before .before .before .before
-
-abbrev third : tie.After-j → tie.After-i
-third c = c .before .before .before .before
-
-abbrev Taken : tie.Start → ℕ → ℕ → List ℕ → Type 0
-Taken s i e ns = Took (s .args .text .now) (s .args .at) 5 i e ns
-
-one : (c : tie.After-f) → Taken (from c) 1 (c .f .given .0 .1 .0) (c .f .given .0 .0 ∷ [])
+one : (c : tie.After-f) → Took (from-one c .args .text .now) (from-one c .args .at) 5 1 (c .f .given .0 .1 .0) (ns-one c)
 one c = took-next (took-start _ _ 5) (omega arith) _ (ap readOf (sym (c .f .given .1)) ∙ c .before .before .number-at .ensures)
 
-two : (c : tie.After-g) → Taken (from (kind c)) 2 (c .g .given .0 .1 .0) ((kind c) .f .given .0 .0 ∷ c .g .given .0 .0 ∷ [])
-two c = took-next (one (kind c)) (omega arith) _ (ap readOf (sym (c .g .given .1)) ∙ c .before .before .number-at2 .ensures)
+abbrev to-one : tie.After-g → tie.After-f
+to-one c = c .before .before .before .before
 
-three : (c : tie.After-h) → Taken (from (kind (first c))) 3 (c .h .given .0 .1 .0) ((kind (first c)) .f .given .0 .0 ∷ (first c) .g .given .0 .0 ∷ c .h .given .0 .0 ∷ [])
-three c = took-next (two (first c)) (omega arith) _ (ap readOf (sym (c .h .given .1)) ∙ c .before .before .number-at3 .ensures)
+abbrev from-two : tie.After-g → tie.Start
+from-two c = from-one (to-one c)
 
-four : (c : tie.After-i) → Taken (from (kind (first (second c)))) 4 (c .i .given .0 .1 .0) ((kind (first (second c))) .f .given .0 .0 ∷ (first (second c)) .g .given .0 .0 ∷ (second c) .h .given .0 .0 ∷ c .i .given .0 .0 ∷ [])
-four c = took-next (three (second c)) (omega arith) _ (ap readOf (sym (c .i .given .1)) ∙ c .before .before .number-at4 .ensures)
+abbrev ns-two : tie.After-g → List ℕ
+ns-two c = ns-one (to-one c) ++ c .g .given .0 .0 ∷ []
 
-five : (c : tie.After-j) → Taken (from (kind (first (second (third c))))) 5 (c .j .given .0 .1 .0) ((kind (first (second (third c)))) .f .given .0 .0 ∷ (first (second (third c))) .g .given .0 .0 ∷ (second (third c)) .h .given .0 .0 ∷ (third c) .i .given .0 .0 ∷ c .j .given .0 .0 ∷ [])
-five c = took-next (four (third c)) (omega arith) _ (ap readOf (sym (c .j .given .1)) ∙ c .before .before .number-at5 .ensures)
+two : (c : tie.After-g) → Took (from-two c .args .text .now) (from-two c .args .at) 5 2 (c .g .given .0 .1 .0) (ns-two c)
+two c = took-next (one (to-one c)) (omega arith) _ (ap readOf (sym (c .g .given .1)) ∙ c .before .before .number-at2 .ensures)
+
+abbrev to-two : tie.After-h → tie.After-g
+to-two c = c .before .before .before .before
+
+abbrev from-three : tie.After-h → tie.Start
+from-three c = from-two (to-two c)
+
+abbrev ns-three : tie.After-h → List ℕ
+ns-three c = ns-two (to-two c) ++ c .h .given .0 .0 ∷ []
+
+three : (c : tie.After-h) → Took (from-three c .args .text .now) (from-three c .args .at) 5 3 (c .h .given .0 .1 .0) (ns-three c)
+three c = took-next (two (to-two c)) (omega arith) _ (ap readOf (sym (c .h .given .1)) ∙ c .before .before .number-at3 .ensures)
+
+abbrev to-three : tie.After-i → tie.After-h
+to-three c = c .before .before .before .before
+
+abbrev from-four : tie.After-i → tie.Start
+from-four c = from-three (to-three c)
+
+abbrev ns-four : tie.After-i → List ℕ
+ns-four c = ns-three (to-three c) ++ c .i .given .0 .0 ∷ []
+
+four : (c : tie.After-i) → Took (from-four c .args .text .now) (from-four c .args .at) 5 4 (c .i .given .0 .1 .0) (ns-four c)
+four c = took-next (three (to-three c)) (omega arith) _ (ap readOf (sym (c .i .given .1)) ∙ c .before .before .number-at4 .ensures)
+
+abbrev to-four : tie.After-j → tie.After-i
+to-four c = c .before .before .before .before
+
+abbrev from-five : tie.After-j → tie.Start
+from-five c = from-four (to-four c)
+
+abbrev ns-five : tie.After-j → List ℕ
+ns-five c = ns-four (to-four c) ++ c .j .given .0 .0 ∷ []
+
+five : (c : tie.After-j) → Took (from-five c .args .text .now) (from-five c .args .at) 5 5 (c .j .given .0 .1 .0) (ns-five c)
+five c = took-next (four (to-four c)) (omega arith) _ (ap readOf (sym (c .j .given .1)) ∙ c .before .before .number-at5 .ensures)
 
 -- an LF behind them: the line is good
 abbrev last : tie.Else1 → tie.After-j
 last c = c .before .before .before
 
-line-ends : (c : tie.Else1) → lineOk 5 (from (kind (first (second (third (last c))))) .args .at) (from (kind (first (second (third (last c))))) .args .text .now) ≡ true
+line-ends : (c : tie.Else1) → lineOk 5 (from-five (last c) .args .at) (from-five (last c) .args .text .now) ≡ true
 line-ends c = sym (took-end (five (last c)) (omega arith)) ∙ sym (c .before .ends .ensures) ∙ not-false _ (c .if1 .left)
 
 number-at-requires : tie.Need-number-at-requires

@@ -1,11 +1,12 @@
 -- `layplan_text::judge_head` meets its contract: the first line that is missing refuses the text, and then M or Q out of range. Assumes nothing.
 use mathlib.Core.Path.{_≡_, sym, _∙_}
-use mathlib.Core.Bool.{true, false}
+use mathlib.Core.Bool.{Bool, true, false}
 use borrow.Author.Needs.{needs}
 use borrow.Author.Tests.{not-true, not-false}
 use Rattle.model.proofs.Tests.{of-true}
-use Rattle.lines.specs.Lines.{lineOk}
+use Rattle.lines.specs.Lines.{textRefusal, lineOk}
 use Rattle.lines.proofs.Reading.{passed}
+use Rattle.layplan_text.specs.Week.{headOk}
 use Rattle.layplan_text.proofs.WeekLaws.{refused-by, fields-three, no-prices, no-limits, no-sizes, head-decided}
 use Rattle.layplan_text.proofs.judge_head.Statement.{statement}
 use Rattle.layplan_text.proofs.judge_head.Tie as tie
@@ -20,6 +21,12 @@ limits c = passed _ (c .before .judge-line2 .ensures) (c .if2 .left)
 
 sizes : (c : tie.Else3) → lineOk 3 57 ((c .before .before .before .before .before .before .before) .args .text .now) ≡ true
 sizes c = passed _ (c .before .judge-line3 .ensures) (c .if3 .left)
+
+-- what M and Q decide then
+decided : (c : tie.After-sizes-ok) (b : Bool) → c .sizes-ok .result ≡ b → textRefusal b ≡ textRefusal (headOk ((c .before .before .before .before .before .before .before .before .before .before) .args .text .now))
+decided c b e =
+    let l = (c .before .before .before) in
+    head-decided _ (prices (l .before .before .before .before)) (limits (l .before .before)) (sizes l) _ _ (c .before .before .spelled-at .ensures) (c .before .spelled-at2 .ensures) b (sym (c .sizes-ok .ensures) ∙ e)
 
 judge-line-requires : tie.Need-judge-line-requires
 judge-line-requires c κs = search needs
@@ -49,10 +56,10 @@ sizes-ok-requires : tie.Need-sizes-ok-requires
 sizes-ok-requires c κs = search needs
 
 returns-4 : tie.Need-returns-4
-returns-4 c = head-decided _ (prices (c .before .before .before .before .before .before .before .before)) (limits (c .before .before .before .before .before .before)) (sizes (c .before .before .before .before)) _ _ (c .before .before .before .spelled-at .ensures) (c .before .before .spelled-at2 .ensures) false (sym (c .before .sizes-ok .ensures) ∙ not-true _ (c .if4 .taken))
+returns-4 c = decided (c .before) false (not-true _ (c .if4 .taken))
 
 returns-5 : tie.Need-returns-5
-returns-5 c = head-decided _ (prices (c .before .before .before .before .before .before .before .before)) (limits (c .before .before .before .before .before .before)) (sizes (c .before .before .before .before)) _ _ (c .before .before .before .spelled-at .ensures) (c .before .before .spelled-at2 .ensures) true (sym (c .before .sizes-ok .ensures) ∙ not-false _ (c .if4 .left))
+returns-5 c = decided (c .before) true (not-false _ (c .if4 .left))
 
 pub judge-head-spec : {M : Type 1} → statement M
 judge-head-spec =

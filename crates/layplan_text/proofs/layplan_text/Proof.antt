@@ -1,4 +1,5 @@
 -- `layplan_text::layplan_text` meets its contract: a text that is no input is refused by 14; of one that is, each slice takes its column and one free slot. Assumes nothing.
+use Prim.Native.Nat.{_<_}
 use mathlib.Core.Path.{_≡_, sym}
 use mathlib.Core.Bool.{true}
 use native.Mathlib.Omega.{arith}
@@ -23,8 +24,19 @@ held c = deliveries _ _ (week (c .before)) (c .spelled-at .ensures)
 abbrev spelled : tie.After-yields2 → tie.After-spelled-at
 spelled c = c .before .before .before .before .before .before .before .before .before
 
-abbrev judged : tie.After-yields2 → tie.Else1
-judged c = spelled c .before
+few : (c : tie.After-yields2) → spelled c .spelled-at .result < 1025
+few c = held (spelled c) .few
+
+-- The slices, each with its column.
+
+abbrev growers : tie.After-yields2 → tie.After-store
+growers c = (c .before .before .before .before .before .before .before)
+
+abbrev weights : tie.After-yields2 → tie.After-store2
+weights c = (c .before .before .before .before)
+
+abbrev yields : tie.After-yields2 → tie.After-store3
+yields c = (c .before)
 
 judge-week-requires : tie.Need-judge-week-requires
 judge-week-requires c κs = search needs
@@ -63,28 +75,31 @@ add-c : tie.Need-add-c
 add-c c = search needs
 
 array-share-prefix-growers : tie.Need-array-share-prefix-growers
-array-share-prefix-growers c = stored-room _ 91 _ 1025 (held (c .before .before .before .before .before .before .before .before .before) .few) _ (c .before .before .before .before .before .before .before .store .ensures)
+array-share-prefix-growers c = stored-room _ 91 _ 1025 (few c) _ (growers c .store .ensures)
 
 slice-aggregate-answer : tie.Need-slice-aggregate-answer
-slice-aggregate-answer c = sym (length-take-le _ _ (stored-room _ 91 _ 1025 (held (c .before .before .before .before .before .before .before .before .before .before) .few) _ (c .before .before .before .before .before .before .before .before .store .ensures)))
+slice-aggregate-answer c = sym (length-take-le _ _ (stored-room _ 91 _ 1025 (few (c .before)) _ (growers (c .before) .store .ensures)))
 
 array-share-prefix-weights : tie.Need-array-share-prefix-weights
-array-share-prefix-weights c = stored-room _ 102 _ 1025 (held (c .before .before .before .before .before .before .before .before .before .before) .few) _ (c .before .before .before .before .before .store2 .ensures)
+array-share-prefix-weights c = stored-room _ 102 _ 1025 (few (c .before)) _ (weights (c .before) .store2 .ensures)
 
 slice-aggregate-answer-2 : tie.Need-slice-aggregate-answer-2
-slice-aggregate-answer-2 c = sym (length-take-le _ _ (stored-room _ 102 _ 1025 (held (c .before .before .before .before .before .before .before .before .before .before .before) .few) _ (c .before .before .before .before .before .before .store2 .ensures)))
+slice-aggregate-answer-2 c = sym (length-take-le _ _ (stored-room _ 102 _ 1025 (few (c .before .before)) _ (weights (c .before .before) .store2 .ensures)))
 
 array-share-prefix-yields : tie.Need-array-share-prefix-yields
-array-share-prefix-yields c = stored-room _ 113 _ 1025 (held (c .before .before .before .before .before .before .before .before .before .before .before) .few) _ (c .before .before .before .store3 .ensures)
+array-share-prefix-yields c = stored-room _ 113 _ 1025 (few (c .before .before)) _ (yields (c .before .before) .store3 .ensures)
 
 slice-aggregate-answer-3 : tie.Need-slice-aggregate-answer-3
-slice-aggregate-answer-3 c = sym (length-take-le _ _ (stored-room _ 113 _ 1025 (held (c .before .before .before .before .before .before .before .before .before .before .before .before) .few) _ (c .before .before .before .before .store3 .ensures)))
+slice-aggregate-answer-3 c = sym (length-take-le _ _ (stored-room _ 113 _ 1025 (few (c .before .before .before)) _ (yields (c .before .before .before) .store3 .ensures)))
 
 answer-requires : tie.Need-answer-requires
-answer-requires c κs = of-true _ (week (judged (c .before .before .before)))
+answer-requires c κs = of-true _ (week (spelled (c .before .before .before) .before))
 
 returns-2 : tie.Need-returns-2
-returns-2 c = program-answers _ _ (week (judged (c .before .before .before .before))) (spelled (c .before .before .before .before) .spelled-at .ensures) _ _ _ (c .before .before .before .before .before .before .before .before .before .before .before .store .ensures) (c .before .before .before .before .before .before .before .before .store2 .ensures) (c .before .before .before .before .before .store3 .ensures) _ (c .answer .ensures)
+returns-2 c =
+    let y = (c .before .before .before .before) in
+    let m = spelled y in
+    program-answers _ _ (week (m .before)) (m .spelled-at .ensures) _ _ _ (growers y .store .ensures) (weights y .store2 .ensures) (yields y .store3 .ensures) _ (c .answer .ensures)
 
 pub layplan-text-spec : {M : Type 1} → statement M
 layplan-text-spec =

@@ -9,7 +9,13 @@ use Rattle.layplan_text.proofs.plan.Tie as tie
 
 -- The numbers that the planner is asked with.
 
-prices : (c : tie.After-spelled-at2) → Prices ((c .before .before .before .before .before .before .before .before .before) .args .text .now) (c .before .before .before .card-of .result) (c .before .before .limits-of .result) (c .before .spelled-at .result) (c .spelled-at2 .result)
+abbrev from : tie.After-card-of → tie.Start
+from c = c .before .before .before .before .before .before
+
+abbrev ThePrices : tie.After-spelled-at2 → Type 0
+ThePrices c = Prices (from (c .before .before .before) .args .text .now) (c .before .before .before .card-of .result) (c .before .before .limits-of .result) (c .before .spelled-at .result) (c .spelled-at2 .result)
+
+prices : (c : tie.After-spelled-at2) → ThePrices c
 prices c = record { card = c .before .before .before .card-of .ensures; limit = c .before .before .limits-of .ensures; block = c .before .spelled-at .ensures; used = c .spelled-at2 .ensures }
 
 card-of-requires : tie.Need-card-of-requires
@@ -34,22 +40,34 @@ refused-requires : tie.Need-refused-requires
 refused-requires c κs = search needs
 
 returns : tie.Need-returns
-returns c = plan-refuses _ _ _ _ _ (prices (c .before .before .before .before .before)) _ _ (c .before .before .before .plan .ensures) _ (c .before .if1 .taken) (c .refused .ensures)
+returns c =
+    let p = prices (c .before .before .before .before .before) in
+    plan-refuses _ _ _ _ _ p _ _ (c .before .before .before .plan .ensures) _ (c .before .if1 .taken) (c .refused .ensures)
 
 cast-k : tie.Need-cast-k
 cast-k c = search needs
 
 array-share-prefix-ends : tie.Need-array-share-prefix-ends
-array-share-prefix-ends c = plan-fits _ _ _ _ _ (prices (c .before .before .before .before .before)) _ _ (c .before .before .before .plan .ensures) (c .before .if1 .left) .count-in
+array-share-prefix-ends c =
+    let p = prices (c .before .before .before .before .before) in
+    plan-fits _ _ _ _ _ p _ _ (c .before .before .before .plan .ensures) (c .before .if1 .left) .count-in
 
 slice-aggregate-planned : tie.Need-slice-aggregate-planned
-slice-aggregate-planned c = sym (length-take-le _ _ (plan-fits _ _ _ _ _ (prices (c .before .before .before .before .before .before)) _ _ (c .before .before .before .before .plan .ensures) (c .before .before .if1 .left) .count-in))
+slice-aggregate-planned c =
+    let p = prices (c .before .before .before .before .before .before) in
+    sym (length-take-le _ _ (plan-fits _ _ _ _ _ p _ _ (c .before .before .before .before .plan .ensures) (c .before .before .if1 .left) .count-in))
 
 planned-requires : tie.Need-planned-requires
-planned-requires c κs = (plan-few _ _ _ _ _ (prices (c .before .before .before .before .before .before .before)) _ _ (c .before .before .before .before .before .plan .ensures) (c .before .before .before .if1 .left), plan-fits _ _ _ _ _ (prices (c .before .before .before .before .before .before .before)) _ _ (c .before .before .before .before .before .plan .ensures) (c .before .before .before .if1 .left) .fit)
+planned-requires c κs =
+    let p = prices (c .before .before .before .before .before .before .before) in
+    let e = c .before .before .before .before .before .plan .ensures in
+    let z = c .before .before .before .if1 .left in
+    (plan-few _ _ _ _ _ p _ _ e z, plan-fits _ _ _ _ _ p _ _ e z .fit)
 
 returns-2 : tie.Need-returns-2
-returns-2 c = plan-prints _ _ _ _ _ (prices (c .before .before .before .before .before .before .before .before)) _ _ (c .before .before .before .before .before .before .plan .ensures) _ (c .before .before .before .before .if1 .left) (record { sfits = c .before .struct-told .given .1 .1 .0 .1 }) (c .planned .ensures)
+returns-2 c =
+    let p = prices (c .before .before .before .before .before .before .before .before) in
+    plan-prints _ _ _ _ _ p _ _ (c .before .before .before .before .before .before .plan .ensures) _ (c .before .before .before .before .if1 .left) (record { sfits = c .before .struct-told .given .1 .1 .0 .1 }) (c .planned .ensures)
 
 pub plan-spec : {M : Type 1} → statement M
 plan-spec =

@@ -32,7 +32,11 @@ slice-aggregate-put-ends : tie.Need-slice-aggregate-put-ends
 slice-aggregate-put-ends c = search needs
 
 put-ends-requires : tie.Need-put-ends-requires
-put-ends-requires c κs = let s = (c .before .before .before .before .before .before .before .before) in (ends-room (s .args .cost) (s .args .ends .now) (replicate 1504 0) _ _ (length-replicate {A = ℕ} 1504 0) (s .pre .0) (c .before .before .before .before .before .put-number .ensures) (bill-put _ _ _ (s .fits .cost) (c .before .before .put-signed .ensures)), s .pre .1)
+put-ends-requires c κs =
+    let s = (c .before .before .before .before .before .before .before .before) in
+    let z = length-replicate {A = ℕ} 1504 0 in
+    let b = bill-put _ _ _ (s .fits .cost) (c .before .before .put-signed .ensures) in
+    (ends-room (s .args .cost) (s .args .ends .now) (replicate 1504 0) _ _ z (s .pre .0) (c .before .before .before .before .before .put-number .ensures) b, s .pre .1)
 
 mul-t11 : tie.Need-mul-t11
 mul-t11 c = search needs
@@ -41,7 +45,11 @@ add-t17 : tie.Need-add-t17
 add-t17 c = search needs
 
 returns : tie.Need-returns
-returns c = let s = (c .before .before .before .before .before .before .before .before .before .before) in output-is _ _ _ (plan-put _ _ _ _ _ (length-replicate {A = ℕ} 1504 0) (s .pre .0) (c .before .before .before .before .before .before .before .put-number .ensures) (bill-put _ _ _ (s .fits .cost) (c .before .before .before .before .put-signed .ensures)) _ (c .before .put-ends .ensures)) (sym (length-ends-text _ _))
+returns c =
+    let s = (c .before .before .before .before .before .before .before .before .before .before) in
+    let z = length-replicate {A = ℕ} 1504 0 in
+    let b = bill-put _ _ _ (s .fits .cost) (c .before .before .before .before .put-signed .ensures) in
+    output-is _ _ _ (plan-put _ _ _ _ _ z (s .pre .0) (c .before .before .before .before .before .before .before .put-number .ensures) b _ (c .before .put-ends .ensures)) (sym (length-ends-text _ _))
 
 pub planned-spec : {M : Type 1} → statement M
 planned-spec =

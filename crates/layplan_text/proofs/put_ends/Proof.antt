@@ -26,7 +26,7 @@ put-two-requires : tie.Need-put-two-requires Inv-loop μ-loop
 put-two-requires c κs = let w = c .before .before .before .loop .inv in omega (arith, w .at-line, w .room, w .size)
 
 add-first : tie.Need-add-first Inv-loop μ-loop
-add-first c = omega (arith, (c .before .before .before .before .before .before .before .before .before) .pre .1 (c .before .before .before .before .before .before .loop .i) (c .before .before .before .before .before .loop-test .taken))
+add-first c = let l = (c .before .before .before .before .before .before) in omega (arith, (l .before .before .before) .pre .1 (l .loop .i) (c .before .before .before .before .before .loop-test .taken))
 
 add-e : tie.Need-add-e Inv-loop μ-loop
 add-e c = let w = c .before .before .before .before .before .before .loop .inv in omega (arith, w .at-line, w .room, w .size)

@@ -10,7 +10,10 @@ use Rattle.layplan_text.proofs.record_at.Tie as tie
 abbrev from : tie.After-spelled-at4 → tie.Start
 from c = c .before .before .before .before .before .before .before .before .before
 
-four : (c : tie.After-spelled-at4) → Four (from c .args .text .now) (from c .args .at) (c .before .before .before .spelled-at .result) (c .before .before .spelled-at2 .result) (c .before .spelled-at3 .result) (c .spelled-at4 .result)
+abbrev TheFour : tie.After-spelled-at4 → Type 0
+TheFour c = Four (from c .args .text .now) (from c .args .at) (c .before .before .before .spelled-at .result) (c .before .before .spelled-at2 .result) (c .before .spelled-at3 .result) (c .spelled-at4 .result)
+
+four : (c : tie.After-spelled-at4) → TheFour c
 four c = record { kind = c .before .before .before .spelled-at .ensures; first = c .before .before .spelled-at2 .ensures; second = c .before .spelled-at3 .ensures; third = c .spelled-at4 .ensures }
 
 spelled-at-requires : tie.Need-spelled-at-requires
@@ -83,7 +86,9 @@ same-length-5 : tie.Need-same-length-5
 same-length-5 c = search needs
 
 returns-5 : tie.Need-returns-5
-returns-5 c = moved-at (four (c .before .before .before .before .before .before .before .before .before)) _ _ _ _ (c .before .before .before .before .spelled-at5 .ensures) (c .before .before .before .before .before .before .before .before .if1 .left) (c .before .before .before .before .before .before .before .if2 .left) (c .before .before .before .before .before .before .if3 .left) (c .before .before .before .before .before .if4 .left) (c .before .before .record-move .ensures)
+returns-5 c =
+    let e = (c .before .before .before .before .before) in
+    moved-at (four (e .before .before .before .before)) _ _ _ _ (c .before .before .before .before .spelled-at5 .ensures) (e .before .before .before .if1 .left) (e .before .before .if2 .left) (e .before .if3 .left) (e .if4 .left) (c .before .before .record-move .ensures)
 
 pub record-at-spec : {M : Type 1} → statement M
 record-at-spec =

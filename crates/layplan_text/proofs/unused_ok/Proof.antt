@@ -25,7 +25,9 @@ returns-7 : tie.Need-returns-7
 returns-7 c = let s = (c .before .before .before .before) .args in delete-d (s .kind) (s .b) (s .c) (s .d) (c .if7 .taken)
 
 returns-8 : tie.Need-returns-8
-returns-8 c = let s = (c .before .before .before .before) .args in move-or-none (s .kind) (s .b) (s .c) (s .d) (c .before .before .before .if1 .left) (c .before .before .if4 .left) (c .before .if6 .left) (c .if7 .left)
+returns-8 c =
+    let s = (c .before .before .before .before) .args in
+    move-or-none (s .kind) (s .b) (s .c) (s .d) (c .before .before .before .if1 .left) (c .before .before .if4 .left) (c .before .if6 .left) (c .if7 .left)
 
 pub unused-ok-spec : {M : Type 1} → statement M
 unused-ok-spec =
