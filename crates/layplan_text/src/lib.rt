@@ -1,7 +1,7 @@
 // The program layplan as a function (01: book and program): from its whole input to its whole output, as bytes.
 // The whole text is judged first; then the calls are recorded straight from it, so that no list of calls is kept.
 ghost use mathlib.Core.Path.{_≡_};
-ghost use Prim.Native.Nat.{ℕ, _+_, _*_, _≤_, _<_};
+ghost use Prim.Native.Nat.{ℕ, _+_, _*_, _≤_};
 ghost use mathlib.Core.List.{[], _∷_};
 ghost use lib.ListN.{length, replicate};
 ghost use lib.Dec.{T};
@@ -60,10 +60,12 @@ const SLOTS: usize = 1025;
 const HISTOGRAMS: usize = 640;
 
 const MOST_ENDS: usize = 64;
-// The longest output, and where its partitions stand: behind K and the bill.
+// The longest output, where K and the bill end (01: 11 and 20 columns), and where the partitions stand.
 const OUTPUT: usize = 1504;
 
-const PARTITIONS_AT: usize = WIDTH + SIGNED_WIDTH + 1;
+const BILL_END: usize = WIDTH + SIGNED_WIDTH;
+
+const PARTITIONS_AT: usize = BILL_END + 1;
 
 // The output: its bytes at the front, zeros past them, and how many there are.
 pub struct Output {
@@ -321,12 +323,10 @@ fn planned(cost: i64, ends: &[u32]) -> Output
     let k = ends.len();
     fields::put_number(&mut bytes, 0, k as u32);
     fields::put_signed(&mut bytes, WIDTH, cost);
-    bytes[WIDTH + SIGNED_WIDTH] = b'\n';
+    bytes[BILL_END] = b'\n';
     put_ends(&mut bytes, PARTITIONS_AT, ends);
-    Output {
-        bytes,
-        count: PARTITIONS_AT + TWO * k,
-    }
+    let count = PARTITIONS_AT + TWO * k;
+    Output { bytes, count }
 }
 
 // The price card of a text whose first lines have been judged.
@@ -374,9 +374,9 @@ fn plan(text: &[u8], histograms: &[u32], growers: &[u32], weights: &[u32], yield
         histograms,
         &mut ends[..],
     );
-    let n = p.refusal;
-    if n != 0 {
-        return refused(n);
+    let refusal = p.refusal;
+    if refusal != 0 {
+        return refused(refusal);
     }
     let k = p.count as usize;
     planned(p.cost, &ends[..k])
@@ -392,7 +392,7 @@ fn answer(text: &[u8], growers: &[u32], weights: &[u32], yields: &[u32]) -> Outp
     let q = fields::spelled_at(text, COUNT_AT) as usize;
     let a = DELIVERIES_AT + THREE * used as usize;
     let mut histograms = [0u32; HISTOGRAMS];
-    let n = record_lines(
+    let stop = record_lines(
         text,
         a,
         q,
@@ -403,8 +403,8 @@ fn answer(text: &[u8], growers: &[u32], weights: &[u32], yields: &[u32]) -> Outp
         weights,
         yields,
     );
-    if n != 0 {
-        return refused(n);
+    if stop != 0 {
+        return refused(stop);
     }
     plan(text, &histograms[..], growers, weights, yields)
 }
@@ -413,9 +413,9 @@ fn answer(text: &[u8], growers: &[u32], weights: &[u32], yields: &[u32]) -> Outp
 pub fn layplan_text(text: &[u8]) -> Output
     ensures { λ r. ⌜ r ≡ outputOf (layplan (now (text .entry))) ⌝ }
 {
-    let n = judge_week(text);
-    if n != 0 {
-        return refused(n);
+    let bad = judge_week(text);
+    if bad != 0 {
+        return refused(bad);
     }
     let m = fields::spelled_at(text, USED_AT) as usize;
     let mut growers = [0u32; SLOTS];

@@ -15,13 +15,13 @@ sizes : (c : tie.After-spelled-at3) → Sizes (from c .args .text .now) (c .befo
 sizes c = record { block = c .before .before .spelled-at .ensures; used = c .before .spelled-at2 .ensures; count = c .spelled-at3 .ensures }
 
 spelled-at-requires : tie.Need-spelled-at-requires
-spelled-at-requires c κs = head _ (good _ ((c .before .before .before .before) .pre) .first) .block
+spelled-at-requires c κs = head _ (good _ (c .before .before .before .before .pre) .first) .block
 
 spelled-at-requires-2 : tie.Need-spelled-at-requires-2
-spelled-at-requires-2 c κs = head _ (good _ ((c .before .before .before .before .before) .pre) .first) .used
+spelled-at-requires-2 c κs = head _ (good _ (c .before .before .before .before .before .pre) .first) .used
 
 spelled-at-requires-3 : tie.Need-spelled-at-requires-3
-spelled-at-requires-3 c κs = head _ (good _ ((c .before .before .before .before .before .before) .pre) .first) .count
+spelled-at-requires-3 c κs = head _ (good _ (c .before .before .before .before .before .before .pre) .first) .count
 
 cast-q : tie.Need-cast-q
 cast-q c = search needs
@@ -30,17 +30,17 @@ cast-a : tie.Need-cast-a
 cast-a c = search needs
 
 mul-a : tie.Need-mul-a
-mul-a c = omega (arith, calls-start (sizes c) ((c .before .before .before .before .before .before .before) .pre))
+mul-a c = omega (arith, calls-start (sizes c) (c .before .before .before .before .before .before .before .pre))
 
 add-a : tie.Need-add-a
-add-a c = omega (arith, calls-start (sizes c) ((c .before .before .before .before .before .before .before) .pre))
+add-a c = omega (arith, calls-start (sizes c) (c .before .before .before .before .before .before .before .pre))
 
 slice-aggregate-record-lines : tie.Need-slice-aggregate-record-lines
 slice-aggregate-record-lines c = search needs
 
 record-lines-requires : tie.Need-record-lines-requires
 record-lines-requires c κs =
-    let s = (c .before .before .before .before .before .before .before .before) in
+    let s = c .before .before .before .before .before .before .before .before in
     let n = sizes (c .before) in
     (calls-start n (s .pre), calls-few n (s .pre), calls-good n (s .pre))
 
@@ -54,7 +54,7 @@ slice-aggregate-plan : tie.Need-slice-aggregate-plan
 slice-aggregate-plan c = search needs
 
 plan-requires : tie.Need-plan-requires
-plan-requires c κs = good _ ((c .before .before .before .before .before .before .before .before .before .before .before .before) .pre) .first
+plan-requires c κs = good _ (c .before .before .before .before .before .before .before .before .before .before .before .before .pre) .first
 
 returns-2 : tie.Need-returns-2
 returns-2 c =

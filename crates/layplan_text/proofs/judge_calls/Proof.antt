@@ -26,7 +26,7 @@ returns : tie.Need-returns Inv-loop μ-loop
 returns c = refused-by _ _ (c .before .judge-call .ensures) (c .if1 .taken) (calls-stop (c .before .before .loop-test .taken) (c .before .before .before .loop .inv))
 
 add-e : tie.Need-add-e Inv-loop μ-loop
-add-e c = omega (arith, c .before .before .before .loop .inv .at-line, (c .before .before .before .before .before) .pre .0, (c .before .before .before .before .before) .pre .1)
+add-e c = omega (arith, c .before .before .before .loop .inv .at-line, c .before .before .before .before .before .pre .0, c .before .before .before .before .before .pre .1)
 
 add-i : tie.Need-add-i Inv-loop μ-loop
 add-i c = omega arith

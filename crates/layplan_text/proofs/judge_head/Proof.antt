@@ -13,20 +13,22 @@ use Rattle.layplan_text.proofs.judge_head.Tie as tie
 
 -- The lines that have passed.
 
-prices : (c : tie.Else1) → lineOk 3 0 ((c .before .before .before) .args .text .now) ≡ true
+prices : (c : tie.Else1) → lineOk 3 0 (c .before .before .before .args .text .now) ≡ true
 prices c = passed _ (c .before .judge-line .ensures) (c .if1 .left)
 
-limits : (c : tie.Else2) → lineOk 2 34 ((c .before .before .before .before .before) .args .text .now) ≡ true
+limits : (c : tie.Else2) → lineOk 2 34 (c .before .before .before .before .before .args .text .now) ≡ true
 limits c = passed _ (c .before .judge-line2 .ensures) (c .if2 .left)
 
-sizes : (c : tie.Else3) → lineOk 3 57 ((c .before .before .before .before .before .before .before) .args .text .now) ≡ true
+sizes : (c : tie.Else3) → lineOk 3 57 (c .before .before .before .before .before .before .before .args .text .now) ≡ true
 sizes c = passed _ (c .before .judge-line3 .ensures) (c .if3 .left)
 
 -- what M and Q decide then
-decided : (c : tie.After-sizes-ok) (b : Bool) → c .sizes-ok .result ≡ b → textRefusal b ≡ textRefusal (headOk ((c .before .before .before .before .before .before .before .before .before .before) .args .text .now))
+decided : (c : tie.After-sizes-ok) (b : Bool) → c .sizes-ok .result ≡ b
+    → textRefusal b ≡ textRefusal (headOk (c .before .before .before .before .before .before .before .before .before .before .args .text .now))
 decided c b e =
-    let l = (c .before .before .before) in
-    head-decided _ (prices (l .before .before .before .before)) (limits (l .before .before)) (sizes l) _ _ (c .before .before .spelled-at .ensures) (c .before .spelled-at2 .ensures) b (sym (c .sizes-ok .ensures) ∙ e)
+    let l = c .before .before .before in
+    head-decided _ (prices (l .before .before .before .before)) (limits (l .before .before)) (sizes l) _ _
+    (c .before .before .spelled-at .ensures) (c .before .spelled-at2 .ensures) b (sym (c .sizes-ok .ensures) ∙ e)
 
 judge-line-requires : tie.Need-judge-line-requires
 judge-line-requires c κs = search needs

@@ -18,16 +18,16 @@ use Rattle.layplan_text.proofs.judge_week.Tie as tie
 
 -- The first three lines have passed.
 
-first : (c : tie.Else1) → headOk ((c .before .before .before) .args .text .now) ≡ true
+first : (c : tie.Else1) → headOk (c .before .before .before .args .text .now) ≡ true
 first c = passed _ (c .before .judge-head .ensures) (c .if1 .left)
 
-lines : (c : tie.Else1) → Head ((c .before .before .before) .args .text .now)
+lines : (c : tie.Else1) → Head (c .before .before .before .args .text .now)
 lines c = head _ (of-true _ (first c))
 
 -- The text, M and Q, and where the calls stop.
 
 abbrev text : tie.After-spelled-at2 → List ℕ
-text c = (c .before .before .before .before .before) .args .text .now
+text c = c .before .before .before .before .before .args .text .now
 
 abbrev m : tie.After-spelled-at2 → ℕ
 m c = c .before .spelled-at .result
@@ -47,7 +47,7 @@ no-lines : (c : tie.After-spelled-at2) → linesOk 3 (m c) 91 (text c) ≡ false
 no-lines c = no-deliveries _ (first (c .before .before)) _ _ (c .before .spelled-at .ensures) (c .spelled-at2 .ensures)
 
 abbrev sizes : tie.Else2 → tie.After-spelled-at2
-sizes c = (c .before .before)
+sizes c = c .before .before
 
 calls-missing : (c : tie.Else2) → callsOk (q (sizes c)) (91 + 34 * m (sizes c)) (text (sizes c)) ≡ false → weekOk (text (sizes c)) ≡ false
 calls-missing c =
@@ -60,7 +60,7 @@ counted c = sizes (c .before .before)
 decided : (c : tie.Else3) (b : Bool) → leb (length (text (counted c))) (91 + 34 * m (counted c) + 56 * q (counted c)) ≡ b → textRefusal b ≡ textRefusal (weekOk (text (counted c)))
 decided c =
     let n = counted c in
-    let l = (c .before .before) in
+    let l = c .before .before in
     week-decided _ (first (n .before .before)) _ _ (n .before .spelled-at .ensures) (n .spelled-at2 .ensures)
     (passed _ (l .before .judge-lines .ensures) (l .if2 .left)) (passed _ (c .before .judge-calls .ensures) (c .if3 .left))
 

@@ -15,10 +15,10 @@ use Rattle.layplan_text.proofs.layplan_text.Tie as tie
 
 -- The text has been judged, and M taken.
 
-week : (c : tie.Else1) → weekOk ((c .before .before .before) .args .text .now) ≡ true
+week : (c : tie.Else1) → weekOk (c .before .before .before .args .text .now) ≡ true
 week c = passed _ (c .before .judge-week .ensures) (c .if1 .left)
 
-held : (c : tie.After-spelled-at) → Deliveries ((c .before .before .before .before) .args .text .now) (c .spelled-at .result)
+held : (c : tie.After-spelled-at) → Deliveries (c .before .before .before .before .args .text .now) (c .spelled-at .result)
 held c = deliveries _ _ (week (c .before)) (c .spelled-at .ensures)
 
 abbrev spelled : tie.After-yields2 → tie.After-spelled-at
@@ -30,13 +30,13 @@ few c = held (spelled c) .few
 -- The slices, each with its column.
 
 abbrev growers : tie.After-yields2 → tie.After-store
-growers c = (c .before .before .before .before .before .before .before)
+growers c = c .before .before .before .before .before .before .before
 
 abbrev weights : tie.After-yields2 → tie.After-store2
-weights c = (c .before .before .before .before)
+weights c = c .before .before .before .before
 
 abbrev yields : tie.After-yields2 → tie.After-store3
-yields c = (c .before)
+yields c = c .before
 
 judge-week-requires : tie.Need-judge-week-requires
 judge-week-requires c κs = search needs
@@ -97,7 +97,7 @@ answer-requires c κs = of-true _ (week (spelled (c .before .before .before) .be
 
 returns-2 : tie.Need-returns-2
 returns-2 c =
-    let y = (c .before .before .before .before) in
+    let y = c .before .before .before .before in
     let m = spelled y in
     program-answers _ _ (week (m .before)) (m .spelled-at .ensures) _ _ _ (growers y .store .ensures) (weights y .store2 .ensures) (yields y .store3 .ensures) _ (c .answer .ensures)
 

@@ -13,22 +13,24 @@ abbrev from : tie.After-card-of → tie.Start
 from c = c .before .before .before .before .before .before
 
 abbrev ThePrices : tie.After-spelled-at2 → Type 0
-ThePrices c = Prices (from (c .before .before .before) .args .text .now) (c .before .before .before .card-of .result) (c .before .before .limits-of .result) (c .before .spelled-at .result) (c .spelled-at2 .result)
+ThePrices c =
+    Prices (from (c .before .before .before) .args .text .now)
+    (c .before .before .before .card-of .result) (c .before .before .limits-of .result) (c .before .spelled-at .result) (c .spelled-at2 .result)
 
 prices : (c : tie.After-spelled-at2) → ThePrices c
 prices c = record { card = c .before .before .before .card-of .ensures; limit = c .before .before .limits-of .ensures; block = c .before .spelled-at .ensures; used = c .spelled-at2 .ensures }
 
 card-of-requires : tie.Need-card-of-requires
-card-of-requires c κs = (c .before .before .before .before .before) .pre
+card-of-requires c κs = c .before .before .before .before .before .pre
 
 limits-of-requires : tie.Need-limits-of-requires
-limits-of-requires c κs = (c .before .before .before .before .before .before) .pre
+limits-of-requires c κs = c .before .before .before .before .before .before .pre
 
 spelled-at-requires : tie.Need-spelled-at-requires
-spelled-at-requires c κs = head _ ((c .before .before .before .before .before .before .before) .pre) .block
+spelled-at-requires c κs = head _ (c .before .before .before .before .before .before .before .pre) .block
 
 spelled-at-requires-2 : tie.Need-spelled-at-requires-2
-spelled-at-requires-2 c κs = head _ ((c .before .before .before .before .before .before .before .before) .pre) .used
+spelled-at-requires-2 c κs = head _ (c .before .before .before .before .before .before .before .before .pre) .used
 
 slice-aggregate-plan : tie.Need-slice-aggregate-plan
 slice-aggregate-plan c = search needs
@@ -67,7 +69,8 @@ planned-requires c κs =
 returns-2 : tie.Need-returns-2
 returns-2 c =
     let p = prices (c .before .before .before .before .before .before .before .before) in
-    plan-prints _ _ _ _ _ p _ _ (c .before .before .before .before .before .before .plan .ensures) _ (c .before .before .before .before .if1 .left) (record { sfits = c .before .struct-told .given .1 .1 .0 .1 }) (c .planned .ensures)
+    plan-prints _ _ _ _ _ p _ _ (c .before .before .before .before .before .before .plan .ensures) _ (c .before .before .before .before .if1 .left)
+    (record { sfits = c .before .struct-told .given .1 .1 .0 .1 }) (c .planned .ensures)
 
 pub plan-spec : {M : Type 1} → statement M
 plan-spec =

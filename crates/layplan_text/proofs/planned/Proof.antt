@@ -22,9 +22,6 @@ slice-aggregate-put-signed c = search needs
 put-signed-requires : tie.Need-put-signed-requires
 put-signed-requires c κs = search needs
 
-add-bytes : tie.Need-add-bytes
-add-bytes c = search needs
-
 array-write-bytes : tie.Need-array-write-bytes
 array-write-bytes c = search needs
 
@@ -33,20 +30,20 @@ slice-aggregate-put-ends c = search needs
 
 put-ends-requires : tie.Need-put-ends-requires
 put-ends-requires c κs =
-    let s = (c .before .before .before .before .before .before .before .before) in
+    let s = c .before .before .before .before .before .before .before .before in
     let z = length-replicate {A = ℕ} 1504 0 in
     let b = bill-put _ _ _ (s .fits .cost) (c .before .before .put-signed .ensures) in
     (ends-room (s .args .cost) (s .args .ends .now) (replicate 1504 0) _ _ z (s .pre .0) (c .before .before .before .before .before .put-number .ensures) b, s .pre .1)
 
-mul-t11 : tie.Need-mul-t11
-mul-t11 c = search needs
+mul-count : tie.Need-mul-count
+mul-count c = search needs
 
-add-t17 : tie.Need-add-t17
-add-t17 c = search needs
+add-count : tie.Need-add-count
+add-count c = search needs
 
 returns : tie.Need-returns
 returns c =
-    let s = (c .before .before .before .before .before .before .before .before .before .before) in
+    let s = c .before .before .before .before .before .before .before .before .before .before in
     let z = length-replicate {A = ℕ} 1504 0 in
     let b = bill-put _ _ _ (s .fits .cost) (c .before .before .before .before .put-signed .ensures) in
     output-is _ _ _ (plan-put _ _ _ _ _ z (s .pre .0) (c .before .before .before .before .before .before .before .put-number .ensures) b _ (c .before .put-ends .ensures)) (sym (length-ends-text _ _))
@@ -60,10 +57,9 @@ planned-spec =
     put-number-requires
     slice-aggregate-put-signed
     put-signed-requires
-    add-bytes
     array-write-bytes
     slice-aggregate-put-ends
     put-ends-requires
-    mul-t11
-    add-t17
+    mul-count
+    add-count
     returns)

@@ -14,7 +14,7 @@ abbrev μ-loop : tie.MeasureT-loop
 μ-loop text₀ at ends i₀ e₀ first₀ text i e first = length ends - i
 
 loop-holds : tie.Need-loop-holds Inv-loop μ-loop
-loop-holds c = put-ends-start _ _ _ ((c .before .before) .pre .0)
+loop-holds c = put-ends-start _ _ _ (c .before .before .pre .0)
 
 mul-last : tie.Need-mul-last Inv-loop μ-loop
 mul-last c = search needs
@@ -26,7 +26,9 @@ put-two-requires : tie.Need-put-two-requires Inv-loop μ-loop
 put-two-requires c κs = let w = c .before .before .before .loop .inv in omega (arith, w .at-line, w .room, w .size)
 
 add-first : tie.Need-add-first Inv-loop μ-loop
-add-first c = let l = (c .before .before .before .before .before .before) in omega (arith, (l .before .before .before) .pre .1 (l .loop .i) (c .before .before .before .before .before .loop-test .taken))
+add-first c =
+    let l = c .before .before .before .before .before .before in
+    omega (arith, l .before .before .before .pre .1 (l .loop .i) (c .before .before .before .before .before .loop-test .taken))
 
 add-e : tie.Need-add-e Inv-loop μ-loop
 add-e c = let w = c .before .before .before .before .before .before .loop .inv in omega (arith, w .at-line, w .room, w .size)

@@ -1,5 +1,4 @@
 -- `layplan_text::record_at` meets its contract: the kind says which call of the recorder the line is. Assumes nothing.
-use native.Mathlib.Omega.{arith}
 use borrow.Author.Needs.{needs}
 use Rattle.layplan_text.proofs.CallLaws.{Four, first-field, later-fields, found-at, ranged-at, inserted-at, deleted-at, moved-at}
 use Rattle.layplan_text.proofs.record_at.Statement.{statement}
@@ -11,31 +10,33 @@ abbrev from : tie.After-spelled-at4 → tie.Start
 from c = c .before .before .before .before .before .before .before .before .before
 
 abbrev TheFour : tie.After-spelled-at4 → Type 0
-TheFour c = Four (from c .args .text .now) (from c .args .at) (c .before .before .before .spelled-at .result) (c .before .before .spelled-at2 .result) (c .before .spelled-at3 .result) (c .spelled-at4 .result)
+TheFour c =
+    Four (from c .args .text .now) (from c .args .at)
+    (c .before .before .before .spelled-at .result) (c .before .before .spelled-at2 .result) (c .before .spelled-at3 .result) (c .spelled-at4 .result)
 
 four : (c : tie.After-spelled-at4) → TheFour c
 four c = record { kind = c .before .before .before .spelled-at .ensures; first = c .before .before .spelled-at2 .ensures; second = c .before .spelled-at3 .ensures; third = c .spelled-at4 .ensures }
 
 spelled-at-requires : tie.Need-spelled-at-requires
-spelled-at-requires c κs = first-field _ 4 _ ((c .before .before .before .before .before) .pre .1)
+spelled-at-requires c κs = first-field _ 4 _ (c .before .before .before .before .before .pre .1)
 
 add-o : tie.Need-add-o
 add-o c = search needs
 
 spelled-at-requires-2 : tie.Need-spelled-at-requires-2
-spelled-at-requires-2 c κs = first-field _ 3 _ (later-fields _ 4 _ ((c .before .before .before .before .before .before) .pre .1))
+spelled-at-requires-2 c κs = first-field _ 3 _ (later-fields _ 4 _ (c .before .before .before .before .before .before .pre .1))
 
 add-p : tie.Need-add-p
 add-p c = search needs
 
 spelled-at-requires-3 : tie.Need-spelled-at-requires-3
-spelled-at-requires-3 c κs = first-field _ 2 _ (later-fields _ 3 _ (later-fields _ 4 _ ((c .before .before .before .before .before .before .before) .pre .1)))
+spelled-at-requires-3 c κs = first-field _ 2 _ (later-fields _ 3 _ (later-fields _ 4 _ (c .before .before .before .before .before .before .before .pre .1)))
 
 add-q : tie.Need-add-q
 add-q c = search needs
 
 spelled-at-requires-4 : tie.Need-spelled-at-requires-4
-spelled-at-requires-4 c κs = first-field _ 1 _ (later-fields _ 2 _ (later-fields _ 3 _ (later-fields _ 4 _ ((c .before .before .before .before .before .before .before .before) .pre .1))))
+spelled-at-requires-4 c κs = first-field _ 1 _ (later-fields _ 2 _ (later-fields _ 3 _ (later-fields _ 4 _ (c .before .before .before .before .before .before .before .before .pre .1))))
 
 record-find-requires : tie.Need-record-find-requires
 record-find-requires c κs = search needs
@@ -87,8 +88,9 @@ same-length-5 c = search needs
 
 returns-5 : tie.Need-returns-5
 returns-5 c =
-    let e = (c .before .before .before .before .before) in
-    moved-at (four (e .before .before .before .before)) _ _ _ _ (c .before .before .before .before .spelled-at5 .ensures) (e .before .before .before .if1 .left) (e .before .before .if2 .left) (e .before .if3 .left) (e .if4 .left) (c .before .before .record-move .ensures)
+    let e = c .before .before .before .before .before in
+    moved-at (four (e .before .before .before .before)) _ _ _ _ (c .before .before .before .before .spelled-at5 .ensures)
+    (e .before .before .before .if1 .left) (e .before .before .if2 .left) (e .before .if3 .left) (e .if4 .left) (c .before .before .record-move .ensures)
 
 pub record-at-spec : {M : Type 1} → statement M
 record-at-spec =

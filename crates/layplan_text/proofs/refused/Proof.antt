@@ -15,7 +15,7 @@ put-one-requires : tie.Need-put-one-requires
 put-one-requires c κs = search needs
 
 returns : tie.Need-returns
-returns c = let n = (c .before .before .before) .args .n in output-is (refusalText n) _ 12 (c .before .put-one .ensures) (sym (length-line (n ∷ [])))
+returns c = let n = c .before .before .before .args .n in output-is (refusalText n) _ 12 (c .before .put-one .ensures) (sym (length-line (n ∷ [])))
 
 pub refused-spec : {M : Type 1} → statement M
 refused-spec =

@@ -4,29 +4,29 @@ use Rattle.layplan_text.proofs.unused_ok.Statement.{statement}
 use Rattle.layplan_text.proofs.unused_ok.Tie as tie
 
 returns : tie.Need-returns
-returns c = let s = (c .before .before) .args in find-used-b (s .kind) (s .b) (s .c) (s .d) (c .before .if1 .taken) (c .if2 .taken)
+returns c = let s = c .before .before .args in find-used-b (s .kind) (s .b) (s .c) (s .d) (c .before .if1 .taken) (c .if2 .taken)
 
 returns-2 : tie.Need-returns-2
-returns-2 c = let s = (c .before .before .before) .args in find-used-c (s .kind) (s .b) (s .c) (s .d) (c .before .before .if1 .taken) (c .before .if2 .left) (c .if3 .taken)
+returns-2 c = let s = c .before .before .before .args in find-used-c (s .kind) (s .b) (s .c) (s .d) (c .before .before .if1 .taken) (c .before .if2 .left) (c .if3 .taken)
 
 returns-3 : tie.Need-returns-3
-returns-3 c = let s = (c .before .before .before) .args in find-d (s .kind) (s .b) (s .c) (s .d) (c .before .before .if1 .taken) (c .before .if2 .left) (c .if3 .left)
+returns-3 c = let s = c .before .before .before .args in find-d (s .kind) (s .b) (s .c) (s .d) (c .before .before .if1 .taken) (c .before .if2 .left) (c .if3 .left)
 
 returns-4 : tie.Need-returns-4
-returns-4 c = let s = (c .before .before .before) .args in range-used-c (s .kind) (s .b) (s .c) (s .d) (c .before .if4 .taken) (c .if5 .taken)
+returns-4 c = let s = c .before .before .before .args in range-used-c (s .kind) (s .b) (s .c) (s .d) (c .before .if4 .taken) (c .if5 .taken)
 
 returns-5 : tie.Need-returns-5
-returns-5 c = let s = (c .before .before .before) .args in range-d (s .kind) (s .b) (s .c) (s .d) (c .before .if4 .taken) (c .if5 .left)
+returns-5 c = let s = c .before .before .before .args in range-d (s .kind) (s .b) (s .c) (s .d) (c .before .if4 .taken) (c .if5 .left)
 
 returns-6 : tie.Need-returns-6
-returns-6 c = let s = (c .before .before .before) .args in insert-d (s .kind) (s .b) (s .c) (s .d) (c .if6 .taken)
+returns-6 c = let s = c .before .before .before .args in insert-d (s .kind) (s .b) (s .c) (s .d) (c .if6 .taken)
 
 returns-7 : tie.Need-returns-7
-returns-7 c = let s = (c .before .before .before .before) .args in delete-d (s .kind) (s .b) (s .c) (s .d) (c .if7 .taken)
+returns-7 c = let s = c .before .before .before .before .args in delete-d (s .kind) (s .b) (s .c) (s .d) (c .if7 .taken)
 
 returns-8 : tie.Need-returns-8
 returns-8 c =
-    let s = (c .before .before .before .before) .args in
+    let s = c .before .before .before .before .args in
     move-or-none (s .kind) (s .b) (s .c) (s .d) (c .before .before .before .if1 .left) (c .before .before .if4 .left) (c .before .if6 .left) (c .if7 .left)
 
 pub unused-ok-spec : {M : Type 1} → statement M
