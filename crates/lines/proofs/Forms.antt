@@ -22,9 +22,16 @@ whole : {A : Type 0} (o : Option A) (d : A) → o ≡ onlyIf (isSome o) (valueOr
 whole none d = refl
 whole (some a) d = refl
 
-assoc : (a b c : Bool) → a && (b && c) ≡ a && b && c
+pub assoc : (a b c : Bool) → a && (b && c) ≡ a && b && c
 assoc true b c = refl
 assoc false b c = refl
+
+-- two pairs of tests in another order
+pub pairs-swap : (a b c d : Bool) → a && b && (c && d) ≡ a && c && (b && d)
+pairs-swap true true c d = refl
+pairs-swap true false true d = refl
+pairs-swap true false false d = refl
+pairs-swap false b c d = refl
 
 -- two tests, one after the other
 pub both : {A B : Type 0} (b c : Bool) (a : A) (f : A → Option B) (w : B) → f a ≡ onlyIf c w → andThen (onlyIf b a) f ≡ onlyIf (b && c) w

@@ -14,9 +14,9 @@ use Rattle.model.specs.Partitions.{parts, everyAt}
 use Rattle.model.specs.Column.{inPlace, soundGrowers}
 use Rattle.model.proofs.LineLaws.{Fit, fitsField, fit-cons, fit-none, fit-first, fit-rest}
 use Rattle.slices.specs.Slices.{allWithin}
+use Rattle.lines.proofs.Forms.{pairs-swap}
 use Rattle.snapshot.specs.Texts.{lowOf, highOf, allFrom}
 use Rattle.snapshot.proofs.FenceLaws.{place-bounds}
-use Rattle.snapshot.proofs.TextLaws.{pairs-swap}
 use Rattle.model.proofs.ListLaws.{every-front, every-back}
 use Rattle.snapshot.proofs.Judging.{here-first}
 

@@ -26,18 +26,12 @@ use Rattle.model.proofs.BookLaws.{HeaderGood, header-good}
 use Rattle.model.proofs.LineLaws.{Fit, fit-first}
 use Rattle.lines.specs.Lines.{columnAt, lineOk, linesOk, rowsAt}
 use Rattle.lines.proofs.Storing.{length-column}
-use Rattle.lines.proofs.Forms.{chain, line-at, lines-at, column-of, lines-cut, rows-cut, length-rows-at, line-long, lines-long, nothing-left, column-fits}
+use Rattle.lines.proofs.Forms.{chain, line-at, lines-at, column-of, lines-cut, rows-cut, length-rows-at, line-long, lines-long, nothing-left, column-fits, pairs-swap}
 use Rattle.snapshot.specs.Texts.{headerAt, headOk, directoryAt, lowOf, highOf, rowOk, deliveryOk, deliveriesOk, partsOk}
 use Rattle.snapshot.specs.Answers.{numbersOk}
 use Rattle.snapshot.proofs.FenceLaws.{place-bounds}
 
 -- Tests in another order.
-
-pub pairs-swap : (a b c d : Bool) → a && b && (c && d) ≡ a && c && (b && d)
-pairs-swap true true c d = refl
-pairs-swap true false true d = refl
-pairs-swap true false false d = refl
-pairs-swap false b c d = refl
 
 swap : (a b : Bool) → a && b ≡ b && a
 swap true true = refl

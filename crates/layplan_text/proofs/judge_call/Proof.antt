@@ -1,0 +1,185 @@
+-- `layplan_text::judge_call` meets its contract: each number that is missing, the line's end, the kind or an unused number refuses the line. Assumes nothing.
+use Prim.Native.Nat.{ℕ}
+use mathlib.Core.Path.{_≡_, sym, ap, _∙_}
+use mathlib.Core.Bool.{true, false}
+use mathlib.Core.List.{List, [], _∷_, _++_}
+use native.Mathlib.Omega.{arith}
+use borrow.Author.Needs.{needs}
+use borrow.Author.Tests.{not-true, not-false}
+use Rattle.fields.specs.Reading.{readOf}
+use Rattle.lines.specs.Lines.{lineOk}
+use Rattle.lines.proofs.Reading.{Took, took-start, took-next, took-stop, took-end}
+use Rattle.layplan_text.proofs.CallLaws.{no-line, call-decided}
+use Rattle.layplan_text.proofs.judge_call.Statement.{statement}
+use Rattle.layplan_text.proofs.judge_call.Tie as tie
+
+-- The numbers taken so far.
+
+abbrev from-one : tie.After-f → tie.Start
+from-one c = c .before .before .before .before
+
+abbrev ns-one : tie.After-f → List ℕ
+ns-one c = c .f .given .0 .0 ∷ []
+
+one : (c : tie.After-f) → Took (from-one c .args .text .now) (from-one c .args .at) 5 1 (c .f .given .0 .1 .0) (ns-one c)
+one c = took-next (took-start _ _ 5) (omega arith) _ (ap readOf (sym (c .f .given .1)) ∙ c .before .before .number-at .ensures)
+
+abbrev to-one : tie.After-g → tie.After-f
+to-one c = c .before .before .before .before
+
+abbrev from-two : tie.After-g → tie.Start
+from-two c = from-one (to-one c)
+
+abbrev ns-two : tie.After-g → List ℕ
+ns-two c = ns-one (to-one c) ++ c .g .given .0 .0 ∷ []
+
+two : (c : tie.After-g) → Took (from-two c .args .text .now) (from-two c .args .at) 5 2 (c .g .given .0 .1 .0) (ns-two c)
+two c = took-next (one (to-one c)) (omega arith) _ (ap readOf (sym (c .g .given .1)) ∙ c .before .before .number-at2 .ensures)
+
+abbrev to-two : tie.After-h → tie.After-g
+to-two c = c .before .before .before .before
+
+abbrev from-three : tie.After-h → tie.Start
+from-three c = from-two (to-two c)
+
+abbrev ns-three : tie.After-h → List ℕ
+ns-three c = ns-two (to-two c) ++ c .h .given .0 .0 ∷ []
+
+three : (c : tie.After-h) → Took (from-three c .args .text .now) (from-three c .args .at) 5 3 (c .h .given .0 .1 .0) (ns-three c)
+three c = took-next (two (to-two c)) (omega arith) _ (ap readOf (sym (c .h .given .1)) ∙ c .before .before .number-at3 .ensures)
+
+abbrev to-three : tie.After-i → tie.After-h
+to-three c = c .before .before .before .before
+
+abbrev from-four : tie.After-i → tie.Start
+from-four c = from-three (to-three c)
+
+abbrev ns-four : tie.After-i → List ℕ
+ns-four c = ns-three (to-three c) ++ c .i .given .0 .0 ∷ []
+
+four : (c : tie.After-i) → Took (from-four c .args .text .now) (from-four c .args .at) 5 4 (c .i .given .0 .1 .0) (ns-four c)
+four c = took-next (three (to-three c)) (omega arith) _ (ap readOf (sym (c .i .given .1)) ∙ c .before .before .number-at4 .ensures)
+
+abbrev to-four : tie.After-j → tie.After-i
+to-four c = c .before .before .before .before
+
+abbrev from-five : tie.After-j → tie.Start
+from-five c = from-four (to-four c)
+
+abbrev ns-five : tie.After-j → List ℕ
+ns-five c = ns-four (to-four c) ++ c .j .given .0 .0 ∷ []
+
+five : (c : tie.After-j) → Took (from-five c .args .text .now) (from-five c .args .at) 5 5 (c .j .given .0 .1 .0) (ns-five c)
+five c = took-next (four (to-four c)) (omega arith) _ (ap readOf (sym (c .j .given .1)) ∙ c .before .before .number-at5 .ensures)
+
+-- an LF behind them: the line is good
+abbrev last : tie.Else1 → tie.After-j
+last c = c .before .before .before
+
+line-ends : (c : tie.Else1) → lineOk 5 (from-five (last c) .args .at) (from-five (last c) .args .text .now) ≡ true
+line-ends c = sym (took-end (five (last c)) (omega arith)) ∙ sym (c .before .ends .ensures) ∙ not-false _ (c .if1 .left)
+
+number-at-requires : tie.Need-number-at-requires
+number-at-requires c κs = search needs
+
+enum-known-f : tie.Need-enum-known-f
+enum-known-f c = search needs
+
+enum-told : tie.Need-enum-told
+enum-told c = search needs
+
+returns : tie.Need-returns
+returns c = no-line _ _ (took-stop (took-start _ _ 5) (omega arith) (ap readOf (sym (c .enum-told .given .1)) ∙ c .before .before .number-at .ensures))
+
+number-at-requires-2 : tie.Need-number-at-requires-2
+number-at-requires-2 c κs = search needs
+
+enum-known-g : tie.Need-enum-known-g
+enum-known-g c = search needs
+
+enum-told-2 : tie.Need-enum-told-2
+enum-told-2 c = search needs
+
+returns-2 : tie.Need-returns-2
+returns-2 c = no-line _ _ (took-stop (one (c .before .before .before .before)) (omega arith) (ap readOf (sym (c .enum-told2 .given .1)) ∙ c .before .before .number-at2 .ensures))
+
+number-at-requires-3 : tie.Need-number-at-requires-3
+number-at-requires-3 c κs = search needs
+
+enum-known-h : tie.Need-enum-known-h
+enum-known-h c = search needs
+
+enum-told-3 : tie.Need-enum-told-3
+enum-told-3 c = search needs
+
+returns-3 : tie.Need-returns-3
+returns-3 c = no-line _ _ (took-stop (two (c .before .before .before .before)) (omega arith) (ap readOf (sym (c .enum-told3 .given .1)) ∙ c .before .before .number-at3 .ensures))
+
+number-at-requires-4 : tie.Need-number-at-requires-4
+number-at-requires-4 c κs = search needs
+
+enum-known-i : tie.Need-enum-known-i
+enum-known-i c = search needs
+
+enum-told-4 : tie.Need-enum-told-4
+enum-told-4 c = search needs
+
+returns-4 : tie.Need-returns-4
+returns-4 c = no-line _ _ (took-stop (three (c .before .before .before .before)) (omega arith) (ap readOf (sym (c .enum-told4 .given .1)) ∙ c .before .before .number-at4 .ensures))
+
+number-at-requires-5 : tie.Need-number-at-requires-5
+number-at-requires-5 c κs = search needs
+
+enum-known-j : tie.Need-enum-known-j
+enum-known-j c = search needs
+
+enum-told-5 : tie.Need-enum-told-5
+enum-told-5 c = search needs
+
+returns-5 : tie.Need-returns-5
+returns-5 c = no-line _ _ (took-stop (four (c .before .before .before .before)) (omega arith) (ap readOf (sym (c .enum-told5 .given .1)) ∙ c .before .before .number-at5 .ensures))
+
+ends-requires : tie.Need-ends-requires
+ends-requires c κs = search needs
+
+returns-6 : tie.Need-returns-6
+returns-6 c = no-line _ _ (sym (not-true _ (c .if1 .taken)) ∙ c .before .ends .ensures ∙ took-end (five (c .before .before .before)) (omega arith))
+
+unused-ok-requires : tie.Need-unused-ok-requires
+unused-ok-requires c κs = search needs
+
+returns-7 : tie.Need-returns-7
+returns-7 c = call-decided _ _ _ _ _ _ _ (line-ends (c .before .before)) (five (last (c .before .before)) .values) false (sym (c .before .unused-ok .ensures _) ∙ not-true _ (c .if2 .taken))
+
+returns-8 : tie.Need-returns-8
+returns-8 c = call-decided _ _ _ _ _ _ _ (line-ends (c .before .before)) (five (last (c .before .before)) .values) true (sym (c .before .unused-ok .ensures _) ∙ not-false _ (c .if2 .left))
+
+pub judge-call-spec : {M : Type 1} → statement M
+judge-call-spec =
+    tie.close
+    (tie.spec
+    number-at-requires
+    enum-known-f
+    enum-told
+    returns
+    number-at-requires-2
+    enum-known-g
+    enum-told-2
+    returns-2
+    number-at-requires-3
+    enum-known-h
+    enum-told-3
+    returns-3
+    number-at-requires-4
+    enum-known-i
+    enum-told-4
+    returns-4
+    number-at-requires-5
+    enum-known-j
+    enum-told-5
+    returns-5
+    ends-requires
+    returns-6
+    unused-ok-requires
+    returns-7
+    returns-8)

@@ -1,0 +1,56 @@
+-- `layplan_text::judge_calls` meets its contract. The loop's invariant: the calls that are left, judged from here on, decide. Assumes nothing.
+use Prim.Native.Nat.{_-_}
+use mathlib.Core.Path.{ap}
+use native.Mathlib.Omega.{arith}
+use borrow.Author.Needs.{needs}
+use Rattle.lines.specs.Lines.{textRefusal}
+use Rattle.lines.proofs.Reading.{passed}
+use Rattle.layplan_text.proofs.CallLaws.{CallsLeft, calls-start, calls-stop, calls-next, calls-end}
+use Rattle.layplan_text.proofs.WeekLaws.{refused-by}
+use Rattle.layplan_text.proofs.judge_calls.Statement.{statement}
+use Rattle.layplan_text.proofs.judge_calls.Tie as tie
+
+abbrev Inv-loop : tie.InvT-loop
+Inv-loop text at q i₀ e₀ i e = CallsLeft text at q i e
+
+abbrev μ-loop : tie.MeasureT-loop
+μ-loop text at q i₀ e₀ i e = q - i
+
+loop-holds : tie.Need-loop-holds Inv-loop μ-loop
+loop-holds c = calls-start _ _ _
+
+judge-call-requires : tie.Need-judge-call-requires Inv-loop μ-loop
+judge-call-requires c κs = search needs
+
+returns : tie.Need-returns Inv-loop μ-loop
+returns c = refused-by _ _ (c .before .judge-call .ensures) (c .if1 .taken) (calls-stop (c .before .before .loop-test .taken) (c .before .before .before .loop .inv))
+
+add-e : tie.Need-add-e Inv-loop μ-loop
+add-e c = omega (arith, c .before .before .before .loop .inv .at-line, c .before .before .before .before .before .pre .0, c .before .before .before .before .before .pre .1)
+
+add-i : tie.Need-add-i Inv-loop μ-loop
+add-i c = omega arith
+
+loop-less : tie.Need-loop-less Inv-loop μ-loop
+loop-less c = omega arith
+
+loop-again : tie.Need-loop-again Inv-loop μ-loop
+loop-again c = calls-next (c .before .before .loop-test .taken) (c .before .before .before .loop .inv) (passed _ (c .before .judge-call .ensures) (c .if1 .left))
+
+returns-2 : tie.Need-returns-2 Inv-loop μ-loop
+returns-2 c = ap textRefusal (calls-end (c .loop-test .left) (c .before .loop .inv))
+
+pub judge-calls-spec : {M : Type 1} → statement M
+judge-calls-spec =
+    tie.close
+    (tie.spec
+    Inv-loop
+    μ-loop
+    loop-holds
+    judge-call-requires
+    returns
+    add-e
+    add-i
+    loop-less
+    loop-again
+    returns-2)

@@ -1,0 +1,91 @@
+-- `layplan_text::plan` meets its contract: the planner is asked with the numbers of the text, and its answer is the text's. Assumes nothing.
+use mathlib.Core.Path.{sym}
+use borrow.Author.Needs.{needs}
+use lib.Seq.{length-take-le}
+use Rattle.layplan_text.proofs.WeekLaws.{head}
+use Rattle.layplan_text.proofs.AnswerLaws.{Prices, plan-refuses, plan-fits, plan-few, plan-prints}
+use Rattle.layplan_text.proofs.plan.Statement.{statement}
+use Rattle.layplan_text.proofs.plan.Tie as tie
+
+-- The numbers that the planner is asked with.
+
+abbrev from : tie.After-card-of → tie.Start
+from c = c .before .before .before .before .before .before
+
+abbrev ThePrices : tie.After-spelled-at2 → Type 0
+ThePrices c =
+    Prices (from (c .before .before .before) .args .text .now)
+    (c .before .before .before .card-of .result) (c .before .before .limits-of .result) (c .before .spelled-at .result) (c .spelled-at2 .result)
+
+prices : (c : tie.After-spelled-at2) → ThePrices c
+prices c = record { card = c .before .before .before .card-of .ensures; limit = c .before .before .limits-of .ensures; block = c .before .spelled-at .ensures; used = c .spelled-at2 .ensures }
+
+card-of-requires : tie.Need-card-of-requires
+card-of-requires c κs = c .before .before .before .before .before .pre
+
+limits-of-requires : tie.Need-limits-of-requires
+limits-of-requires c κs = c .before .before .before .before .before .before .pre
+
+spelled-at-requires : tie.Need-spelled-at-requires
+spelled-at-requires c κs = head _ (c .before .before .before .before .before .before .before .pre) .block
+
+spelled-at-requires-2 : tie.Need-spelled-at-requires-2
+spelled-at-requires-2 c κs = head _ (c .before .before .before .before .before .before .before .before .pre) .used
+
+slice-aggregate-plan : tie.Need-slice-aggregate-plan
+slice-aggregate-plan c = search needs
+
+plan-requires : tie.Need-plan-requires
+plan-requires c κs = search needs
+
+refused-requires : tie.Need-refused-requires
+refused-requires c κs = search needs
+
+returns : tie.Need-returns
+returns c =
+    let p = prices (c .before .before .before .before .before) in
+    plan-refuses _ _ _ _ _ p _ _ (c .before .before .before .plan .ensures) _ (c .before .if1 .taken) (c .refused .ensures)
+
+cast-k : tie.Need-cast-k
+cast-k c = search needs
+
+array-share-prefix-ends : tie.Need-array-share-prefix-ends
+array-share-prefix-ends c =
+    let p = prices (c .before .before .before .before .before) in
+    plan-fits _ _ _ _ _ p _ _ (c .before .before .before .plan .ensures) (c .before .if1 .left) .count-in
+
+slice-aggregate-planned : tie.Need-slice-aggregate-planned
+slice-aggregate-planned c =
+    let p = prices (c .before .before .before .before .before .before) in
+    sym (length-take-le _ _ (plan-fits _ _ _ _ _ p _ _ (c .before .before .before .before .plan .ensures) (c .before .before .if1 .left) .count-in))
+
+planned-requires : tie.Need-planned-requires
+planned-requires c κs =
+    let p = prices (c .before .before .before .before .before .before .before) in
+    let e = c .before .before .before .before .before .plan .ensures in
+    let z = c .before .before .before .if1 .left in
+    (plan-few _ _ _ _ _ p _ _ e z, plan-fits _ _ _ _ _ p _ _ e z .fit)
+
+returns-2 : tie.Need-returns-2
+returns-2 c =
+    let p = prices (c .before .before .before .before .before .before .before .before) in
+    plan-prints _ _ _ _ _ p _ _ (c .before .before .before .before .before .before .plan .ensures) _ (c .before .before .before .before .if1 .left)
+    (record { sfits = c .before .struct-told .given .1 .1 .0 .1 }) (c .planned .ensures)
+
+pub plan-spec : {M : Type 1} → statement M
+plan-spec =
+    tie.close
+    (tie.spec
+    card-of-requires
+    limits-of-requires
+    spelled-at-requires
+    spelled-at-requires-2
+    slice-aggregate-plan
+    plan-requires
+    refused-requires
+    returns
+    cast-k
+    array-share-prefix-ends
+    slice-aggregate-planned
+    planned-requires
+    returns-2)

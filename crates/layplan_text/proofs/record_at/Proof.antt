@@ -1,0 +1,122 @@
+-- `layplan_text::record_at` meets its contract: the kind says which call of the recorder the line is. Assumes nothing.
+use borrow.Author.Needs.{needs}
+use Rattle.layplan_text.proofs.CallLaws.{Four, first-field, later-fields, found-at, ranged-at, inserted-at, deleted-at, moved-at}
+use Rattle.layplan_text.proofs.record_at.Statement.{statement}
+use Rattle.layplan_text.proofs.record_at.Tie as tie
+
+-- The first four numbers.
+
+abbrev from : tie.After-spelled-at4 → tie.Start
+from c = c .before .before .before .before .before .before .before .before .before
+
+abbrev TheFour : tie.After-spelled-at4 → Type 0
+TheFour c =
+    Four (from c .args .text .now) (from c .args .at)
+    (c .before .before .before .spelled-at .result) (c .before .before .spelled-at2 .result) (c .before .spelled-at3 .result) (c .spelled-at4 .result)
+
+four : (c : tie.After-spelled-at4) → TheFour c
+four c = record { kind = c .before .before .before .spelled-at .ensures; first = c .before .before .spelled-at2 .ensures; second = c .before .spelled-at3 .ensures; third = c .spelled-at4 .ensures }
+
+spelled-at-requires : tie.Need-spelled-at-requires
+spelled-at-requires c κs = first-field _ 4 _ (c .before .before .before .before .before .pre .1)
+
+add-o : tie.Need-add-o
+add-o c = search needs
+
+spelled-at-requires-2 : tie.Need-spelled-at-requires-2
+spelled-at-requires-2 c κs = first-field _ 3 _ (later-fields _ 4 _ (c .before .before .before .before .before .before .pre .1))
+
+add-p : tie.Need-add-p
+add-p c = search needs
+
+spelled-at-requires-3 : tie.Need-spelled-at-requires-3
+spelled-at-requires-3 c κs = first-field _ 2 _ (later-fields _ 3 _ (later-fields _ 4 _ (c .before .before .before .before .before .before .before .pre .1)))
+
+add-q : tie.Need-add-q
+add-q c = search needs
+
+spelled-at-requires-4 : tie.Need-spelled-at-requires-4
+spelled-at-requires-4 c κs = first-field _ 1 _ (later-fields _ 2 _ (later-fields _ 3 _ (later-fields _ 4 _ (c .before .before .before .before .before .before .before .before .pre .1))))
+
+record-find-requires : tie.Need-record-find-requires
+record-find-requires c κs = search needs
+
+same-length : tie.Need-same-length
+same-length c = search needs
+
+returns : tie.Need-returns
+returns c = found-at (four (c .before .before .before .before .before)) _ _ _ (c .before .before .before .before .if1 .taken) (c .before .before .record-find .ensures)
+
+record-range-requires : tie.Need-record-range-requires
+record-range-requires c κs = search needs
+
+same-length-2 : tie.Need-same-length-2
+same-length-2 c = search needs
+
+returns-2 : tie.Need-returns-2
+returns-2 c = ranged-at (four (c .before .before .before .before .before .before)) _ _ _ (c .before .before .before .before .if2 .taken) (c .before .before .record-range .ensures)
+
+record-insert-requires : tie.Need-record-insert-requires
+record-insert-requires c κs = search needs
+
+same-length-3 : tie.Need-same-length-3
+same-length-3 c = search needs
+
+returns-3 : tie.Need-returns-3
+returns-3 c = inserted-at (four (c .before .before .before .before .before .before .before)) _ _ _ (c .before .before .before .before .if3 .taken) (c .before .before .record-insert .ensures)
+
+record-delete-requires : tie.Need-record-delete-requires
+record-delete-requires c κs = search needs
+
+same-length-4 : tie.Need-same-length-4
+same-length-4 c = search needs
+
+returns-4 : tie.Need-returns-4
+returns-4 c = deleted-at (four (c .before .before .before .before .before .before .before .before)) _ _ _ (c .before .before .before .before .if4 .taken) (c .before .before .record-delete .ensures)
+
+add-spelled-at : tie.Need-add-spelled-at
+add-spelled-at c = search needs
+
+spelled-at-requires-5 : tie.Need-spelled-at-requires-5
+spelled-at-requires-5 c κs = let s = from (c .before .before .before .before) in first-field _ 0 _ (later-fields _ 1 _ (later-fields _ 2 _ (later-fields _ 3 _ (later-fields _ 4 _ (s .pre .1)))))
+
+record-move-requires : tie.Need-record-move-requires
+record-move-requires c κs = search needs
+
+same-length-5 : tie.Need-same-length-5
+same-length-5 c = search needs
+
+returns-5 : tie.Need-returns-5
+returns-5 c =
+    let e = c .before .before .before .before .before in
+    moved-at (four (e .before .before .before .before)) _ _ _ _ (c .before .before .before .before .spelled-at5 .ensures)
+    (e .before .before .before .if1 .left) (e .before .before .if2 .left) (e .before .if3 .left) (e .if4 .left) (c .before .before .record-move .ensures)
+
+pub record-at-spec : {M : Type 1} → statement M
+record-at-spec =
+    tie.close
+    (tie.spec
+    spelled-at-requires
+    add-o
+    spelled-at-requires-2
+    add-p
+    spelled-at-requires-3
+    add-q
+    spelled-at-requires-4
+    record-find-requires
+    same-length
+    returns
+    record-range-requires
+    same-length-2
+    returns-2
+    record-insert-requires
+    same-length-3
+    returns-3
+    record-delete-requires
+    same-length-4
+    returns-4
+    add-spelled-at
+    spelled-at-requires-5
+    record-move-requires
+    same-length-5
+    returns-5)
