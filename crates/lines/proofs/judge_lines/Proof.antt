@@ -33,9 +33,7 @@ returns c =
     q ∙ ap textRefusal (f ∙ lines-stop (c .before .before .loop-test .taken) (c .before .before .before .loop .inv) f)
 
 add-e : tie.Need-add-e Inv-loop μ-loop
-add-e c =
-    omega
-    (arith, c .before .before .before .loop .inv .near, c .before .before .before .before .before .pre .0, c .before .before .before .before .before .pre .1, c .before .before .before .before .before .pre .2)
+add-e c = let p = c .before .before .before .before .before .pre in omega (arith, c .before .before .before .loop .inv .near, p .0, p .1, p .2)
 
 add-i : tie.Need-add-i Inv-loop μ-loop
 add-i c = omega arith

@@ -113,9 +113,7 @@ array-write-d-4 : tie.Need-array-write-d-4 Inv-loop μ-loop
 array-write-d-4 c = omega (arith, c .before .before .before .before .before .before .before .before .before .before .before .loop .inv .few)
 
 add-at : tie.Need-add-at Inv-loop μ-loop
-add-at c =
-    omega
-    (arith, c .before .before .before .before .before .before .before .before .before .before .before .loop .inv .few, c .before .before .before .before .before .before .before .before .before .before .before .loop .inv .at-line)
+add-at c = let w = c .before .before .before .before .before .before .before .before .before .before .before .loop .inv in omega (arith, w .few, w .at-line)
 
 add-i : tie.Need-add-i Inv-loop μ-loop
 add-i c = omega arith
