@@ -27,10 +27,13 @@ callBy ns =
     (cond (eqb (nth 0 ns) 4) (delete (delivery (nth 1 ns) (nth 2 ns) (nth 3 ns)))
     (move (delivery (nth 1 ns) (nth 2 ns) (nth 3 ns)) (nth 4 ns)))))
 
--- the calls of q lines of five numbers
+-- the call of the line of five numbers at a byte, and the calls of q such lines
+abbrev pub callAt : ℕ → List ℕ → Call
+callAt at t = callBy (columnAt 11 at 5 t)
+
 unfoldable pub callsAt : ℕ → ℕ → List ℕ → List Call
 callsAt zero at t = []
-callsAt (suc q) at t = callBy (columnAt 11 at 5 t) ∷ callsAt q (at + 56) t
+callsAt (suc q) at t = callAt at t ∷ callsAt q (at + 56) t
 
 -- is the line at a byte five numbers that are a call? q such lines?
 unfoldable pub callOk : ℕ → List ℕ → Bool

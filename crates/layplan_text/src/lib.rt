@@ -10,8 +10,8 @@ ghost use Rattle.model.specs.Recorder.{recordCall};
 ghost use Rattle.model.specs.Program.{callOf, sizesOk, recordUntilRefused, refusalText, partitionTexts, weekText, planText, layplan};
 ghost use Rattle.checks.specs.Lent.{setOf};
 ghost use Rattle.fields.specs.Writing.{placed};
-ghost use Rattle.lines.specs.Lines.{textRefusal, columnAt, lineOk};
-ghost use Rattle.layplan_text.specs.Week.{callBy, callsAt, callOk, callsOk, headOk, weekOk, cardIn, limitsIn, weekIn, planIn};
+ghost use Rattle.lines.specs.Lines.{textRefusal, lineOk};
+ghost use Rattle.layplan_text.specs.Week.{callAt, callsAt, callOk, callsOk, headOk, weekOk, cardIn, limitsIn, weekIn, planIn};
 ghost use Rattle.layplan_text.specs.Texts.{outputOf, endsText, EndsFit};
 use fields::Field;
 use fields::SIGNED_WIDTH;
@@ -226,17 +226,14 @@ fn record_at(
     yields: &[u32],
 ) -> u32
     requires { ⌜ (at ≤ 1000000) × T (lineOk 5 at (now text)) ⌝ }
-    ensures { λ r. ⌜ record { refusal = r; histograms = now (histograms .exit) }
-        ≡ recordCall 64 (setOf block used (now (growers .entry)) (now (weights .entry)) (now (yields .entry)))
-        (now (histograms .entry)) (callBy (columnAt 11 at 5 (now (text .entry)))) ⌝ }
+    ensures { λ r. ⌜ record { refusal = r; histograms = now (histograms .exit) } ≡ recordCall 64
+        (setOf block used (now (growers .entry)) (now (weights .entry)) (now (yields .entry))) (now (histograms .entry)) (callAt at (now (text .entry))) ⌝ }
 {
     let kind = fields::spelled_at(text, at);
-    let o = at + WIDTH;
-    let a = fields::spelled_at(text, o);
-    let p = o + WIDTH;
+    let a = fields::spelled_at(text, at + WIDTH);
+    let p = at + WIDTH + WIDTH;
     let b = fields::spelled_at(text, p);
-    let q = p + WIDTH;
-    let c = fields::spelled_at(text, q);
+    let c = fields::spelled_at(text, p + WIDTH);
     if kind == FIND {
         return recorder::record_find(histograms, block, used, growers, weights, yields, a);
     }
@@ -254,7 +251,7 @@ fn record_at(
     if kind == DELETE {
         return recorder::record_delete(histograms, block, used, growers, weights, yields, d);
     }
-    let n = fields::spelled_at(text, q + WIDTH);
+    let n = fields::spelled_at(text, p + WIDTH + WIDTH);
     recorder::record_move(histograms, block, used, growers, weights, yields, d, n)
 }
 
@@ -271,9 +268,8 @@ fn record_lines(
     yields: &[u32],
 ) -> u32
     requires { ⌜ (at ≤ 100000) × (q ≤ 1000) × T (callsOk q at (now text)) ⌝ }
-    ensures { λ r. ⌜ record { refusal = r; histograms = now (histograms .exit) }
-        ≡ recordUntilRefused (setOf block used (now (growers .entry)) (now (weights .entry)) (now (yields .entry)))
-        (now (histograms .entry)) (callsAt q at (now (text .entry))) ⌝ }
+    ensures { λ r. ⌜ record { refusal = r; histograms = now (histograms .exit) } ≡ recordUntilRefused
+        (setOf block used (now (growers .entry)) (now (weights .entry)) (now (yields .entry))) (now (histograms .entry)) (callsAt q at (now (text .entry))) ⌝ }
 {
     let mut i = 0;
     let mut e = at;

@@ -48,7 +48,9 @@ refused-requires : tie.Need-refused-requires
 refused-requires c κs = search needs
 
 returns : tie.Need-returns
-returns c = answer-refused _ _ _ (sizes (c .before .before .before .before .before)) _ _ (c .before .before .before .record-lines .ensures) _ (c .before .if1 .taken) (c .refused .ensures)
+returns c =
+    let n = sizes (c .before .before .before .before .before) in
+    answer-refused _ _ _ n _ _ (c .before .before .before .record-lines .ensures) _ (λ z. omega (arith, z, c .before .if1 .taken)) (c .refused .ensures)
 
 slice-aggregate-plan : tie.Need-slice-aggregate-plan
 slice-aggregate-plan c = search needs
@@ -59,7 +61,7 @@ plan-requires c κs = good _ (c .before .before .before .before .before .before 
 returns-2 : tie.Need-returns-2
 returns-2 c =
     let n = sizes (c .before .before .before .before .before .before) in
-    answer-planned _ _ _ n _ _ (c .before .before .before .before .record-lines .ensures) _ (c .before .before .if1 .left) (c .plan .ensures)
+    answer-planned _ _ _ n _ _ (c .before .before .before .before .record-lines .ensures) _ (omega (arith, c .before .before .if1 .left)) (c .plan .ensures)
 
 pub answer-spec : {M : Type 1} → statement M
 answer-spec =

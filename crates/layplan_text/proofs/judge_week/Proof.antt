@@ -1,5 +1,5 @@
 -- `layplan_text::judge_week` meets its contract: what is missing first refuses the text, and then what is left over. Assumes nothing.
-use Prim.Native.Nat.{ℕ, _+_, _*_, _≤_}
+use Prim.Native.Nat.{ℕ, _+_, _*_, _≤_, _<_}
 use mathlib.Core.Path.{_≡_}
 use mathlib.Core.Bool.{Bool, true, false}
 use mathlib.Core.List.{List}
@@ -35,6 +35,9 @@ m c = c .before .spelled-at .result
 abbrev q : tie.After-spelled-at2 → ℕ
 q c = c .spelled-at2 .result
 
+abbrev stops : tie.After-spelled-at2 → ℕ
+stops c = 91 + 34 * m c + 56 * q c
+
 few : (c : tie.After-spelled-at2) → m c ≤ 1024
 few c = omega (arith, lines (c .before .before) .few, c .before .spelled-at .ensures)
 
@@ -57,12 +60,18 @@ calls-missing c =
 abbrev counted : tie.Else3 → tie.After-spelled-at2
 counted c = sizes (c .before .before)
 
-decided : (c : tie.Else3) (b : Bool) → leb (length (text (counted c))) (91 + 34 * m (counted c) + 56 * q (counted c)) ≡ b → textRefusal b ≡ textRefusal (weekOk (text (counted c)))
+decided : (c : tie.Else3) (b : Bool) → leb (length (text (counted c))) (stops (counted c)) ≡ b → textRefusal b ≡ textRefusal (weekOk (text (counted c)))
 decided c =
     let n = counted c in
     let l = c .before .before in
     week-decided _ (first (n .before .before)) _ _ (n .before .spelled-at .ensures) (n .spelled-at2 .ensures)
     (passed _ (l .before .judge-lines .ensures) (l .if2 .left)) (passed _ (c .before .judge-calls .ensures) (c .if3 .left))
+
+goes-on : (c : tie.Else3) → stops (counted c) < length (text (counted c)) → 14 ≡ textRefusal (weekOk (text (counted c)))
+goes-on c h = decided c false (lt-leb _ _ h)
+
+is-done : (c : tie.Else3) → length (text (counted c)) ≤ stops (counted c) → 0 ≡ textRefusal (weekOk (text (counted c)))
+is-done c h = decided c true (le-leb _ _ h)
 
 judge-head-requires : tie.Need-judge-head-requires
 judge-head-requires c κs = search needs
@@ -107,10 +116,10 @@ add-if4 : tie.Need-add-if4
 add-if4 c = let n = sizes (c .before .before) in omega (arith, few n, calls n)
 
 returns-4 : tie.Need-returns-4
-returns-4 c = decided (c .before) false (lt-leb _ _ (c .if4 .taken))
+returns-4 c = goes-on (c .before) (omega (arith, c .if4 .taken))
 
 returns-5 : tie.Need-returns-5
-returns-5 c = decided (c .before) true (le-leb _ _ (c .if4 .left))
+returns-5 c = is-done (c .before) (omega (arith, c .if4 .left))
 
 pub judge-week-spec : {M : Type 1} → statement M
 judge-week-spec =

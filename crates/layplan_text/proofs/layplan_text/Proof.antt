@@ -75,22 +75,22 @@ add-c : tie.Need-add-c
 add-c c = search needs
 
 array-share-prefix-growers : tie.Need-array-share-prefix-growers
-array-share-prefix-growers c = stored-room _ 91 _ 1025 (few c) _ (growers c .store .ensures)
+array-share-prefix-growers c = omega (arith, stored-room _ 91 _ 1025 (few c) _ (growers c .store .ensures))
 
 slice-aggregate-answer : tie.Need-slice-aggregate-answer
-slice-aggregate-answer c = sym (length-take-le _ _ (stored-room _ 91 _ 1025 (few (c .before)) _ (growers (c .before) .store .ensures)))
+slice-aggregate-answer c = sym (length-take-le _ _ (omega (arith, stored-room _ 91 _ 1025 (few (c .before)) _ (growers (c .before) .store .ensures))))
 
 array-share-prefix-weights : tie.Need-array-share-prefix-weights
-array-share-prefix-weights c = stored-room _ 102 _ 1025 (few (c .before)) _ (weights (c .before) .store2 .ensures)
+array-share-prefix-weights c = omega (arith, stored-room _ 102 _ 1025 (few (c .before)) _ (weights (c .before) .store2 .ensures))
 
 slice-aggregate-answer-2 : tie.Need-slice-aggregate-answer-2
-slice-aggregate-answer-2 c = sym (length-take-le _ _ (stored-room _ 102 _ 1025 (few (c .before .before)) _ (weights (c .before .before) .store2 .ensures)))
+slice-aggregate-answer-2 c = sym (length-take-le _ _ (omega (arith, stored-room _ 102 _ 1025 (few (c .before .before)) _ (weights (c .before .before) .store2 .ensures))))
 
 array-share-prefix-yields : tie.Need-array-share-prefix-yields
-array-share-prefix-yields c = stored-room _ 113 _ 1025 (few (c .before .before)) _ (yields (c .before .before) .store3 .ensures)
+array-share-prefix-yields c = omega (arith, stored-room _ 113 _ 1025 (few (c .before .before)) _ (yields (c .before .before) .store3 .ensures))
 
 slice-aggregate-answer-3 : tie.Need-slice-aggregate-answer-3
-slice-aggregate-answer-3 c = sym (length-take-le _ _ (stored-room _ 113 _ 1025 (few (c .before .before .before)) _ (yields (c .before .before .before) .store3 .ensures)))
+slice-aggregate-answer-3 c = sym (length-take-le _ _ (omega (arith, stored-room _ 113 _ 1025 (few (c .before .before .before)) _ (yields (c .before .before .before) .store3 .ensures))))
 
 answer-requires : tie.Need-answer-requires
 answer-requires c κs = of-true _ (week (spelled (c .before .before .before) .before))

@@ -20,8 +20,8 @@ four c = record { kind = c .before .before .before .spelled-at .ensures; first =
 spelled-at-requires : tie.Need-spelled-at-requires
 spelled-at-requires c κs = first-field _ 4 _ (c .before .before .before .before .before .pre .1)
 
-add-o : tie.Need-add-o
-add-o c = search needs
+add-spelled-at : tie.Need-add-spelled-at
+add-spelled-at c = search needs
 
 spelled-at-requires-2 : tie.Need-spelled-at-requires-2
 spelled-at-requires-2 c κs = first-field _ 3 _ (later-fields _ 4 _ (c .before .before .before .before .before .before .pre .1))
@@ -29,11 +29,14 @@ spelled-at-requires-2 c κs = first-field _ 3 _ (later-fields _ 4 _ (c .before .
 add-p : tie.Need-add-p
 add-p c = search needs
 
+add-p-2 : tie.Need-add-p-2
+add-p-2 c = search needs
+
 spelled-at-requires-3 : tie.Need-spelled-at-requires-3
 spelled-at-requires-3 c κs = first-field _ 2 _ (later-fields _ 3 _ (later-fields _ 4 _ (c .before .before .before .before .before .before .before .pre .1)))
 
-add-q : tie.Need-add-q
-add-q c = search needs
+add-spelled-at-2 : tie.Need-add-spelled-at-2
+add-spelled-at-2 c = search needs
 
 spelled-at-requires-4 : tie.Need-spelled-at-requires-4
 spelled-at-requires-4 c κs = first-field _ 1 _ (later-fields _ 2 _ (later-fields _ 3 _ (later-fields _ 4 _ (c .before .before .before .before .before .before .before .before .pre .1))))
@@ -74,8 +77,11 @@ same-length-4 c = search needs
 returns-4 : tie.Need-returns-4
 returns-4 c = deleted-at (four (c .before .before .before .before .before .before .before .before)) _ _ _ (c .before .before .before .before .if4 .taken) (c .before .before .record-delete .ensures)
 
-add-spelled-at : tie.Need-add-spelled-at
-add-spelled-at c = search needs
+add-spelled-at-3 : tie.Need-add-spelled-at-3
+add-spelled-at-3 c = search needs
+
+add-spelled-at-4 : tie.Need-add-spelled-at-4
+add-spelled-at-4 c = search needs
 
 spelled-at-requires-5 : tie.Need-spelled-at-requires-5
 spelled-at-requires-5 c κs = let s = from (c .before .before .before .before) in first-field _ 0 _ (later-fields _ 1 _ (later-fields _ 2 _ (later-fields _ 3 _ (later-fields _ 4 _ (s .pre .1)))))
@@ -97,11 +103,12 @@ record-at-spec =
     tie.close
     (tie.spec
     spelled-at-requires
-    add-o
+    add-spelled-at
     spelled-at-requires-2
     add-p
+    add-p-2
     spelled-at-requires-3
-    add-q
+    add-spelled-at-2
     spelled-at-requires-4
     record-find-requires
     same-length
@@ -115,7 +122,8 @@ record-at-spec =
     record-delete-requires
     same-length-4
     returns-4
-    add-spelled-at
+    add-spelled-at-3
+    add-spelled-at-4
     spelled-at-requires-5
     record-move-requires
     same-length-5

@@ -28,7 +28,7 @@ same-length c = search needs
 returns : tie.Need-returns Inv-loop μ-loop
 returns c =
     let l = c .before .before .before .before .before in
-    records-stop (l .loop-test .taken) (l .before .loop .inv) _ _ (c .before .before .before .record-at .ensures) (c .if1 .taken)
+    records-stop (l .loop-test .taken) (l .before .loop .inv) _ _ (c .before .before .before .record-at .ensures) (λ z. omega (arith, z, c .if1 .taken))
 
 add-e : tie.Need-add-e Inv-loop μ-loop
 add-e c =
@@ -45,7 +45,7 @@ loop-less c = omega arith
 loop-again : tie.Need-loop-again Inv-loop μ-loop
 loop-again c =
     let l = c .before .before .before .before .before in
-    records-next (l .loop-test .taken) (l .before .loop .inv) _ _ (c .before .before .before .record-at .ensures) (c .if1 .left) (search needs)
+    records-next (l .loop-test .taken) (l .before .loop .inv) _ _ (c .before .before .before .record-at .ensures) (omega (arith, c .if1 .left)) (search needs)
 
 same-length-2 : tie.Need-same-length-2 Inv-loop μ-loop
 same-length-2 c = c .before .loop .inv .size

@@ -1,16 +1,17 @@
 -- `layplan_text::unused_ok` meets its contract: each kind has its own unused numbers. Assumes nothing.
+use native.Mathlib.Omega.{arith}
 use Rattle.layplan_text.proofs.CallLaws.{find-used-b, find-used-c, find-d, range-used-c, range-d, insert-d, delete-d, move-or-none}
 use Rattle.layplan_text.proofs.unused_ok.Statement.{statement}
 use Rattle.layplan_text.proofs.unused_ok.Tie as tie
 
 returns : tie.Need-returns
-returns c = let s = c .before .before .args in find-used-b (s .kind) (s .b) (s .c) (s .d) (c .before .if1 .taken) (c .if2 .taken)
+returns c = let s = c .before .before .args in find-used-b (s .kind) (s .b) (s .c) (s .d) (c .before .if1 .taken) (λ z. omega (arith, z, c .if2 .taken))
 
 returns-2 : tie.Need-returns-2
-returns-2 c = let s = c .before .before .before .args in find-used-c (s .kind) (s .b) (s .c) (s .d) (c .before .before .if1 .taken) (c .before .if2 .left) (c .if3 .taken)
+returns-2 c = let s = c .before .before .before .args in find-used-c (s .kind) (s .b) (s .c) (s .d) (c .before .before .if1 .taken) (omega (arith, c .before .if2 .left)) (c .if3 .taken)
 
 returns-3 : tie.Need-returns-3
-returns-3 c = let s = c .before .before .before .args in find-d (s .kind) (s .b) (s .c) (s .d) (c .before .before .if1 .taken) (c .before .if2 .left) (c .if3 .left)
+returns-3 c = let s = c .before .before .before .args in find-d (s .kind) (s .b) (s .c) (s .d) (c .before .before .if1 .taken) (omega (arith, c .before .if2 .left)) (c .if3 .left)
 
 returns-4 : tie.Need-returns-4
 returns-4 c = let s = c .before .before .before .args in range-used-c (s .kind) (s .b) (s .c) (s .d) (c .before .if4 .taken) (c .if5 .taken)
