@@ -12,13 +12,12 @@ use native.Mathlib.Nat.{pow-suc, pow-le-pow-right}
 use native.Mathlib.Decide.{decLt}
 use borrow.Author.Tests.{ne-eqb, le-leb, lt-leb}
 use lib.Dec.{T, leb, ltb, eqb, leb→le, lt→ltb, ltb→lt, eqb→eq}
-use lib.ListN.{length, getD, take, drop, replicate, length-take, length-drop, length-append, length-replicate, replicate-append-replicate}
+use lib.ListN.{length, getD, take, drop, replicate, length-take, length-drop, length-replicate, replicate-append-replicate}
 use lib.Seq.{take-suc, take-all, take-at, take-take, take-append-le, getD-at, length-take-le, getD-take, getD-drop}
 use Rattle.model.specs.Bounds.{mostNumber}
-use Rattle.model.specs.Lists.{andThen}
 use Rattle.model.specs.Fields.{blank, lastDigit, leading, justified, numberField, spelled, readField}
 use Rattle.model.proofs.Tests.{and-fst, and-snd, eqb-no, of-true}
-use Rattle.fields.specs.Reading.{Read, fieldAt, readAt, Blanks}
+use Rattle.fields.specs.Reading.{fieldAt, readAt, Blanks}
 use Rattle.model.proofs.FieldLaws.{IsField, length-leading, length-number, spelled-append, spelled-blanks, spelled-leading, spelled-justified, read-number, field-read, below-tenth}
 
 -- a text that is no number's field

@@ -1,11 +1,11 @@
 -- A number written column by column, from its last digit to the left. Assumes nothing.
-use Prim.Native.Nat.{ℕ, zero, suc, _+_, _-_, _*_, _/_, _%_, _≤_, _<_}
+use Prim.Native.Nat.{ℕ, suc, _+_, _-_, _/_, _≤_, _<_}
 use mathlib.Core.Path.{_≡_, refl, sym, ap, ap₂, _∙_}
-use mathlib.Core.List.{List, [], _∷_, _++_, append-assoc}
+use mathlib.Core.List.{List, [], _∷_, _++_}
 use native.Mathlib.Omega.{arith}
 use native.Mathlib.Numerals.{add-one}
 use borrow.Author.Tests.{ne-eqb}
-use lib.ListN.{length, getD, take, drop, set, replicate, length-append, length-replicate, length-set, take-append-drop, replicate-append-replicate}
+use lib.ListN.{length, take, drop, set, length-set, take-append-drop}
 use lib.Seq.{drop-cons, take-set-le, drop-set-lt, getD-set-same, append-snoc}
 use Rattle.model.specs.Fields.{blank, lastDigit, leading, justified}
 use Rattle.fields.specs.Writing.{placed}

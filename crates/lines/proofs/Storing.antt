@@ -10,7 +10,7 @@ use Rattle.fields.specs.Reading.{fieldOk, valueAt}
 use Rattle.lines.specs.Lines.{columnAt, columnOk, lineLength, lineOk, linesOk}
 use Rattle.model.proofs.Tests.{and-fst, and-snd, and-mk}
 use lib.Dec.{T}
-use mathlib.Core.Bool.{Bool, true, _&&_}
+use mathlib.Core.Bool.{_&&_}
 
 -- Columns of a text.
 

@@ -1,8 +1,8 @@
 -- A book's text is read as that book, and a text that is read is the text of its book. Assumes nothing.
 use Prim.Native.Nat.{ℕ, zero, suc, _+_, _≤_}
 use mathlib.Core.Path.{_≡_, refl, sym, ap, ap₂, _∙_, subst}
-use mathlib.Core.Bool.{Bool, true, false, _&&_}
-use mathlib.Core.Option.{Option, none, some}
+use mathlib.Core.Bool.{_&&_}
+use mathlib.Core.Option.{some}
 use mathlib.Core.List.{List, [], _∷_, _++_, append-assoc, append-nil, map}
 use native.Mathlib.Omega.{arith}
 use lib.Dec.{T, leb, eqb, leb→le, le→leb, eqb→eq}
@@ -12,12 +12,11 @@ use Rattle.model.specs.Bounds.{mostNumber, mostSlots, mostBlockLength, m
 use Rattle.model.specs.Lists.{sumOf, every, rising, onlyIf, andThen}
 use Rattle.model.specs.Deliveries.{growerOf, inRange}
 use Rattle.model.specs.Blocks.{blockLengthOk}
-use Rattle.model.specs.Directory.{Directory}
 use Rattle.model.specs.Column.{soundGrowers}
 use Rattle.model.specs.Fields.{line, lines, Taken, taken, takeLine, takeLines, nth}
 use Rattle.model.specs.Snapshot.{Header, Book, partitionRows, deliveryRow, deliveryOf, bookText, headerOk, headerOf, takeHeader, bookOk, bookOf, readBook, slotsForBook}
 use Rattle.model.proofs.Tests.{and-fst, and-snd, and-mk, is-true, eq→eqb}
-use Rattle.model.proofs.LineLaws.{through, only, Fit, fit-cons, fit-none, fit-first, fit-rest, take-line, TookLine, line-taken, Row, Rows, no-rows, row, take-lines, TookLines, lines-taken}
+use Rattle.model.proofs.LineLaws.{through, only, Fit, fit-cons, fit-none, fit-first, fit-rest, take-line, TookLine, line-taken, Rows, no-rows, row, take-lines, TookLines, lines-taken}
 
 fit-three : (a b c : ℕ) → a ≤ mostNumber → b ≤ mostNumber → c ≤ mostNumber → Fit (a ∷ b ∷ c ∷ [])
 fit-three a b c x y z = fit-cons a (b ∷ c ∷ []) x (fit-cons b (c ∷ []) y (fit-cons c [] z fit-none))

@@ -1,17 +1,17 @@
 -- A number's field: its length, what it spells, and that writing and reading agree. Assumes nothing.
-use Prim.Native.Nat.{ℕ, zero, suc, _+_, _-_, _*_, _/_, _%_, _^_, _≤_, _<_}
+use Prim.Native.Nat.{ℕ, zero, suc, _+_, _-_, _*_, _/_, _^_, _≤_, _<_}
 use mathlib.Core.Path.{_≡_, refl, sym, ap, ap₂, _∙_, subst}
 use mathlib.Core.Bool.{Bool, true, false, cond, _&&_}
-use mathlib.Core.Option.{Option, none, some}
-use mathlib.Core.List.{List, [], _∷_, _++_, append-assoc}
+use mathlib.Core.Option.{some}
+use mathlib.Core.List.{List, [], _∷_, _++_}
 use native.Mathlib.Omega.{arith}
-use native.Mathlib.Nat.{pow-suc, div-lt-iff-lt-mul, div-add-mod'}
+use native.Mathlib.Nat.{pow-suc}
 use lib.Dec.{T, leb, eqb, le→leb, leb→le, eqb→eq, eqb-refl}
-use lib.ListN.{length, take, drop, replicate, length-append, length-replicate}
+use lib.ListN.{length, replicate, length-append, length-replicate}
 use Rattle.model.specs.Bounds.{mostNumber}
 use Rattle.model.specs.Lists.{sameList, onlyIf}
-use Rattle.model.specs.Fields.{blank, lastDigit, leading, justified, fieldWidth, numberField, signedField, spelled, readField}
-use Rattle.model.proofs.Tests.{and-fst, and-snd, and-mk, is-true, eqb-no}
+use Rattle.model.specs.Fields.{blank, lastDigit, leading, justified, numberField, spelled, readField}
+use Rattle.model.proofs.Tests.{and-fst, and-snd, is-true}
 
 -- Lists that are the same.
 

@@ -3,7 +3,7 @@ use Prim.Native.Nat.{ℕ}
 use Prim.Native.String.{String, _++_}
 use mathlib.Core.Path.{_≡_}
 use mathlib.Core.Option.{none, some}
-use mathlib.Core.List.{List, _∷_, []}
+use mathlib.Core.List.{_∷_, []}
 use lib.ListN.{take, drop, replicate}
 use lib.IntN.{pos, negsuc}
 use Rattle.model.specs.Fields.{numberField, signedField, readField}

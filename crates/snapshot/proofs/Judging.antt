@@ -1,25 +1,24 @@
 -- What each line says of the text that is judged, and what a turn of each loop shows: line 1, partition lines listed, delivery
 -- lines, partitions. Assumes nothing.
-use Prim.Native.Nat.{ℕ, zero, suc, _+_, _-_, _*_, _≤_, _<_}
-use mathlib.Core.Path.{_≡_, refl, sym, ap, ap₂, _∙_, subst}
-use mathlib.Core.Bool.{Bool, true, false, cond, _&&_}
+use Prim.Native.Nat.{ℕ, suc, _+_, _-_, _*_, _≤_, _<_}
+use mathlib.Core.Path.{_≡_, refl, sym, ap, ap₂, _∙_}
+use mathlib.Core.Bool.{Bool, true, false, _&&_}
 use mathlib.Core.List.{List, [], _∷_, _++_}
 use native.Mathlib.Omega.{arith}
 use native.Mathlib.Numerals.{add-one}
 use borrow.Author.Tests.{eq-eqb, ne-eqb, le-leb, lt-leb}
-use lib.Dec.{T, leb, eqb}
+use lib.Dec.{T, eqb}
 use lib.ListN.{length, getD, take, drop, set, replicate, length-append, length-drop}
 use lib.Seq.{drop-cons, drop-length, length-take-le, set-at, append-snoc, set-append-left}
 use Rattle.model.specs.Lists.{sumOf, rising}
 use Rattle.model.specs.Deliveries.{delivery, inRange}
 use Rattle.model.specs.Directory.{padded, directoryNumbers}
-use Rattle.model.specs.Snapshot.{Header, headerOk, headerOf}
+use Rattle.model.specs.Snapshot.{headerOk, headerOf}
 use Rattle.model.proofs.Tests.{of-true}
 use Rattle.model.proofs.DirectoryLaws.{length-padded}
 use Rattle.fields.specs.Reading.{valueAt}
 use Rattle.lines.specs.Lines.{textRefusal, columnAt, lineOk, linesOk}
 use Rattle.lines.proofs.Storing.{length-column, column-more}
-use Rattle.lines.proofs.Reading.{Took, took-end}
 use Rattle.lines.proofs.Forms.{lines-cut}
 use Rattle.snapshot.specs.declared.Head.{Head}
 use Rattle.snapshot.specs.declared.Listed.{Listed}

@@ -6,22 +6,20 @@ use mathlib.Core.Option.{Option, none, some}
 use mathlib.Core.List.{List, [], _∷_, _++_, map}
 use native.Mathlib.Omega.{arith}
 use borrow.Author.Tests.{ne-eqb, le-leb, lt-leb}
-use lib.Dec.{T, leb, eqb, leb→le}
-use lib.ListN.{length, take, drop, length-map}
+use lib.Dec.{T, leb, leb→le}
+use lib.ListN.{length, drop, length-map}
 use Rattle.model.specs.declared.Delivery.{Delivery}
 use Rattle.model.specs.declared.Applied.{Applied}
 use Rattle.model.specs.Lists.{onlyIf, andThen, valueOr, isSome}
 use Rattle.model.specs.Checks.{firstFailed}
 use Rattle.model.specs.Deliveries.{growerOf, weightOf, yieldOf}
 use Rattle.model.specs.Blocks.{slicesOk}
-use Rattle.model.specs.Directory.{Directory, directoryNumbers}
-use Rattle.model.specs.Column.{Column}
+use Rattle.model.specs.Directory.{directoryNumbers}
 use Rattle.model.specs.Fields.{Taken, taken, nth}
-use Rattle.model.specs.Snapshot.{Header, Book, deliveryOf, bookOk, readBook, isBook, slotsForBook}
+use Rattle.model.specs.Snapshot.{Header, Book, deliveryOf, readBook, isBook, slotsForBook}
 use Rattle.model.specs.Questions.{readChecks}
 use Rattle.model.specs.SnapshotCalls.{ReadResult, readCall, columnRead}
-use Rattle.model.proofs.Tests.{and-fst, and-snd, of-true, is-true}
-use Rattle.model.proofs.BookLaws.{HeaderGood}
+use Rattle.model.proofs.Tests.{and-fst, and-snd, of-true}
 use Rattle.lines.specs.Lines.{textRefusal, columnAt, columnOk, linesOk, rowsAt}
 use Rattle.lines.proofs.Storing.{length-column, column-ok}
 use Rattle.lines.proofs.Reading.{passed, failed}

@@ -1,14 +1,14 @@
 -- A text read as a book, in one form: the book whose numbers stand in it, if its lines, its length and its numbers are right.
 -- Assumes nothing.
 use Prim.Native.Nat.{ℕ, zero, suc, _+_, _-_, _*_, _≤_, _<_}
-use mathlib.Core.Path.{_≡_, refl, sym, ap, ap₂, _∙_, subst}
+use mathlib.Core.Path.{_≡_, refl, sym, ap, ap₂, _∙_}
 use mathlib.Core.Bool.{Bool, true, false, _&&_}
-use mathlib.Core.Option.{Option, none, some}
+use mathlib.Core.Option.{Option}
 use mathlib.Core.List.{List, [], _∷_, _++_, map}
 use native.Mathlib.Omega.{arith}
-use borrow.Author.Tests.{le-leb, lt-leb}
+use borrow.Author.Tests.{le-leb}
 use lib.Dec.{T, leb, eqb, leb→le, eqb→eq}
-use lib.ListN.{length, take, drop, length-drop}
+use lib.ListN.{length, take, drop}
 use lib.Seq.{take-at, drop-at}
 use Rattle.model.specs.declared.Delivery.{Delivery}
 use Rattle.model.specs.Bounds.{mostNumber}
@@ -19,7 +19,7 @@ use Rattle.model.specs.Directory.{Directory, directoryNumbers, directoryOf}
 use Rattle.model.specs.Column.{inPlace, soundGrowers}
 use Rattle.model.specs.Fields.{Taken, taken, takeLine, takeLines, nth}
 use Rattle.model.specs.Snapshot.{Header, Book, headerOk, headerOf, takeHeader, deliveryOf, bookOk, bookOf, readBook, slotsForBook}
-use Rattle.model.proofs.Tests.{and-fst, and-snd, of-true, is-true}
+use Rattle.model.proofs.Tests.{and-fst, and-snd, of-true}
 use Rattle.model.proofs.ListLaws.{map-take, map-drop, every-cut}
 use Rattle.model.proofs.DirectoryLaws.{Fits, directory-again}
 use Rattle.model.proofs.BookLaws.{HeaderGood, header-good}

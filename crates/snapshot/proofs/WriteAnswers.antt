@@ -1,36 +1,34 @@
 -- What writing checks, and what it answers. Assumes nothing.
-use Prim.Native.Nat.{ℕ, zero, suc, _+_, _-_, _*_, _≤_, _<_}
+use Prim.Native.Nat.{ℕ, _+_, _-_, _*_, _≤_, _<_}
 use mathlib.Core.Path.{_≡_, refl, sym, ap, ap₂, _∙_, subst}
-use mathlib.Core.Bool.{Bool, true, false, cond, _&&_}
-use mathlib.Core.List.{List, [], _∷_, _++_, append-assoc, map, flatten}
+use mathlib.Core.Bool.{Bool, true, false}
+use mathlib.Core.List.{List, [], _∷_, _++_, map}
 use native.Mathlib.Omega.{arith}
 use borrow.Author.Tests.{ne-eqb, le-leb, lt-leb}
-use lib.Dec.{T, leb, eqb, leb→le}
-use lib.ListN.{length, getD, take, drop, length-append, length-drop}
+use lib.Dec.{T, leb, leb→le}
+use lib.ListN.{length, getD, take, drop, length-append}
 use lib.Seq.{drop-drop, length-take-le}
 use Rattle.model.specs.declared.Delivery.{Delivery}
-use Rattle.model.specs.declared.Written.{Written}
-use Rattle.model.specs.Bounds.{mostWeight, mostYield}
 use Rattle.model.specs.Lists.{sumOf, every, rising}
 use Rattle.model.specs.Checks.{ask, firstFailed}
 use Rattle.model.specs.Deliveries.{rows, inRange}
 use Rattle.model.specs.Blocks.{slicesOk}
-use Rattle.model.specs.Directory.{Directory, partitionCount, directoryOf, directoryBlockOk, directoryOk}
-use Rattle.model.specs.Column.{Column, slots, lengthsOf, fencesOf, soundGrowers, sound}
+use Rattle.model.specs.Directory.{directoryOf, directoryBlockOk, directoryOk}
+use Rattle.model.specs.Column.{Column, lengthsOf, fencesOf, soundGrowers, sound}
 use Rattle.model.specs.Fields.{line, lines}
 use Rattle.model.specs.Snapshot.{partitionRows, deliveryRow, bookText, allRecords, snapshotText}
 use Rattle.model.specs.Questions.{lentChecks, writeChecks}
 use Rattle.model.specs.SnapshotCalls.{WriteResult, writeCall}
 use Rattle.model.proofs.Tests.{is-true, yes-first}
-use Rattle.model.proofs.Deliveries.{rows-part, length-rows, values-rows}
-use Rattle.model.proofs.DirectoryLaws.{Shaped, shaped, length-lengths, length-fences}
+use Rattle.model.proofs.Deliveries.{rows-part, values-rows}
+use Rattle.model.proofs.DirectoryLaws.{shaped, length-lengths, length-fences}
 use Rattle.checks.specs.Lent.{allValuesOk}
 use Rattle.checks.proofs.Sets.{failed-first}
 use Rattle.fields.specs.Writing.{placed}
-use Rattle.fields.proofs.Placing.{length-placed, placed-first, placed-joined}
+use Rattle.fields.proofs.Placing.{placed-first, placed-joined}
 use Rattle.snapshot.specs.declared.Checked.{Checked}
 use Rattle.snapshot.specs.Answers.{notChecked, checkedOf}
-use Rattle.model.proofs.WriteLaws.{Sliced, sliced, Writable, writable, write-is}
+use Rattle.model.proofs.WriteLaws.{Sliced, sliced, writable, write-is}
 use Rattle.model.proofs.LineLaws.{length-line}
 use Rattle.snapshot.proofs.Putting.{rowsOf, length-partitions, length-rows-of}
 

@@ -2,7 +2,7 @@
 use Prim.Native.Nat.{ℕ, zero, suc, _+_, _-_, _*_}
 use mathlib.Core.Bool.{Bool, true, cond, _&&_}
 use mathlib.Core.List.{List, [], _∷_}
-use lib.ListN.{length, getD, replicate}
+use lib.ListN.{length, getD}
 use lib.Dec.{leb, ltb, eqb}
 use Rattle.model.specs.Bounds.{mostNumber}
 use Rattle.model.specs.Lists.{every}
@@ -10,7 +10,7 @@ use Rattle.model.specs.Deliveries.{inRange}
 use Rattle.model.specs.Directory.{Directory, directoryNumbers, noDirectory}
 use Rattle.model.specs.Fields.{nth}
 use Rattle.model.specs.Snapshot.{Header, headerOk, headerOf, deliveryOf}
-use Rattle.lines.specs.Lines.{columnAt, lineOk, linesOk, textRefusal}
+use Rattle.lines.specs.Lines.{columnAt, lineOk, linesOk}
 use Rattle.snapshot.specs.declared.Head.{Head}
 use Rattle.snapshot.specs.declared.Listed.{Listed}
 

@@ -1,9 +1,9 @@
 // The snapshot (01: the book): a column written as a text, and a text read as a column.
 // Reading judges the whole text before it stores a number, so that a refused text writes to no slice.
 ghost use mathlib.Core.Path.{_≡_};
-ghost use Prim.Native.Nat.{ℕ, _+_, _*_, _≤_, _<_};
-ghost use mathlib.Core.List.{List, [], _∷_, _++_, map};
-ghost use lib.ListN.{length, take, drop};
+ghost use Prim.Native.Nat.{_+_, _*_, _≤_, _<_};
+ghost use mathlib.Core.List.{map};
+ghost use lib.ListN.{length};
 ghost use lib.Dec.{T};
 ghost use Rattle.model.specs.Lists.{sumOf, rising};
 ghost use mathlib.Core.Bool.{_&&_};

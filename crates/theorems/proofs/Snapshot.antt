@@ -2,25 +2,25 @@
 -- a text that is read is the text of a good book, and the column that holds it can be written. Assumes nothing.
 use Prim.Native.Nat.{ℕ, _≤_}
 use mathlib.Core.Path.{_≡_, refl, sym, ap, ap₂, _∙_, subst}
-use mathlib.Core.Bool.{Bool, true, false, cond, not, _&&_, _||_}
+use mathlib.Core.Bool.{not}
 use mathlib.Core.Option.{Option, none, some}
-use mathlib.Core.List.{List, [], _∷_, _++_, map}
+use mathlib.Core.List.{List, [], _++_, map}
 use native.Mathlib.Omega.{arith}
-use lib.Dec.{T, leb, eqb, leb→le, le→leb, eqb→eq}
+use lib.Dec.{T, leb, eqb, leb→le, le→leb}
 use lib.ListN.{length, take, drop, length-append, length-map, length-drop, take-append-drop}
 use lib.Seq.{take-at, length-take-le}
 use Rattle.model.specs.declared.Delivery.{Delivery}
-use Rattle.model.specs.Bounds.{mostNumber, mostSlots}
+use Rattle.model.specs.Bounds.{mostNumber}
 use Rattle.model.specs.Lists.{sumOf, every, isSome}
 use Rattle.model.specs.Checks.{firstFailed}
 use Rattle.model.specs.Deliveries.{growerOf, weightOf, yieldOf, inRange}
-use Rattle.model.specs.Blocks.{blockLengthOk, slotsOk, slicesOk}
-use Rattle.model.specs.Directory.{Directory, directorySize, partitionCount, directoryOf, directoryNumbers, directoryBlockOk, directoryOk}
+use Rattle.model.specs.Blocks.{blockLengthOk, slicesOk}
+use Rattle.model.specs.Directory.{Directory, directorySize, partitionCount, directoryOf, directoryNumbers, directoryBlockOk}
 use Rattle.model.specs.Column.{Column, slots, lengthsOf, fencesOf, soundGrowers, sound}
 use Rattle.model.specs.Snapshot.{Book, bookText, bookIn, snapshotText, allRecords, readBook, isBook, slotsForBook}
-use Rattle.model.specs.Questions.{writeChecks, readChecks}
+use Rattle.model.specs.Questions.{readChecks}
 use Rattle.model.specs.SnapshotCalls.{WriteResult, writeCall, readCall, columnRead}
-use Rattle.model.proofs.Tests.{and-fst, and-snd, and-mk, eq→eqb, is-true, yes-first, first-passed, or-snd}
+use Rattle.model.proofs.Tests.{eq→eqb, is-true, yes-first, first-passed, or-snd}
 use Rattle.model.proofs.ListLaws.{map-take, every-front, every-back}
 use Rattle.model.proofs.MovesRows.{Columns, rows-columns}
 use Rattle.model.proofs.DirectoryLaws.{Fits, Shaped, shaped, shaped-passes, numbers-shaped, directory-again, length-lengths, length-fences}

@@ -1,6 +1,6 @@
 -- `lines::judge_lines` meets its contract. The loop's invariant: the lines that are left, judged from here on, decide. Assumes nothing.
 use Prim.Native.Nat.{_-_}
-use mathlib.Core.Path.{sym, ap, _∙_}
+use mathlib.Core.Path.{ap, _∙_}
 use native.Mathlib.Omega.{arith}
 use borrow.Author.Needs.{needs}
 use Rattle.lines.specs.Lines.{textRefusal}

@@ -1,6 +1,6 @@
 -- `snapshot::check_write` meets its contract: past the shape, the column is `Lent`, and each test is the check that it is named for. Assumes nothing.
 use mathlib.Core.Path.{_≡_, refl, sym, _∙_}
-use mathlib.Core.Bool.{Bool, true}
+use mathlib.Core.Bool.{true}
 use native.Mathlib.Omega.{arith}
 use borrow.Author.Needs.{needs}
 use borrow.Author.Tests.{not-true, not-false}

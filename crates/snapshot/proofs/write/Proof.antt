@@ -1,6 +1,6 @@
 -- `snapshot::write` meets its contract: where every check passes, the three groups of lines, placed one behind the other, are the text. Assumes nothing.
 use Prim.Native.Nat.{_≤_}
-use mathlib.Core.Path.{_≡_, sym, _∙_}
+use mathlib.Core.Path.{sym, _∙_}
 use native.Mathlib.Omega.{arith}
 use borrow.Author.Needs.{needs}
 use lib.ListN.{length}
