@@ -10,10 +10,6 @@ use Rattle.model.proofs.LineLaws.{length-line}
 use Rattle.fields.specs.Writing.{placed}
 use Rattle.fields.proofs.Placing.{length-placed, placed-one, placed-joined}
 
--- a line stays inside the text
-pub length-put : (at : ℕ) (ns t u : List ℕ) → u ≡ placed at (line ns) t → at + (11 * length ns + 1) ≤ length t → length u ≡ length t
-length-put at ns t u e h = ap length e ∙ length-placed at (line ns) t (omega (arith, length-line ns))
-
 number-length : (at : ℕ) (t u : List ℕ) (a : ℕ) → u ≡ placed at (numberField a) t → at + 11 ≤ length t → length u ≡ length t
 number-length at t u a e h = ap length e ∙ length-placed at (numberField a) t (omega (arith, length-number a))
 
