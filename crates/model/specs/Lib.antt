@@ -15,6 +15,7 @@ pub mod Partitions
 pub mod Moves
 pub mod Directory
 pub mod Column
+pub mod Lent
 pub mod Accesses
 pub mod Fields
 pub mod Snapshot

@@ -3,6 +3,57 @@ ghost use mathlib.Core.Path.{_≡_};
 ghost use Rattle.model.specs.Prices.{factory};
 ghost use Rattle.model.specs.Tallies.{emptyTally};
 
+// 01's numbers; specs/Bounds has them as definitions.
+// The most blocks of a set and partitions of a column (01: 64).
+pub const BLOCK_LIMIT: usize = 64;
+
+// The most slots (01: C), records in a block (01: B), kilograms and hundredths of a per cent.
+pub const MOST_SLOTS: usize = 262144;
+
+pub const MOST_BLOCK_LENGTH: u32 = 4096;
+
+pub const MOST_WEIGHT: u32 = 100000;
+
+pub const MOST_YIELD: u32 = 10000;
+// The greatest count, price and limit.
+pub const MOST_COUNT: u32 = 1000000;
+
+pub const MOST_PRICE: u32 = 1000;
+
+pub const MOST_LIMIT: u32 = 1000000;
+// A directory (01: 130 numbers): where B and K stand, where the lengths and the fences begin, and how many numbers it has.
+pub const BLOCK: usize = 0;
+
+pub const COUNT: usize = 1;
+
+pub const LENGTHS: usize = 2;
+
+pub const FENCES: usize = LENGTHS + BLOCK_LIMIT;
+
+pub const DIRECTORY_SIZE: usize = FENCES + BLOCK_LIMIT;
+// The histograms (01: 640 numbers): where each begins, and how many numbers there are.
+pub const PQ: usize = 0;
+
+pub const RS: usize = BLOCK_LIMIT;
+
+pub const RE: usize = 2 * BLOCK_LIMIT;
+
+pub const SC: usize = 3 * BLOCK_LIMIT;
+
+pub const DE: usize = 4 * BLOCK_LIMIT;
+
+pub const IN: usize = 5 * BLOCK_LIMIT;
+
+pub const UDF: usize = 6 * BLOCK_LIMIT;
+
+pub const UTF: usize = 7 * BLOCK_LIMIT;
+
+pub const UDB: usize = 8 * BLOCK_LIMIT;
+
+pub const UTB: usize = 9 * BLOCK_LIMIT;
+
+pub const HISTOGRAMS_SIZE: usize = 10 * BLOCK_LIMIT;
+
 // One delivery (01: a grower number, a weight in kg, an oil yield in hundredths of a per cent).
 #[repr(C)]
 pub struct Delivery {
@@ -92,7 +143,7 @@ pub struct Answer {
 #[repr(C)]
 pub struct Applied {
     pub refusal: u32,
-    pub directory: [u32; 130],
+    pub directory: [u32; DIRECTORY_SIZE],
 }
 
 // Where a grower's partition lies in the growers (01: what the run call hands back).
