@@ -1,19 +1,20 @@
 -- Tests one after the other, and lists of checks answered by the first "no". Assumes nothing.
-use Prim.Native.Nat.{ℕ, suc, _≤_, _<_}
-use mathlib.Core.Path.{_≡_, refl, sym, ap, _∙_}
+use Prim.Native.Nat.{ℕ, _*_, _≤_, _<_}
+use mathlib.Core.Path.{_≡_, refl, ap, _∙_}
 use mathlib.Core.Bool.{Bool, true, false, cond, _&&_}
-use mathlib.Core.List.{List, [], _∷_}
-use lib.Dec.{leb, eqb·suc-zero}
+use mathlib.Core.List.{List, [], _∷_, _++_}
+use native.Mathlib.Omega.{arith}
 use borrow.Author.Tests.{lt-leb, le-leb, eq-eqb, ne-eqb}
-use lib.ListN.{length, getD}
-use Rattle.model.specs.Lists.{sumOf}
+use lib.Dec.{leb, eqb, eqb→eq}
+use lib.ListN.{length}
+use Rattle.model.specs.Bounds.{mostWeight, mostYield, mostCount}
+use Rattle.model.specs.Lists.{every}
 use Rattle.model.specs.Checks.{Check, ask, firstFailed}
-use Rattle.model.specs.Blocks.{blockLengthOk, slotsOk, slicesOk}
-use Rattle.model.specs.Place.{place}
-use Rattle.model.specs.Partitions.{startOf}
-use Rattle.model.specs.Directory.{directoryOf, directoryBlockOk, directoryOk}
-use Rattle.checks.specs.declared.Shape.{Shape}
-use Rattle.checks.specs.Lent.{notShaped, shapeAt, judgedOf, shapeFrom}
+use Rattle.model.specs.Deliveries.{inRange, rows}
+use Rattle.model.specs.Blocks.{slotsOk, slicesOk}
+use Rattle.model.specs.Histograms.{countsOk}
+use Rattle.model.proofs.Tests.{and-fst, of-true}
+use Rattle.checks.specs.Values.{allValuesOk}
 
 pub and-no : (a b : Bool) → a ≡ false → false ≡ a && b
 and-no a b e = rw e
@@ -41,39 +42,15 @@ pub none-failed : 0 ≡ firstFailed []
 unfolding firstFailed
 none-failed = refl
 
-module _ (ns : List ℕ) (g : ℕ) where
-  -- a refusal's shape
-  pub shape-refused : (n : ℕ) (cs : List Check) → suc n ≡ firstFailed cs → notShaped (suc n) ≡ shapeFrom cs ns g
-  unfolding shapeFrom
-  shape-refused n cs e = rw (sym e, eqb·suc-zero)
-
-  -- a list that ends with check 6
-  pub shape-judged : (c : ℕ) (cs : List Check) → firstFailed cs ≡ firstFailed (ask 6 (directoryOk 64 c ns) ∷ []) → judgedOf c ns g ≡ shapeFrom cs ns g
-  unfolding shapeFrom judgedOf shapeAt firstFailed
-  shape-judged c cs e = go (directoryOk 64 c ns) e
-    where
-      go : (b : Bool) → firstFailed cs ≡ firstFailed (ask 6 b ∷ []) → cond b (shapeAt ns g) (notShaped 6) ≡ shapeFrom cs ns g
-      go true h = rw h
-      go false h = rw h
-
--- what a shape carries on
-pub record Carried (cs : List Check) (ns : List ℕ) (g : ℕ) (s : Shape) : Type 0 where
-  pub passed : firstFailed cs ≡ 0
-  pub used : s .used ≡ sumOf (directoryOf 64 ns .lengths)
-  pub target : s .target ≡ place (directoryOf 64 ns .fences) g
-  pub start : s .start ≡ startOf (directoryOf 64 ns .lengths) (place (directoryOf 64 ns .fences) g)
-
-module _ (cs : List Check) (ns : List ℕ) (g : ℕ) (s : Shape) (e : s ≡ shapeFrom cs ns g) where
-  pub shape-refusal : s .refusal ≡ firstFailed cs
-  unfolding shapeFrom
-  shape-refusal = ap (λ (x : Shape). x .refusal) e
-
-  pub carried : s .refusal ≡ 0 → Carried cs ns g s
-  unfolding shapeFrom shapeAt
-  carried z =
-      let p : firstFailed cs ≡ 0 = sym shape-refusal ∙ z in
-      let f = rw p at e in
-      record { passed = p; used = ap (λ (x : Shape). x .used) f; target = ap (λ (x : Shape). x .target) f; start = ap (λ (x : Shape). x .start) f }
+-- a list of checks that begins with one that fails
+pub failed-first : (as' bs : List Check) → (firstFailed as' ≡ 0 → ⊥) → firstFailed as' ≡ firstFailed (as' ++ bs)
+unfolding firstFailed
+failed-first [] bs h = absurd (h refl)
+failed-first (c ∷ cs) bs h = go (c .holds) refl h (failed-first cs bs)
+  where
+    go : (b : Bool) → c .holds ≡ b → (cond b (firstFailed cs) (c .number) ≡ 0 → ⊥) → ((firstFailed cs ≡ 0 → ⊥) → firstFailed cs ≡ firstFailed (cs ++ bs)) → cond b (firstFailed cs) (c .number) ≡ cond b (firstFailed (cs ++ bs)) (c .number)
+    go true e n ih = ih n
+    go false e n ih = refl
 
 -- Check 3 of three slices, test by test.
 module _ (g w y : List ℕ) where
@@ -89,12 +66,36 @@ module _ (g w y : List ℕ) where
   unfolding slicesOk
   slices-even e f = rw (eq-eqb (length w) (length g) e, eq-eqb (length y) (length g) f)
 
--- Check 2 of a directory, test by test.
-module _ (ns : List ℕ) where
-  pub no-directory : (length ns ≡ 130 → ⊥) → true ≡ directoryBlockOk 64 ns
-  unfolding directoryBlockOk
-  no-directory h = rw (ne-eqb (length ns) 130 h)
+-- Check 8: the rows are tested by their weights and their yields.
 
-  pub directory-block : length ns ≡ 130 → blockLengthOk (getD ns 0 0) ≡ directoryBlockOk 64 ns
-  unfolding directoryBlockOk
-  directory-block e = rw (eq-eqb (length ns) 130 e)
+and-cross : (a b p q : Bool) → a && p && (b && q) ≡ a && b && (p && q)
+and-cross true true p q = refl
+and-cross true false true q = refl
+and-cross true false false q = refl
+and-cross false b p q = refl
+
+pub every-rows : (g w y : List ℕ) → length w ≡ length g → length y ≡ length g → allValuesOk w y ≡ every inRange (rows g w y)
+unfolding every rows
+every-rows [] [] [] p q = refl
+every-rows [] (b ∷ w) y p q = absurd (omega arith)
+every-rows [] [] (d ∷ y) p q = absurd (omega arith)
+every-rows (a ∷ g) [] y p q = absurd (omega arith)
+every-rows (a ∷ g) (b ∷ w) [] p q = absurd (omega arith)
+every-rows (a ∷ g) (b ∷ w) (d ∷ y) p q =
+    and-cross (leb b mostWeight) (leb d mostYield) (every (λ (n : ℕ). leb n mostWeight) w) (every (λ (n : ℕ). leb n mostYield) y)
+    ∙ ap (λ (t : Bool). leb b mostWeight && leb d mostYield && t) (every-rows g w y (omega arith) (omega arith))
+
+-- Check 9.
+
+module _ (L : ℕ) (hs : List ℕ) where
+  pub counts-other : (length hs ≡ 10 * L → ⊥) → false ≡ countsOk L hs
+  unfolding countsOk
+  counts-other h = rw (ne-eqb (length hs) (10 * L) h)
+
+  pub counts-all : length hs ≡ 10 * L → every (λ (n : ℕ). leb n mostCount) hs ≡ countsOk L hs
+  unfolding countsOk
+  counts-all h = rw (eq-eqb (length hs) (10 * L) h)
+
+  pub counts-long : countsOk L hs ≡ true → length hs ≡ 10 * L
+  unfolding countsOk
+  counts-long e = eqb→eq (length hs) (10 * L) (and-fst (eqb (length hs) (10 * L)) (every (λ (n : ℕ). leb n mostCount) hs) (of-true _ e))

@@ -1,2 +1,2 @@
--- What the checks answer.
-pub mod Lent
+-- What checking two slices answers.
+pub mod Values

@@ -25,23 +25,7 @@ use Rattle.checks.specs.Lent.{setOf}
 use Rattle.checks.proofs.Sets.{Whole, whole, set-passed, set-first, failed-first, blocks-least, blocks-most, counts-long}
 use Rattle.recorder.specs.Raising.{recorded, raiseSlots, roomAt, raisedAt, spanSlots, openingChecks}
 
--- A grower's block, block by block.
-
--- no block before i is the one
-pub record Seeking (b m : ℕ) (gs : List ℕ) (x last i : ℕ) : Type 0 where
-  pub at : i ≤ last
-  pub is-last : last + 1 ≡ blocks (setOf b m gs [] [])
-  pub before : (j : ℕ) → j < i → lastGrower (setOf b m gs [] []) j < x
-
-module _ (b m : ℕ) (gs : List ℕ) (x last i : ℕ) (w : Seeking b m gs x last i) where
-  pub seek-next : i < last → lastGrower (setOf b m gs [] []) i < x → Seeking b m gs x last (i + 1)
-  seek-next h k = record { at = omega arith; is-last = w .is-last; before = below-more _ i (w .before) k }
-
-  pub seek-found : (ws ys : List ℕ) → i < last → x ≤ lastGrower (setOf b m gs [] []) i → i ≡ blockOf (setOf b m gs ws ys) x
-  seek-found ws ys h k = spot-only (setOf b m gs ws ys) x i (record { within = omega (arith, w .is-last); before = w .before; here = λ n. k })
-
-  pub seek-end : (ws ys : List ℕ) → last ≤ i → i ≡ blockOf (setOf b m gs ws ys) x
-  seek-end ws ys h = spot-only (setOf b m gs ws ys) x i (record { within = omega (arith, w .is-last, w .at); before = w .before; here = λ n. absurd (omega (arith, w .is-last)) })
+-- The set has the delivery.
 
 pub held-law : (d : Delivery) (m n : ℕ) (g w y : List ℕ) → m ≤ length g → length w ≡ length g → length y ≡ length g → n ≡ firstMatch d (rows (take m g) (take m w) (take m y)) → ltb n m ≡ among d (take m (rows g w y))
 held-law d m n g w y h p q e =

@@ -1,18 +1,19 @@
 -- `checks::histograms_ok` meets its contract. Assumes nothing.
 use mathlib.Core.Path.{_∙_}
 use borrow.Author.Needs.{needs}
-use Rattle.checks.proofs.Sets.{counts-other, counts-all}
+use Rattle.model.specs.Bounds.{blockLimit}
+use Rattle.checks.proofs.Answers.{counts-other, counts-all}
 use Rattle.checks.proofs.histograms_ok.Statement.{statement}
 use Rattle.checks.proofs.histograms_ok.Tie as tie
 
 returns : tie.Need-returns
-returns c = counts-other _ (c .if1 .taken)
+returns c = counts-other blockLimit _ (c .if1 .taken)
 
 within-requires : tie.Need-within-requires
 within-requires c κs = search needs
 
 returns-2 : tie.Need-returns-2
-returns-2 c = c .within .ensures ∙ counts-all _ (c .before .if1 .left)
+returns-2 c = c .within .ensures ∙ counts-all blockLimit _ (c .before .if1 .left)
 
 pub histograms-ok-spec : {M : Type 1} → statement M
 histograms-ok-spec = tie.close (tie.spec returns within-requires returns-2)

@@ -1,0 +1,27 @@
+-- `directory::directory_block_ok` meets its contract. Assumes nothing.
+use Rattle.model.specs.Bounds.{blockLimit}
+use Rattle.directory.proofs.Shapes.{no-directory, directory-block}
+use mathlib.Core.Path.{_∙_}
+use borrow.Author.Needs.{needs}
+use Rattle.model.specs.Directory.{directoryBlockOk}
+use Rattle.directory.proofs.directory_block_ok.Statement.{statement}
+use Rattle.directory.proofs.directory_block_ok.Tie as tie
+
+returns : tie.Need-returns
+unfolding directoryBlockOk
+returns c = let g = c .before .before .args in no-directory blockLimit (g .directory .now) (c .if1 .taken)
+
+shared-slice-read-block-length-ok : tie.Need-shared-slice-read-block-length-ok
+shared-slice-read-block-length-ok c = search needs
+
+block-length-ok-requires : tie.Need-block-length-ok-requires
+block-length-ok-requires c κs = search needs
+
+returns-2 : tie.Need-returns-2
+unfolding directoryBlockOk
+returns-2 c = let g = c .before .before .before .before .args in c .block-length-ok .ensures ∙ directory-block blockLimit (g .directory .now) (c .before .before .if1 .left)
+
+pub directory-block-ok-spec : {M : Type 1} → statement M
+directory-block-ok-spec =
+    tie.close
+    (tie.spec returns shared-slice-read-block-length-ok block-length-ok-requires returns-2)

@@ -1,0 +1,3 @@
+-- What judging a directory answers, and its numbers.
+pub mod Shapes
+pub mod Numbers

@@ -1,0 +1,136 @@
+-- The checks of an unpartitioned set, and of a layout of its blocks, test by test. Assumes nothing.
+use Prim.Native.Nat.{ℕ, _+_, _-_, _*_, _≤_, _<_}
+use mathlib.Core.Path.{_≡_, sym, ap, _∙_}
+use mathlib.Core.Bool.{Bool, true, false, not, _&&_}
+use mathlib.Core.List.{List, _++_}
+use native.Mathlib.Omega.{arith}
+use borrow.Author.Tests.{lt-leb, le-leb, le-ltb, lt-ltb, eq-eqb, ne-eqb}
+use lib.Dec.{leb, eqb, leb→le, eqb→eq}
+use lib.ListN.{length, getD, take}
+use Rattle.model.specs.Bounds.{mostBlockLength, mostSlots}
+use Rattle.model.specs.Lists.{every, rising, ceilDiv}
+use Rattle.model.specs.Checks.{Check, firstFailed}
+use Rattle.model.specs.Deliveries.{inRange}
+use Rattle.model.specs.Blocks.{Set, blocks, blockLengthOk, slotsOk, slicesOk, usedOk, growersOk, valuesOk}
+use Rattle.model.specs.Layouts.{endOf, separatesNone, isLayout, layoutOk}
+use Rattle.model.specs.Lent.{setOf, Even}
+use Rattle.model.specs.Questions.{setChecks}
+use Rattle.model.proofs.Tests.{and-fst, and-snd, of-true, yes-first, first-passed}
+use Rattle.model.proofs.ListLaws.{ceil-some, ceil-within}
+use Rattle.model.proofs.Deliveries.{rows-part}
+use Rattle.sets.specs.Sized.{Sized, setRefusalOf}
+use Rattle.checks.specs.Values.{allValuesOk}
+use Rattle.checks.proofs.Answers.{none-failed, every-rows}
+
+-- Check 4.
+
+module _ (m c k : ℕ) where
+  pub used-none : m < 1 → false ≡ leb 1 m && leb m c && leb m k
+  used-none h = rw (lt-leb 1 m h)
+
+  pub used-over : 1 ≤ m → c < m → false ≡ leb 1 m && leb m c && leb m k
+  used-over h l = rw (le-leb 1 m h, lt-leb m c l)
+
+  pub used-last : 1 ≤ m → m ≤ c → leb m k ≡ leb 1 m && leb m c && leb m k
+  used-last h l = rw (le-leb 1 m h, le-leb m c l)
+
+  pub used-fits : leb 1 m && leb m c && leb m k ≡ true → m ≤ c
+  used-fits e = leb→le m c (and-snd (leb 1 m) (leb m c) (and-fst (leb 1 m && leb m c) (leb m k) (of-true _ e)))
+
+pub block-most : (b : ℕ) → blockLengthOk b ≡ true → b ≤ mostBlockLength
+unfolding blockLengthOk
+block-most b e = leb→le b mostBlockLength (and-snd (leb 1 b) (leb b mostBlockLength) (of-true _ e))
+
+-- Checks 2 to 5 together.
+
+-- what they say of the numbers
+pub record Whole (L : ℕ) (s : Set) : Type 0 where
+  pub sized : Sized L (s .block) (s .used) (length (s .growers))
+  pub even : Even (s .growers) (s .weights) (s .yields)
+
+module _ (L : ℕ) (s : Set) where
+  pub whole : setRefusalOf L s ≡ 0 → Whole L s
+  unfolding blockLengthOk slotsOk slicesOk usedOk
+  whole h =
+      let b : ℕ = s .block in
+      let m : ℕ = s .used in
+      let c : ℕ = length (s .growers) in
+      let c2 = yes-first 1 (blockLengthOk b) _ h in
+      let c3 = yes-first 2 (slicesOk (s .growers) (s .weights) (s .yields)) _ (c2 .1) in
+      let c4 = yes-first 3 (usedOk L s) _ (c3 .1) in
+      let u = and-fst (leb 1 m && leb m c) (leb m (L * b)) (c4 .0) in
+      let v = and-fst (eqb (length (s .weights)) c && eqb (length (s .yields)) c) (slotsOk c) (c3 .0) in
+      let w = and-snd (eqb (length (s .weights)) c && eqb (length (s .yields)) c) (slotsOk c) (c3 .0) in
+      record {
+        sized = record {
+          block-least = leb→le 1 b (and-fst (leb 1 b) (leb b mostBlockLength) (c2 .0));
+          block-most = leb→le b mostBlockLength (and-snd (leb 1 b) (leb b mostBlockLength) (c2 .0));
+          used-least = leb→le 1 m (and-fst (leb 1 m) (leb m c) u);
+          used-fits = leb→le m c (and-snd (leb 1 m) (leb m c) u);
+          used-most = leb→le m (L * b) (and-snd (leb 1 m && leb m c) (leb m (L * b)) (c4 .0));
+          slots-most = leb→le c mostSlots (and-snd (leb 1 c) (leb c mostSlots) w);
+        };
+        even = record {
+          weights = eqb→eq (length (s .weights)) c (and-fst (eqb (length (s .weights)) c) (eqb (length (s .yields)) c) v);
+          yields = eqb→eq (length (s .yields)) c (and-snd (eqb (length (s .weights)) c) (eqb (length (s .yields)) c) v);
+        };
+      }
+
+  -- a list of checks that begins with them
+  pub set-passed : (cs : List Check) → setRefusalOf L s ≡ 0 → firstFailed (setChecks L s ++ cs) ≡ firstFailed cs
+  set-passed cs h =
+      let c2 = yes-first 1 (blockLengthOk (s .block)) _ h in
+      let c3 = yes-first 2 (slicesOk (s .growers) (s .weights) (s .yields)) _ (c2 .1) in
+      let c4 = yes-first 3 (usedOk L s) _ (c3 .1) in
+      let c5 = yes-first 4 (growersOk s) _ (c4 .1) in
+      first-passed 2 _ _ (c2 .0) ∙ first-passed 3 _ _ (c3 .0) ∙ first-passed 4 _ _ (c4 .0) ∙ first-passed 5 _ _ (c5 .0)
+
+  -- such a list is passed
+  pub set-first : (cs : List Check) → firstFailed (setChecks L s ++ cs) ≡ 0 → (setRefusalOf L s ≡ 0) × (firstFailed cs ≡ 0)
+  set-first cs h =
+      let c2 = yes-first 1 (blockLengthOk (s .block)) _ h in
+      let c3 = yes-first 2 (slicesOk (s .growers) (s .weights) (s .yields)) _ (c2 .1) in
+      let c4 = yes-first 3 (usedOk L s) _ (c3 .1) in
+      let c5 = yes-first 4 (growersOk s) _ (c4 .1) in
+      (first-passed 2 _ _ (c2 .0) ∙ first-passed 3 _ _ (c3 .0) ∙ first-passed 4 _ _ (c4 .0) ∙ first-passed 5 _ _ (c5 .0) ∙ sym none-failed, c5 .1)
+
+-- no more blocks than the block limit, and at least one
+module _ {L b m c : ℕ} (z : Sized L b m c) where
+  pub blocks-least : 1 ≤ ceilDiv m b
+  blocks-least = ceil-some m b (z .block-least) (z .used-least)
+
+  pub blocks-most : ceilDiv m b ≤ L
+  blocks-most = ceil-within L m b (z .block-least) (z .used-most)
+
+-- Check 8: the rows are tested by their weights and their yields.
+
+pub values-law : (b m : ℕ) (g w y : List ℕ) → length (take m w) ≡ length (take m g) → length (take m y) ≡ length (take m g) → allValuesOk (take m w) (take m y) ≡ valuesOk (setOf b m g w y)
+unfolding valuesOk
+values-law b m g w y p q = every-rows (take m g) (take m w) (take m y) p q ∙ ap (every inRange) (rows-part m 0 g w y)
+
+-- Check 6 of a layout.
+
+-- an end with no block after it, and one between two blocks
+module _ (s : Set) (e x : ℕ) (q : x ≡ (e + 1) * s .block) where
+  pub ends-all : s .used ≤ x → true ≡ separatesNone s e
+  ends-all h = rw (le-ltb ((e + 1) * s .block) (s .used) (omega arith))
+
+  pub ends-between : x < s .used → not (eqb (getD (s .growers) (x - 1) 0) (getD (s .growers) x 0)) ≡ separatesNone s e
+  ends-between h = rw (q, lt-ltb ((e + 1) * s .block) (s .used) (omega arith))
+
+module _ (s : Set) (ends : List ℕ) where
+  pub layout-empty : length ends < 1 → false ≡ layoutOk s ends
+  unfolding layoutOk isLayout
+  layout-empty h = rw (lt-leb 1 (length ends) h)
+
+  pub layout-falls : 1 ≤ length ends → rising ends ≡ false → false ≡ layoutOk s ends
+  unfolding layoutOk isLayout
+  layout-falls h r = rw (le-leb 1 (length ends) h, r)
+
+  pub layout-short : 1 ≤ length ends → rising ends ≡ true → (endOf ends (length ends - 1) + 1 ≡ blocks s → ⊥) → false ≡ layoutOk s ends
+  unfolding layoutOk isLayout
+  layout-short h r l = rw (le-leb 1 (length ends) h, r, ne-eqb (endOf ends (length ends - 1) + 1) (blocks s) l)
+
+  pub layout-parts : 1 ≤ length ends → rising ends ≡ true → endOf ends (length ends - 1) + 1 ≡ blocks s → every (separatesNone s) ends ≡ layoutOk s ends
+  unfolding layoutOk isLayout
+  layout-parts h r l = rw (le-leb 1 (length ends) h, r, eq-eqb (endOf ends (length ends - 1) + 1) (blocks s) l)

@@ -1,0 +1,67 @@
+-- `sets::block_of` meets its contract. Assumes nothing.
+use Prim.Native.Nat.{_-_}
+use mathlib.Core.Path.{sym}
+use native.Mathlib.Omega.{arith}
+use borrow.Author.Needs.{needs}
+use mathlib.Core.List.{[]}
+use Rattle.sets.proofs.Sets.{blocks-least}
+use Rattle.sets.proofs.Blocks.{Seeking, seek-next, seek-found, seek-end}
+use Rattle.sets.proofs.block_of.Statement.{statement}
+use Rattle.sets.proofs.block_of.Tie as tie
+
+abbrev Inv-loop : tie.InvT-loop
+Inv-loop block used g x last i₀ i = Seeking block used g x last i
+
+abbrev μ-loop : tie.MeasureT-loop
+μ-loop block used g x last i₀ i = last - i
+
+block-count-requires : tie.Need-block-count-requires Inv-loop μ-loop
+block-count-requires c κs = search needs
+
+sub-last : tie.Need-sub-last Inv-loop μ-loop
+sub-last c = omega (arith, c .block-count .ensures, blocks-least (c .before .before .pre))
+
+loop-holds : tie.Need-loop-holds Inv-loop μ-loop
+loop-holds c = record { at = omega arith; is-last = omega (arith, c .block-count .ensures, blocks-least (c .before .before .pre)); before = λ j h. absurd (omega arith) }
+
+last-grower-requires : tie.Need-last-grower-requires Inv-loop μ-loop
+last-grower-requires c κs = search needs
+
+cast-result : tie.Need-cast-result Inv-loop μ-loop
+cast-result c = search needs
+
+returns : tie.Need-returns Inv-loop μ-loop
+returns c = λ ws ys. seek-found _ _ _ _ _ _ (c .before .before .before .loop .inv) ws ys (c .before .before .loop-test .taken) (rw (sym (c .before .last-grower .ensures [] [])) (c .if1 .taken))
+
+add-i : tie.Need-add-i Inv-loop μ-loop
+add-i c = search needs
+
+loop-less : tie.Need-loop-less Inv-loop μ-loop
+loop-less c = omega arith
+
+loop-again : tie.Need-loop-again Inv-loop μ-loop
+loop-again c = seek-next _ _ _ _ _ _ (c .before .before .before .loop .inv) (c .before .before .loop-test .taken) (rw (sym (c .before .last-grower .ensures [] [])) (c .if1 .left))
+
+cast-result-2 : tie.Need-cast-result-2 Inv-loop μ-loop
+cast-result-2 c = search needs
+
+returns-2 : tie.Need-returns-2 Inv-loop μ-loop
+returns-2 c = λ ws ys. seek-end _ _ _ _ _ _ (c .before .loop .inv) ws ys (c .loop-test .left)
+
+pub block-of-spec : {M : Type 1} → statement M
+block-of-spec =
+    tie.close
+    (tie.spec
+    Inv-loop
+    μ-loop
+    block-count-requires
+    sub-last
+    loop-holds
+    last-grower-requires
+    cast-result
+    returns
+    add-i
+    loop-less
+    loop-again
+    cast-result-2
+    returns-2)

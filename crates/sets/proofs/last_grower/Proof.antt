@@ -1,0 +1,35 @@
+-- `sets::last_grower` meets its contract. Assumes nothing.
+use Prim.Native.Nat.{ℕ, _-_}
+use mathlib.Core.Path.{ap}
+use native.Mathlib.Omega.{arith}
+use borrow.Author.Needs.{needs}
+use mathlib.Core.List.{[]}
+use lib.ListN.{getD}
+use Rattle.sets.proofs.last_grower.Statement.{statement}
+use Rattle.sets.proofs.last_grower.Tie as tie
+
+block-stop-requires : tie.Need-block-stop-requires
+block-stop-requires c κs = search needs
+
+cast-x : tie.Need-cast-x
+cast-x c = search needs
+
+sub-x : tie.Need-sub-x
+sub-x c = omega (arith, c .block-stop .ensures [] [] [])
+
+mul-result : tie.Need-mul-result
+mul-result c = search needs
+
+shared-slice-read-result : tie.Need-shared-slice-read-result
+shared-slice-read-result c = omega (arith, c .before .block-stop .ensures [] [] [])
+
+returns : tie.Need-returns
+returns c =
+    λ ws ys.
+    let g = c .before .before .before .args in
+    ap (λ (n : ℕ). getD (g .g .now) (n - 1) 0) (c .before .block-stop .ensures (g .g .now) ws ys)
+
+pub last-grower-spec : {M : Type 1} → statement M
+last-grower-spec =
+    tie.close
+    (tie.spec block-stop-requires cast-x sub-x mul-result shared-slice-read-result returns)

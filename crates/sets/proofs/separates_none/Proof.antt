@@ -1,0 +1,53 @@
+-- `sets::separates_none` meets its contract. Assumes nothing.
+use borrow.Author.Needs.{needs}
+use Rattle.model.specs.Lent.{setOf}
+use Rattle.sets.proofs.Sets.{ends-all, ends-between}
+use Rattle.sets.proofs.separates_none.Statement.{statement}
+use Rattle.sets.proofs.separates_none.Tie as tie
+
+add-block-start : tie.Need-add-block-start
+add-block-start c = search needs
+
+block-start-requires : tie.Need-block-start-requires
+block-start-requires c κs = search needs
+
+returns : tie.Need-returns
+returns c =
+    λ ws ys.
+    let g = c .before .before .before .args in
+    ends-all (setOf (g .block) (g .used) (g .g .now) ws ys) (g .e) _ (c .before .block-start .ensures) (c .if1 .taken)
+
+sub-p : tie.Need-sub-p
+sub-p c = search needs
+
+mul-result : tie.Need-mul-result
+mul-result c = search needs
+
+shared-slice-read-result : tie.Need-shared-slice-read-result
+shared-slice-read-result c = search needs
+
+mul-result-2 : tie.Need-mul-result-2
+mul-result-2 c = search needs
+
+shared-slice-read-result-2 : tie.Need-shared-slice-read-result-2
+shared-slice-read-result-2 c = search needs
+
+returns-2 : tie.Need-returns-2
+returns-2 c =
+    λ ws ys.
+    let g = c .before .before .before .before .before .args in
+    ends-between (setOf (g .block) (g .used) (g .g .now) ws ys) (g .e) _ (c .before .before .before .block-start .ensures) (c .before .before .if1 .left)
+
+pub separates-none-spec : {M : Type 1} → statement M
+separates-none-spec =
+    tie.close
+    (tie.spec
+    add-block-start
+    block-start-requires
+    returns
+    sub-p
+    mul-result
+    shared-slice-read-result
+    mul-result-2
+    shared-slice-read-result-2
+    returns-2)

@@ -1,0 +1,2 @@
+-- What the checks of a set answer and let through.
+pub mod Sized
