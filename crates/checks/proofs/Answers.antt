@@ -1,19 +1,17 @@
 -- Tests one after the other, and lists of checks answered by the first "no". Assumes nothing.
-use Prim.Native.Nat.{ℕ, _*_, _≤_, _<_}
+use Prim.Native.Nat.{ℕ, _≤_, _<_}
 use mathlib.Core.Path.{_≡_, refl, ap, _∙_}
 use mathlib.Core.Bool.{Bool, true, false, cond, _&&_}
 use mathlib.Core.List.{List, [], _∷_, _++_}
 use native.Mathlib.Omega.{arith}
 use borrow.Author.Tests.{lt-leb, le-leb, eq-eqb, ne-eqb}
-use lib.Dec.{leb, eqb, eqb→eq}
+use lib.Dec.{leb}
 use lib.ListN.{length}
-use Rattle.model.specs.Bounds.{mostWeight, mostYield, mostCount}
+use Rattle.model.specs.Bounds.{mostWeight, mostYield}
 use Rattle.model.specs.Lists.{every}
 use Rattle.model.specs.Checks.{Check, ask, firstFailed}
 use Rattle.model.specs.Deliveries.{inRange, rows}
 use Rattle.model.specs.Blocks.{slotsOk, slicesOk}
-use Rattle.model.specs.Histograms.{countsOk}
-use Rattle.model.proofs.Tests.{and-fst, of-true}
 use Rattle.checks.specs.Values.{allValuesOk}
 
 pub and-no : (a b : Bool) → a ≡ false → false ≡ a && b
@@ -84,18 +82,3 @@ every-rows (a ∷ g) (b ∷ w) [] p q = absurd (omega arith)
 every-rows (a ∷ g) (b ∷ w) (d ∷ y) p q =
     and-cross (leb b mostWeight) (leb d mostYield) (every (λ (n : ℕ). leb n mostWeight) w) (every (λ (n : ℕ). leb n mostYield) y)
     ∙ ap (λ (t : Bool). leb b mostWeight && leb d mostYield && t) (every-rows g w y (omega arith) (omega arith))
-
--- Check 9.
-
-module _ (L : ℕ) (hs : List ℕ) where
-  pub counts-other : (length hs ≡ 10 * L → ⊥) → false ≡ countsOk L hs
-  unfolding countsOk
-  counts-other h = rw (ne-eqb (length hs) (10 * L) h)
-
-  pub counts-all : length hs ≡ 10 * L → every (λ (n : ℕ). leb n mostCount) hs ≡ countsOk L hs
-  unfolding countsOk
-  counts-all h = rw (eq-eqb (length hs) (10 * L) h)
-
-  pub counts-long : countsOk L hs ≡ true → length hs ≡ 10 * L
-  unfolding countsOk
-  counts-long e = eqb→eq (length hs) (10 * L) (and-fst (eqb (length hs) (10 * L)) (every (λ (n : ℕ). leb n mostCount) hs) (of-true _ e))

@@ -1,14 +1,10 @@
 // The checks (01: questions) of one number, one delivery or one slice that several calls put. Each answers what its definition says, so that a caller has one test for each.
 ghost use mathlib.Core.Path.{_≡_};
-ghost use Rattle.model.specs.Bounds.{blockLimit};
 ghost use Rattle.model.specs.Deliveries.{inRange};
 ghost use Rattle.model.specs.Blocks.{blockLengthOk, slotsOk, slicesOk};
-ghost use Rattle.model.specs.Histograms.{countsOk};
 ghost use Rattle.checks.specs.Values.{allValuesOk};
 use model::Delivery;
-use model::HISTOGRAMS_SIZE;
 use model::MOST_BLOCK_LENGTH;
-use model::MOST_COUNT;
 use model::MOST_SLOTS;
 use model::MOST_WEIGHT;
 use model::MOST_YIELD;
@@ -64,14 +60,4 @@ pub fn values_ok(w: &[u32], y: &[u32]) -> bool
         return slices::within(y, MOST_YIELD);
     }
     false
-}
-
-// Check 9 of the histograms.
-pub fn histograms_ok(h: &[u32]) -> bool
-    ensures { λ r. ⌜ r ≡ countsOk blockLimit (now (h .entry)) ⌝ }
-{
-    if h.len() != HISTOGRAMS_SIZE {
-        return false;
-    }
-    slices::within(h, MOST_COUNT)
 }

@@ -38,8 +38,11 @@ abbrev pub at : Histogram → ℕ → Entry
 at h i = record { histogram = h; block = i }
 
 -- "rs at lo's block, re at hi's, sc at each between; if both ends share a block, pq there only"
+abbrev pub spanRaises : ℕ → ℕ → List Entry
+spanRaises a b = at rs a ∷ at re b ∷ map (at sc) (upFrom (a + 1) (b - (a + 1)))
+
 unfoldable pub rangeRaises : ℕ → ℕ → List Entry
-rangeRaises a b = cond (eqb a b) (at pq a ∷ []) (at rs a ∷ at re b ∷ map (at sc) (upFrom (a + 1) (b - (a + 1))))
+rangeRaises a b = cond (eqb a b) (at pq a ∷ []) (spanRaises a b)
 
 -- "udf at the old grower's block and utf at the block of g' if g' is not smaller, else udb and utb"
 unfoldable pub moveRaises : Set → ℕ → ℕ → List Entry
@@ -56,6 +59,9 @@ raises s (move d g) = cond (among d (held s)) (moveRaises s (d .grower) g) (at p
 -- L is the block limit
 module _ (L : ℕ) where
   -- "ten histograms of 64 counts each stand in one slice of 640 numbers"
+  abbrev pub histogramsSize : ℕ
+  histogramsSize = 10 * L
+
   unfoldable pub slot : Entry → ℕ
   slot e = position (e .histogram) * L + e .block
 
@@ -72,11 +78,11 @@ module _ (L : ℕ) where
 
   -- "a list starts from all zeros"
   abbrev pub zeros : List ℕ
-  zeros = replicate (10 * L) 0
+  zeros = replicate histogramsSize 0
 
   -- check 9: "is the histogram slice 640 long, no count above 1,000,000?"
   unfoldable pub countsOk : List ℕ → Bool
-  countsOk hs = eqb (length hs) (10 * L) && every (λ (n : ℕ). leb n mostCount) hs
+  countsOk hs = eqb (length hs) histogramsSize && every (λ (n : ℕ). leb n mostCount) hs
 
   -- check 10: "does each count to be raised stay within 1,000,000?"
   unfoldable pub roomToRaise : List ℕ → List Entry → Bool

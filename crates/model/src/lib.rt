@@ -31,28 +31,30 @@ pub const LENGTHS: usize = 2;
 pub const FENCES: usize = LENGTHS + BLOCK_LIMIT;
 
 pub const DIRECTORY_SIZE: usize = FENCES + BLOCK_LIMIT;
-// The histograms (01: 640 numbers): where each begins, and how many numbers there are.
+// The histograms (01: 640 numbers), in the order of 01: which of them each is, how many there are, and how many numbers they have.
 pub const PQ: usize = 0;
 
-pub const RS: usize = BLOCK_LIMIT;
+pub const RS: usize = 1;
 
-pub const RE: usize = 2 * BLOCK_LIMIT;
+pub const RE: usize = 2;
 
-pub const SC: usize = 3 * BLOCK_LIMIT;
+pub const SC: usize = 3;
 
-pub const DE: usize = 4 * BLOCK_LIMIT;
+pub const DE: usize = 4;
 
-pub const IN: usize = 5 * BLOCK_LIMIT;
+pub const IN: usize = 5;
 
-pub const UDF: usize = 6 * BLOCK_LIMIT;
+pub const UDF: usize = 6;
 
-pub const UTF: usize = 7 * BLOCK_LIMIT;
+pub const UTF: usize = 7;
 
-pub const UDB: usize = 8 * BLOCK_LIMIT;
+pub const UDB: usize = 8;
 
-pub const UTB: usize = 9 * BLOCK_LIMIT;
+pub const UTB: usize = 9;
 
-pub const HISTOGRAMS_SIZE: usize = 10 * BLOCK_LIMIT;
+pub const HISTOGRAM_COUNT: usize = 10;
+
+pub const HISTOGRAMS_SIZE: usize = HISTOGRAM_COUNT * BLOCK_LIMIT;
 
 // One delivery (01: a grower number, a weight in kg, an oil yield in hundredths of a per cent).
 #[repr(C)]

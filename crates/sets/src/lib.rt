@@ -203,7 +203,7 @@ pub fn counted_refusal(
     if !offered {
         return 8;
     }
-    if !checks::histograms_ok(h) {
+    if !histograms::counts_ok(h) {
         return 9;
     }
     0

@@ -2,33 +2,34 @@
 use mathlib.Core.Path.{sym, _∙_}
 use borrow.Author.Needs.{needs}
 use mathlib.Core.List.{[]}
-use Rattle.checks.specs.Lent.{setOf}
+use Rattle.model.specs.Bounds.{blockLimit}
+use Rattle.model.specs.Lent.{setOf}
 use Rattle.apply.proofs.Filling.{layout-same, accepted, apply-refused, apply-accepted}
 use Rattle.apply.proofs.apply_layout.Statement.{statement}
 use Rattle.apply.proofs.apply_layout.Tie as tie
 
-apply-refusal-requires : tie.Need-apply-refusal-requires
-apply-refusal-requires c κs = search needs
+layout-refusal-requires : tie.Need-layout-refusal-requires
+layout-refusal-requires c κs = search needs
 
 returns : tie.Need-returns
 returns c =
     let g = c .before .before .before .before .before .before .args in
     let s = setOf (g .block) (g .used) (g .growers .now) (g .weights .now) (g .yields .now) in
-    apply-refused s (g .ends .now) _ (c .if1 .taken) (c .before .apply-refusal .ensures)
+    apply-refused blockLimit s (g .ends .now) _ (c .if1 .taken) (c .before .layout-refusal .ensures)
 
 directory-of-requires : tie.Need-directory-of-requires
 directory-of-requires c κs =
     let g = c .before .before .before .before .before .before .args in
     let s = setOf (g .block) (g .used) (g .growers .now) (g .weights .now) (g .yields .now) in
-    let a = accepted s (g .ends .now) (sym (c .before .apply-refusal .ensures) ∙ c .if1 .left) in
-    (a .0 .sized, layout-same (g .block) (g .used) (g .growers .now) (g .weights .now) (g .yields .now) [] [] (g .ends .now) (a .1))
+    let a = accepted blockLimit s (g .ends .now) (sym (c .before .layout-refusal .ensures) ∙ c .if1 .left) in
+    (a .0 .sized, layout-same blockLimit (g .block) (g .used) (g .growers .now) (g .weights .now) (g .yields .now) [] [] (g .ends .now) (a .1))
 
 returns-2 : tie.Need-returns-2
 returns-2 c =
     let g = c .before .before .before .before .before .before .before .args in
     let s = setOf (g .block) (g .used) (g .growers .now) (g .weights .now) (g .yields .now) in
-    apply-accepted s (g .ends .now) _ _ (c .before .if1 .left) (c .before .before .apply-refusal .ensures) (c .directory-of .ensures (g .weights .now) (g .yields .now))
+    apply-accepted blockLimit s (g .ends .now) _ _ (c .before .if1 .left) (c .before .before .layout-refusal .ensures) (c .directory-of .ensures (g .weights .now) (g .yields .now))
 
 pub apply-layout-spec : {M : Type 1} → statement M
 apply-layout-spec =
-    tie.close (tie.spec apply-refusal-requires returns directory-of-requires returns-2)
+    tie.close (tie.spec layout-refusal-requires returns directory-of-requires returns-2)

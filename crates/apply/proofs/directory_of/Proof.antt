@@ -1,33 +1,30 @@
--- `apply::directory_of` meets its contract. Assumes nothing.
-use Prim.Native.Nat.{ℕ, _-_}
-use native.Mathlib.Omega.{arith}
+-- `apply::directory_of` meets its contract: after i turns the first i partitions of the layout are put. Assumes nothing.
+use lib.ListN.{length}
 use borrow.Author.Needs.{needs}
 use mathlib.Core.List.{List, []}
-use lib.ListN.{length}
-use Rattle.checks.specs.Lent.{setOf}
+use mathlib.Core.Path.{sym}
+use native.Mathlib.Omega.{arith}
+use Prim.Native.Nat.{ℕ, _-_, _≤_}
+use Rattle.model.specs.Lent.{setOf}
+use Rattle.model.specs.Bounds.{blockLimit}
 use Rattle.apply.proofs.Filling.{Filling, fill-start, fill-next, fill-end, layout-same, few-ends}
 use Rattle.apply.proofs.directory_of.Statement.{statement}
 use Rattle.apply.proofs.directory_of.Tie as tie
 
 abbrev Inv-loop : tie.InvT-loop
-Inv-loop block used g ends d₀ a₀ i₀ d a i = (ws ys : List ℕ) → Filling (setOf block used g ws ys) ends d a i
+Inv-loop block used g ends d₀ start₀ i₀ d start i = (ws ys : List ℕ) → Filling blockLimit (setOf block used g ws ys) ends d start i
 
 abbrev μ-loop : tie.MeasureT-loop
-μ-loop block used g ends d₀ a₀ i₀ d a i = length ends - i
+μ-loop block used g ends d₀ start₀ i₀ d start i = length ends - i
 
-array-write-d : tie.Need-array-write-d Inv-loop μ-loop
-array-write-d c = search needs
+few : (c : tie.Start Inv-loop μ-loop) → length (c .args .ends .now) ≤ blockLimit
+few c = few-ends blockLimit _ _ _ _ _ _ _ (c .pre .0) (c .pre .1)
 
-cast-d : tie.Need-cast-d Inv-loop μ-loop
-cast-d c = let p = c .before .before in omega (arith, few-ends _ _ _ _ _ _ _ (p .pre .0) (p .pre .1))
-
-array-write-d-2 : tie.Need-array-write-d-2 Inv-loop μ-loop
-array-write-d-2 c = search needs
+blank-requires : tie.Need-blank-requires Inv-loop μ-loop
+blank-requires c κs = few (c .before .before)
 
 loop-holds : tie.Need-loop-holds Inv-loop μ-loop
-loop-holds c =
-    let p = c .before .before in
-    λ ws ys. fill-start _ _ (few-ends _ _ _ _ _ _ _ (p .pre .0) (p .pre .1))
+loop-holds c = λ ws ys. rw (c .blank .ensures) (fill-start blockLimit _ _ (few (c .before .before .before)))
 
 mul-e : tie.Need-mul-e Inv-loop μ-loop
 mul-e c = search needs
@@ -41,28 +38,14 @@ block-stop-requires c κs = search needs
 last-grower-requires : tie.Need-last-grower-requires Inv-loop μ-loop
 last-grower-requires c κs = search needs
 
-add-l : tie.Need-add-l Inv-loop μ-loop
-add-l c = search needs
+slice-aggregate-put : tie.Need-slice-aggregate-put Inv-loop μ-loop
+slice-aggregate-put c = sym (c .before .before .before .before .before .loop .inv [] [] .long)
 
-add-f : tie.Need-add-f Inv-loop μ-loop
-add-f c = search needs
+sub-put : tie.Need-sub-put Inv-loop μ-loop
+sub-put c = omega (arith, c .before .before .before .before .before .loop .inv [] [] .reached (omega arith), c .before .before .block-stop .ensures [] [] [])
 
-sub-d : tie.Need-sub-d Inv-loop μ-loop
-sub-d c =
-    let v = c .before .before .before .before .loop .inv [] [] in
-    omega (arith, v .reached (omega arith), c .before .block-stop .ensures [] [] [])
-
-mul-d : tie.Need-mul-d Inv-loop μ-loop
-mul-d c = omega (arith, c .before .before .before .before .loop .inv [] [] .few)
-
-array-write-d-3 : tie.Need-array-write-d-3 Inv-loop μ-loop
-array-write-d-3 c = omega (arith, c .before .before .before .before .loop .inv [] [] .few)
-
-mul-d-2 : tie.Need-mul-d-2 Inv-loop μ-loop
-mul-d-2 c = omega (arith, c .before .before .before .before .loop .inv [] [] .few)
-
-array-write-d-4 : tie.Need-array-write-d-4 Inv-loop μ-loop
-array-write-d-4 c = omega (arith, c .before .before .before .before .loop .inv [] [] .few)
+put-requires : tie.Need-put-requires Inv-loop μ-loop
+put-requires c κs = let v = c .before .before .before .before .before .loop .inv [] [] in (v .long, omega (arith, v .few))
 
 add-i : tie.Need-add-i Inv-loop μ-loop
 add-i c = search needs
@@ -73,34 +56,11 @@ loop-less c = omega arith
 loop-again : tie.Need-loop-again Inv-loop μ-loop
 loop-again c =
     λ ws ys.
-    let p = c .before .before .before .before .before .before .before in
-    fill-next _ _ _ _ _ (c .before .before .before .loop-test .taken) (layout-same _ _ _ _ _ ws ys _ (p .pre .1)) (c .before .before .before .before .loop .inv ws ys) _ _ (c .before .block-stop .ensures [] ws ys) (c .last-grower .ensures ws ys)
+    fill-next blockLimit _ _ _ _ _ (c .before .before .before .before .before .before .loop-test .taken) (layout-same blockLimit _ _ _ _ _ ws ys _ (c .before .before .before .before .before .before .before .before .before .before .before .pre .1))
+    (c .before .before .before .before .before .before .before .loop .inv ws ys) _ _ _ (c .before .put .ensures) (c .before .before .before .before .block-stop .ensures [] ws ys) (c .before .before .before .last-grower .ensures ws ys)
 
 returns : tie.Need-returns Inv-loop μ-loop
-returns c = λ ws ys. fill-end _ _ _ _ _ (c .loop-test .left) (c .before .loop .inv ws ys)
+returns c = λ ws ys. fill-end blockLimit _ _ _ _ _ (c .loop-test .left) (c .before .loop .inv ws ys)
 
 pub directory-of-spec : {M : Type 1} → statement M
-directory-of-spec =
-    tie.close
-    (tie.spec
-    Inv-loop
-    μ-loop
-    array-write-d
-    cast-d
-    array-write-d-2
-    loop-holds
-    mul-e
-    shared-slice-read-e
-    block-stop-requires
-    last-grower-requires
-    add-l
-    add-f
-    sub-d
-    mul-d
-    array-write-d-3
-    mul-d-2
-    array-write-d-4
-    add-i
-    loop-less
-    loop-again
-    returns)
+directory-of-spec = tie.close (tie.spec Inv-loop μ-loop blank-requires loop-holds mul-e shared-slice-read-e block-stop-requires last-grower-requires slice-aggregate-put sub-put put-requires add-i loop-less loop-again returns)

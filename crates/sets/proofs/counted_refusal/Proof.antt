@@ -61,14 +61,14 @@ returns-3 c = past-order (c .before .before) 8 _ (fails 8 _ _ (sym (and-no _ _ (
 returns-4 : tie.Need-returns-4
 returns-4 c = past-order (c .before .before .before) 8 _ (fails 8 _ _ (values (c .before) ∙ not-true _ (c .if4 .taken)))
 
-histograms-ok-requires : tie.Need-histograms-ok-requires
-histograms-ok-requires c κs = search needs
+counts-ok-requires : tie.Need-counts-ok-requires
+counts-ok-requires c κs = search needs
 
 returns-5 : tie.Need-returns-5
-returns-5 c = past-values (c .before .before) 9 _ (fails 9 _ _ (sym (c .before .histograms-ok .ensures) ∙ not-true _ (c .if5 .taken)))
+returns-5 c = past-values (c .before .before) 9 _ (fails 9 _ _ (sym (c .before .counts-ok .ensures) ∙ not-true _ (c .if5 .taken)))
 
 returns-6 : tie.Need-returns-6
-returns-6 c = past-values (c .before .before) 0 _ (passes 9 0 _ _ (sym (c .before .histograms-ok .ensures) ∙ not-false _ (c .if5 .left)) none-failed)
+returns-6 c = past-values (c .before .before) 0 _ (passes 9 0 _ _ (sym (c .before .counts-ok .ensures) ∙ not-false _ (c .if5 .left)) none-failed)
 
 pub counted-refusal-spec : {M : Type 1} → statement M
 counted-refusal-spec =
@@ -80,6 +80,6 @@ counted-refusal-spec =
     set-values-ok-requires
     returns-3
     returns-4
-    histograms-ok-requires
+    counts-ok-requires
     returns-5
     returns-6)

@@ -1,10 +1,10 @@
--- `recorder::raise_each` meets its contract. Assumes nothing.
+-- `histograms::raise_each` meets its contract. Assumes nothing.
 use Prim.Native.Nat.{_-_}
 use native.Mathlib.Omega.{arith}
 use borrow.Author.Needs.{needs}
-use Rattle.recorder.proofs.Slots.{Rest, rest-start, rest-low, rest-next, rest-end}
-use Rattle.recorder.proofs.raise_each.Statement.{statement}
-use Rattle.recorder.proofs.raise_each.Tie as tie
+use Rattle.histograms.proofs.Slots.{Rest, rest-start, rest-low, rest-next, rest-end}
+use Rattle.histograms.proofs.raise_each.Statement.{statement}
+use Rattle.histograms.proofs.raise_each.Tie as tie
 
 abbrev Inv-loop : tie.InvT-loop
 Inv-loop h₀ f t i₀ h i = Rest h₀ h f t i

@@ -1,0 +1,2 @@
+-- Counts that are raised together.
+pub mod Raising
