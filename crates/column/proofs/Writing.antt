@@ -1,6 +1,6 @@
 -- insert, delete and move: the slots and lengths that they leave, and their answers. Assumes nothing.
 use Prim.Native.Nat.{ℕ, zero, suc, _+_, _-_, _≤_, _<_}
-use mathlib.Core.Path.{_≡_, refl, sym, ap, ap₂, _∙_}
+use mathlib.Core.Path.{_≡_, refl, sym, ap, ap₂, _∙_, subst}
 use mathlib.Core.Bool.{Bool, true, false, cond, _&&_}
 use mathlib.Core.List.{List, [], _∷_, _++_}
 use native.Mathlib.Omega.{arith}
@@ -18,11 +18,12 @@ use Rattle.model.specs.Calls.{insert, delete, move}
 use Rattle.model.specs.Partitions.{startOf, oneMore, oneFewer}
 use Rattle.model.specs.Directory.{partitionCount, directoryOf, withLengths}
 use Rattle.model.specs.Column.{Column, lengthsOf, target, recordsNear, scannedOk, hasFreeSlot, isHeld}
-use Rattle.model.specs.Accesses.{counts, noCounts, andAlso, onward, apart, readsOf, scanNear, scanCounts, callCounts, missCounts}
+use Rattle.model.specs.Accesses.{counts, noCounts, andAlso, onward, apart, scanNear, scanCounts, callCounts, missCounts}
 use Rattle.model.specs.Questions.{lentChecks, callChecks, columnChecks}
 use Rattle.model.specs.ColumnCalls.{Called, columnRefusal, columnAfter, columnCall, callTotals, refusedCounts, slotOf, moveSlices}
 use Rattle.model.proofs.DirectoryLaws.{Shaped, Kept, with-lengths, shaped, shaped-passes, shaped-with, length-lengths}
 use Rattle.model.proofs.MovesLengths.{sum-oneFewer}
+use Rattle.model.proofs.AccessLaws.{reads-small}
 use Rattle.checks.specs.Lent.{columnOf}
 use Rattle.column.specs.declared.Located.{Located}
 use Rattle.column.specs.declared.Opened.{Opened}
@@ -247,8 +248,8 @@ module _ (c : Column) (d : Delivery) (f : Located) (w : f ≡ locatedOf c d) whe
 
   -- a scan's counts leave room
   pub scan-small : Found → (f .counts .rr ≤ 1) × (f .counts .«rw» ≤ 0)
-  unfolding scanNear scanCounts readsOf
-  scan-small a = (omega (arith, ap (λ (n : Counts). n .rr) (a .counts-are)), omega (arith, ap (λ (n : Counts). n .«rw») (a .counts-are)))
+  unfolding scanNear scanCounts
+  scan-small a = subst (λ (n : Counts). (n .rr ≤ 1) × (n .«rw» ≤ 0)) (sym (a .counts-are)) (reads-small _)
 
   pub delete-done : Found → (after : Column) (n : ℕ) (r : Answer) → after ≡ takenOf c (target 64 c (d .grower)) (slotOf 64 c d) → n ≡ onward (directoryOf 64 (c .directory)) (target 64 c (d .grower))
       → r ≡ withoutTotals 0 (andAlso (f .counts) n (1 + n)) → _≡_ {A = Called} (record { answer = r; column = after }) (columnCall 64 c (delete d))

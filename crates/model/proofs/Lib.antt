@@ -9,6 +9,7 @@ pub mod LayoutLaws
 pub mod SetLaws
 pub mod Parts
 pub mod DirectoryLaws
+pub mod AccessLaws
 pub mod Fresh
 pub mod CostLaws
 pub mod PlanLaws

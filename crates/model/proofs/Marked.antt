@@ -25,7 +25,7 @@ use Rattle.model.specs.Planner.{costCall, plannedEnds, plannerRefusal, p
 use Rattle.model.specs.ColumnCalls.{moveSlices, applyCall, laidColumn, callTotals, columnAfter, columnRefusal, refusedCounts, columnCall, columnCalls, reportAlone, partitionCall}
 use Rattle.model.specs.Text.{bytesOf}
 use Rattle.model.specs.Program.{callOf, callsOf, sizesOk, takeSizes, readWeek, recordUntilRefused, partitionTexts, planText, weekText, layplan}
-use Rattle.model.specs.Examples.{OnThatColumn, Costs, UnderLimits, MainCase, EmptyPartitions, Refusals, QuestionsInOrder}
+use Rattle.model.specs.Examples.{OnThatColumn, Costs, UnderLimits, MainCase, EmptyPartitions, AllRecords, Reads, Refusals, QuestionsInOrder}
 
 pub on-that-column : OnThatColumn
 unfolding flatten sumOf ceilDiv upFrom every keep rising neverFalls sameList firstFailed place rows among firstMatch totalsOf blockOf blockLengthOk slotsOk slicesOk usedOk growersOk valuesOk pricesOk limitsOk priced before after trailing isLayout layoutOk blockCounts mostPartitions longestPartition permitted layoutsFrom parts free startOf between rotateLeft rotateRight fillFromEnd fillFromFront insertAt deleteAt moveForward moveBackward moveWithin moveAt inserted deleted moved directoryOf unusedNumbers directoryNumbers directoryBlockOk directoryOk withLengths soundGrowers sound scannedOk hasFreeSlot isHeld lengthsFrom directoryFor blocksOf blocksScanned readsOf scanCounts scanNear callCounts missCounts recorderChecks costChecks plannerChecks applyChecks callChecks columnChecks partitionChecks writeChecks readChecks ledgerChecks moveSlices applyCall laidColumn callTotals columnAfter columnRefusal refusedCounts columnCall columnCalls reportAlone partitionCall
@@ -46,6 +46,14 @@ main-case = record { output = refl }
 pub empty-partitions : EmptyPartitions
 unfolding flatten sumOf ceilDiv upFrom every keep rising neverFalls sameList parts free startOf between rotateLeft rotateRight fillFromEnd fillFromFront insertAt deleteAt moveForward moveBackward moveWithin moveAt inserted deleted moved
 empty-partitions = record { insert-past = refl; delete-past = refl; forward-past = refl; backward-past = refl }
+
+pub all-records : AllRecords
+unfolding flatten rows parts directoryOf directoryNumbers
+all-records = record { empty-between = refl; free-past = refl; all-empty = refl }
+
+pub reads : Reads
+unfolding readsOf
+reads = record { none = refl; one = refl; three = refl }
 
 pub refusals : Refusals
 unfolding flatten sumOf ceilDiv upFrom every keep rising neverFalls sameList firstFailed place rows among firstMatch totalsOf blockOf blockLengthOk slotsOk slicesOk usedOk growersOk valuesOk pricesOk limitsOk priced before after trailing isLayout layoutOk blockCounts mostPartitions longestPartition permitted layoutsFrom parts free startOf between rotateLeft rotateRight fillFromEnd fillFromFront insertAt deleteAt moveForward moveBackward moveWithin moveAt inserted deleted moved directoryOf unusedNumbers directoryNumbers directoryBlockOk directoryOk withLengths soundGrowers sound scannedOk hasFreeSlot isHeld lengthsFrom directoryFor blocksOf blocksScanned readsOf scanCounts scanNear callCounts missCounts recorderChecks costChecks plannerChecks applyChecks callChecks columnChecks partitionChecks writeChecks readChecks ledgerChecks moveSlices applyCall laidColumn callTotals columnAfter columnRefusal refusedCounts columnCall columnCalls reportAlone partitionCall

@@ -11,8 +11,8 @@ use Rattle.model.specs.Checks.{firstFailed}
 use Rattle.model.specs.Deliveries.{inRange}
 use Rattle.model.specs.Blocks.{slotsOk, slicesOk}
 use Rattle.model.specs.Directory.{directoryBlockOk, directoryOk}
-use Rattle.model.specs.Column.{Column, sound}
-use Rattle.model.specs.Snapshot.{allRecords, snapshotText}
+use Rattle.model.specs.Column.{Column, allRecords, sound}
+use Rattle.model.specs.Snapshot.{snapshotText}
 use Rattle.model.specs.Questions.{writeChecks}
 use Rattle.model.specs.SnapshotCalls.{WriteResult, writeCall}
 use Rattle.model.proofs.Tests.{and-fst, and-snd, and-mk, eq→eqb, is-true, yes-first}

@@ -1,5 +1,5 @@
 -- Access counts (01: the laid column): rr, sr and rw of a scan and of each call.
-use Prim.Native.Nat.{ℕ, _+_, _-_, max}
+use Prim.Native.Nat.{ℕ, zero, suc, _+_, _-_, max}
 use mathlib.Core.List.{map}
 use lib.ListN.{length, take, drop}
 use Rattle.model.specs.declared.Counts.{Counts}
@@ -24,7 +24,8 @@ blocksScanned d p q = sumOf (map (blocksOf (d .block)) (take (q + 1 - p) (drop p
 
 -- "of all blocks scanned the first is 1 rr, each other 1 sr"
 unfoldable pub readsOf : ℕ → Counts
-readsOf n = counts 1 (n - 1) 0
+readsOf zero = noCounts
+readsOf (suc n) = counts 1 n 0
 
 -- a scan of partitions p to q
 unfoldable pub scanCounts : Directory → ℕ → ℕ → Counts

@@ -1,7 +1,7 @@
 -- The laid column (01): the lent directory and slices, laying, and soundness.
 use Prim.Native.Nat.{ℕ, _-_}
 use mathlib.Core.Bool.{Bool}
-use mathlib.Core.List.{List, [], _∷_, map}
+use mathlib.Core.List.{List, [], _∷_, map, flatten}
 use lib.ListN.{length}
 use lib.Dec.{ltb, eqb}
 use Rattle.model.specs.declared.Delivery.{Delivery}
@@ -50,6 +50,10 @@ module _ (L : ℕ) where
   -- the records of grower g's partition
   abbrev pub recordsNear : Column → ℕ → List Delivery
   recordsNear c g = recordsOf c (target c g) (target c g)
+
+  -- the records of all partitions, one after the other
+  abbrev pub allRecords : Column → List Delivery
+  allRecords c = flatten (parts (lengthsOf c) (slots c))
 
   -- check 6 of writing: "and sound?"
   unfoldable pub sound : Column → Bool

@@ -20,8 +20,8 @@ use Rattle.model.specs.Layouts.{mostPartitions}
 use Rattle.model.specs.Cost.{costOf}
 use Rattle.model.specs.Moves.{inserted, deleted, moved}
 use Rattle.model.specs.Directory.{directoryNumbers}
-use Rattle.model.specs.Column.{Column}
-use Rattle.model.specs.Accesses.{counts}
+use Rattle.model.specs.Column.{Column, allRecords}
+use Rattle.model.specs.Accesses.{counts, noCounts, readsOf}
 use Rattle.model.specs.Questions.{recorderChecks, costChecks, plannerChecks, applyChecks, columnChecks, partitionChecks, writeChecks, readChecks}
 use Rattle.model.specs.Recorder.{recordedFromZeros}
 use Rattle.model.specs.Planner.{PlanResult, planCall}
@@ -153,6 +153,26 @@ pub record EmptyPartitions : Type 0 where
   pub delete-past : deleted {A = ℕ} (2 ∷ 0 ∷ 1 ∷ []) 0 1 0 (1 ∷ 2 ∷ 3 ∷ 7 ∷ []) ≡ 1 ∷ 3 ∷ 0 ∷ 7 ∷ []
   pub forward-past : moved {A = ℕ} (2 ∷ 0 ∷ 2 ∷ 0 ∷ []) 0 0 3 9 (1 ∷ 2 ∷ 3 ∷ 4 ∷ []) ≡ 2 ∷ 4 ∷ 3 ∷ 9 ∷ []
   pub backward-past : moved {A = ℕ} (0 ∷ 2 ∷ 0 ∷ 2 ∷ []) 3 1 0 9 (1 ∷ 2 ∷ 3 ∷ 4 ∷ []) ≡ 9 ∷ 2 ∷ 1 ∷ 3 ∷ []
+
+-- The records of all partitions: none of an empty partition, and none of the slots past the last partition, whatever these hold.
+abbrev pub threeParts : List ℕ → Column
+threeParts ns = record {
+  directory = directoryNumbers blockLimit (record { block = 2; lengths = ns; fences = 10 ∷ 15 ∷ 80 ∷ [] });
+  growers = week .growers;
+  weights = week .weights;
+  yields = week .yields;
+}
+
+pub record AllRecords : Type 0 where
+  pub empty-between : allRecords blockLimit (threeParts (1 ∷ 0 ∷ 7 ∷ [])) ≡ of 10 ∷ of 20 ∷ of 30 ∷ of 40 ∷ of 50 ∷ of 60 ∷ of 70 ∷ of 80 ∷ []
+  pub free-past : allRecords blockLimit (threeParts (1 ∷ 0 ∷ 2 ∷ [])) ≡ of 10 ∷ of 20 ∷ of 30 ∷ []
+  pub all-empty : allRecords blockLimit (threeParts (0 ∷ 0 ∷ 0 ∷ [])) ≡ []
+
+-- "Of all blocks scanned the first is 1 rr, each other 1 sr".
+pub record Reads : Type 0 where
+  pub none : readsOf 0 ≡ noCounts
+  pub one : readsOf 1 ≡ counts 1 0 0
+  pub three : readsOf 3 ≡ counts 1 2 0
 
 -- Refused calls on that column: the first "no" answers, and nothing changes.
 abbrev pub refuses : ℕ → Counts → Called

@@ -17,8 +17,8 @@ use Rattle.model.specs.Histograms.{raises, countsOk, roomToRaise}
 use Rattle.model.specs.Layouts.{layoutOk}
 use Rattle.model.specs.Plan.{permittedLayouts}
 use Rattle.model.specs.Directory.{directoryBlockOk, directoryOk}
-use Rattle.model.specs.Column.{Column, sound, scannedOk, hasFreeSlot, isHeld}
-use Rattle.model.specs.Snapshot.{allRecords, snapshotText, slotsForBook, isBook}
+use Rattle.model.specs.Column.{Column, allRecords, sound, scannedOk, hasFreeSlot, isHeld}
+use Rattle.model.specs.Snapshot.{snapshotText, slotsForBook, isBook}
 
 -- L is the block limit
 module _ (L : ℕ) where

@@ -3,7 +3,7 @@ use Prim.Native.Nat.{ℕ}
 use mathlib.Core.Bool.{Bool, true, _&&_}
 use mathlib.Core.Option.{Option, some}
 use mathlib.Core.List.{List, [], _∷_, _++_, map}
-use lib.ListN.{length, take}
+use lib.ListN.{length}
 use lib.Dec.{leb, eqb}
 use Rattle.model.specs.declared.Delivery.{Delivery}
 use Rattle.model.specs.Bounds.{mostSlots}
@@ -11,7 +11,7 @@ use Rattle.model.specs.Lists.{sumOf, every, rising, onlyIf, andThen, val
 use Rattle.model.specs.Deliveries.{delivery, growerOf, weightOf, yieldOf, inRange}
 use Rattle.model.specs.Blocks.{blockLengthOk}
 use Rattle.model.specs.Directory.{Directory, directoryOf}
-use Rattle.model.specs.Column.{Column, slots, lengthsOf, soundGrowers}
+use Rattle.model.specs.Column.{Column, soundGrowers, allRecords}
 use Rattle.model.specs.Fields.{Taken, taken, line, lines, takeLine, takeLines, nth}
 
 -- what a text holds
@@ -41,10 +41,6 @@ bookText b =
     line (d .block ∷ sumOf (d .lengths) ∷ length (d .lengths) ∷ [])
     ++ lines (partitionRows (d .lengths) (d .fences))
     ++ lines (map deliveryRow (b .deliveries))
-
--- the records of all partitions
-abbrev pub allRecords : ℕ → Column → List Delivery
-allRecords L c = take (sumOf (lengthsOf L c)) (slots c)
 
 -- the book of a column
 abbrev pub bookIn : ℕ → Column → Book

@@ -14,13 +14,14 @@ use Rattle.model.specs.Checks.{ask, firstFailed}
 use Rattle.model.specs.Deliveries.{rows, inRange}
 use Rattle.model.specs.Blocks.{slicesOk}
 use Rattle.model.specs.Directory.{directoryOf, directoryBlockOk, directoryOk}
-use Rattle.model.specs.Column.{Column, lengthsOf, fencesOf, soundGrowers, sound}
+use Rattle.model.specs.Column.{Column, slots, lengthsOf, fencesOf, soundGrowers, allRecords, sound}
 use Rattle.model.specs.Fields.{line, lines}
-use Rattle.model.specs.Snapshot.{partitionRows, deliveryRow, bookText, allRecords, snapshotText}
+use Rattle.model.specs.Snapshot.{partitionRows, deliveryRow, bookText, snapshotText}
 use Rattle.model.specs.Questions.{lentChecks, writeChecks}
 use Rattle.model.specs.SnapshotCalls.{WriteResult, writeCall}
 use Rattle.model.proofs.Tests.{is-true, yes-first}
 use Rattle.model.proofs.Deliveries.{rows-part, values-rows}
+use Rattle.model.proofs.Parts.{flatten-parts}
 use Rattle.model.proofs.DirectoryLaws.{shaped, length-lengths, length-fences}
 use Rattle.checks.specs.Lent.{allValuesOk}
 use Rattle.checks.proofs.Sets.{failed-first}
@@ -87,7 +88,7 @@ module _ (c : Column) (room : ℕ) where
     used = sumOf (lengthsOf 64 c)
 
     records-are : allRecords 64 c ≡ rows (take used (c .growers)) (take used (c .weights)) (take used (c .yields))
-    records-are = sym (rows-part used 0 (c .growers) (c .weights) (c .yields))
+    records-are = flatten-parts (lengthsOf 64 c) (slots c) ∙ sym (rows-part used 0 (c .growers) (c .weights) (c .yields))
 
     part-length : (s : List ℕ) → length s ≡ length (c .growers) → length (take used s) ≡ used
     part-length s e = length-take-le used s (omega (arith, l .room))

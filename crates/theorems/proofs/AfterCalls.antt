@@ -11,8 +11,7 @@ use Rattle.model.specs.Deliveries.{delivery, inRange, among}
 use Rattle.model.specs.Calls.{insert, delete, move}
 use Rattle.model.specs.Partitions.{parts, part, oneMore, oneFewer}
 use Rattle.model.specs.Moves.{inserted, deleted, moved}
-use Rattle.model.specs.Column.{Column, slots, inPlace, soundGrowers, lengthsOf, fencesOf, target, recordsNear, hasFreeSlot, isHeld}
-use Rattle.model.specs.Snapshot.{allRecords}
+use Rattle.model.specs.Column.{Column, slots, inPlace, soundGrowers, lengthsOf, fencesOf, target, recordsNear, allRecords, hasFreeSlot, isHeld}
 use Rattle.model.specs.ColumnCalls.{freed, slotOf, columnAfter}
 use Rattle.model.specs.Ledger.{removeOne, changeOne}
 use Rattle.model.proofs.Tests.{and-snd, and-mk}
@@ -24,7 +23,7 @@ use Rattle.model.proofs.SoundLaws.{sound-everyAt}
 use Rattle.model.proofs.SliceLaws.{slots-inserted, slots-deleted, slots-moved}
 use Rattle.theorems.proofs.Bags.{bag-every}
 use Rattle.theorems.proofs.OneDelivery.{InSlot, in-slot, bag-without, bag-changed}
-use Rattle.theorems.proofs.ValidColumn.{Valid, even-slices, target-there, room, records-are, sound-growers, near-is, length-part}
+use Rattle.theorems.proofs.ValidColumn.{Valid, even-slices, target-there, room, sound-growers, near-is, length-part}
 use Rattle.theorems.proofs.Refusals.{held-in-bag, free-in-bag}
 use Rattle.theorems.proofs.Changes.{Follows, follows}
 
@@ -42,10 +41,6 @@ unfolding every
 other-values d {a} p t = and-snd (inRange d) (every inRange a) (same-values p t)
 
 module _ (L : ℕ) (c : Column) (v : Valid L c) (bag : List Delivery) (p : List·Permᴰ (allRecords L c) bag) where
-  -- the records, partition by partition
-  whole-bag : List·Permᴰ (flatten (parts (lengthsOf L c) (slots c))) bag
-  whole-bag = subst (λ (l : List Delivery). List·Permᴰ l bag) (sym (records-are L c v)) p
-
   bag-values : T (every inRange bag)
   bag-values = subst T (bag-every inRange p) (v .values)
 
@@ -61,7 +56,7 @@ module _ (L : ℕ) (c : Column) (v : Valid L c) (bag : List Delivery) (p : List�
       let there : t < length ns = target-there L c v (d .grower) in
       let less : sumOf ns < length (c .growers) = ltb→lt (sumOf ns) (length (c .growers)) (subst T (sym (free-in-bag L c v bag p)) free) in
       let q : List·Permᴰ (flatten (parts (oneMore t ns) (slots (columnAfter L c (insert d))))) (d ∷ bag)
-      = rw (slots-inserted c (even-slices L c v) ns t d (oneMore t ns)) (List·Permᴰ·trans (inserted-bag ns (slots c) (room L c v) t d there) (List·Permᴰ·cons refl whole-bag)) in
+      = rw (slots-inserted c (even-slices L c v) ns t d (oneMore t ns)) (List·Permᴰ·trans (inserted-bag ns (slots c) (room L c v) t d there) (List·Permᴰ·cons refl p)) in
       follows L c v (inserted ns t) d (oneMore t ns)
       (λ x s e. length-inserted ns s t x there (omega arith) ∙ e)
       (length-set ns t _)
@@ -92,7 +87,7 @@ module _ (L : ℕ) (c : Column) (v : Valid L c) (bag : List Delivery) (p : List�
         let i = slotOf L c d in
         let there : t < length ns = target-there L c v (d .grower) in
         let q : List·Permᴰ (d ∷ flatten (parts (oneFewer t ns) (slots (columnAfter L c (delete d))))) bag
-        = rw (slots-deleted c (even-slices L c v) ns t i freed (oneFewer t ns)) (List·Permᴰ·trans (rw slot-holds at (deleted-bag ns (slots c) (room L c v) nobody t i freed there slot-there)) whole-bag) in
+        = rw (slots-deleted c (even-slices L c v) ns t i freed (oneFewer t ns)) (List·Permᴰ·trans (rw slot-holds at (deleted-bag ns (slots c) (room L c v) nobody t i freed there slot-there)) p) in
         follows L c v (deleted ns t i) freed (oneFewer t ns)
         (λ x s e. length-deleted ns s t i x there slot-there (omega (arith, v .shape .room)) ∙ e)
         (length-set ns t _)
@@ -113,7 +108,7 @@ module _ (L : ℕ) (c : Column) (v : Valid L c) (bag : List Delivery) (p : List�
         let there : t < length ns = target-there L c v (d .grower) in
         let new : u < length ns = target-there L c v g in
         let q : List·Permᴰ (d ∷ flatten (parts ms (slots (columnAfter L c (move d g))))) (x ∷ bag)
-        = rw (slots-moved c (even-slices L c v) ns t i u x ms) (List·Permᴰ·trans (rw slot-holds at (moved-bag ns (slots c) (room L c v) nobody t i u x there new slot-there)) (List·Permᴰ·cons refl whole-bag)) in
+        = rw (slots-moved c (even-slices L c v) ns t i u x ms) (List·Permᴰ·trans (rw slot-holds at (moved-bag ns (slots c) (room L c v) nobody t i u x there new slot-there)) (List·Permᴰ·cons refl p)) in
         follows L c v (moved ns t i u) x ms
         (λ y s e. length-moved ns s t i u y there new slot-there (omega (arith, v .shape .room)) ∙ e)
         (length-set (oneFewer t ns) u _ ∙ length-set ns t _)

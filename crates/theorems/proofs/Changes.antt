@@ -3,17 +3,15 @@ use Prim.Native.Nat.{ℕ, _≤_}
 use mathlib.Core.Path.{_≡_, refl, sym, ap, _∙_, subst}
 use mathlib.Core.List.{List, flatten, List·Permᴰ}
 use lib.Dec.{T}
-use lib.ListN.{length, take, getD}
+use lib.ListN.{length, getD}
 use Rattle.model.specs.declared.Delivery.{Delivery}
 use Rattle.model.specs.Lists.{sumOf, every}
 use Rattle.model.specs.Deliveries.{inRange}
 use Rattle.model.specs.Blocks.{slicesOk}
 use Rattle.model.specs.Partitions.{parts}
 use Rattle.model.specs.Directory.{Directory, directoryOf, directoryBlockOk, withLengths}
-use Rattle.model.specs.Column.{Column, slots, soundGrowers, lengthsOf, fencesOf, sound}
-use Rattle.model.specs.Snapshot.{allRecords}
+use Rattle.model.specs.Column.{Column, slots, soundGrowers, lengthsOf, fencesOf, allRecords, sound}
 use Rattle.model.specs.ColumnCalls.{moveSlices}
-use Rattle.model.proofs.Parts.{flatten-parts}
 use Rattle.model.proofs.DirectoryLaws.{Kept, with-lengths, shaped-with}
 use Rattle.theorems.proofs.ValidColumn.{Valid, even-slices, count-lengths}
 
@@ -60,7 +58,7 @@ module _ (L : ℕ) (c : Column) (v : Valid L c) where
       follows snd vals b p =
           let e : length (f (d .grower) (c .growers)) ≡ length (c .growers) = kept-length (d .grower) (c .growers) refl in
           let a : flatten (parts ns (slots (moveSlices f d ns c))) ≡ allRecords L (moveSlices f d ns c)
-          = flatten-parts ns (slots (moveSlices f d ns c)) ∙ ap (λ (ms : List ℕ). take (sumOf ms) (slots (moveSlices f d ns c))) (sym lengths-after) in
+          = ap (λ (ms : List ℕ). flatten (parts ms (slots (moveSlices f d ns c)))) (sym lengths-after) in
           record {
             valid = record {
               block-ok = block-after;

@@ -16,13 +16,12 @@ use Rattle.model.specs.Blocks.{Set, held, blockOf, lastGrower, blockLengthOk, s
 use Rattle.model.specs.Layouts.{layoutOk}
 use Rattle.model.specs.Partitions.{parts, startOf, everyAt}
 use Rattle.model.specs.Directory.{Directory, directorySize, directoryOf, directoryNumbers, directoryBlockOk}
-use Rattle.model.specs.Column.{inPlace, soundGrowers, sound, lengthsFrom, directoryFor}
-use Rattle.model.specs.Snapshot.{allRecords}
+use Rattle.model.specs.Column.{inPlace, soundGrowers, allRecords, sound, lengthsFrom, directoryFor}
 use Rattle.model.specs.Questions.{setChecks, applyChecks}
 use Rattle.model.specs.ColumnCalls.{applyCall, laidColumn}
-use Rattle.model.proofs.Parts.{start-mono}
+use Rattle.model.proofs.Parts.{flatten-parts, start-mono}
 use Rattle.model.proofs.Tests.{and-mk, or-snd, yes-first, first-passed, eq→eqb}
-use Rattle.model.proofs.ListLaws.{sum-span, sum-take-le}
+use Rattle.model.proofs.ListLaws.{sum-take-le}
 use Rattle.model.proofs.Places.{Placed}
 use Rattle.model.proofs.LayoutLaws.{Laid, laid}
 use Rattle.model.proofs.SetLaws.{Good, good, few, part-placed, target}
@@ -152,7 +151,7 @@ module _ (L : ℕ) (s : Set) (ends : List ℕ) (h : applyCall L s ends .refusal 
 
   pub laid-records : allRecords L (laidColumn L s ends) ≡ held s
   unfolding laidColumn
-  laid-records = ap (λ (n : ℕ). take n (rows (s .growers) (s .weights) (s .yields))) (laid-total L s ends set-good layout-laid _ directory-is)
+  laid-records = flatten-parts _ _ ∙ ap (λ (n : ℕ). take n (rows (s .growers) (s .weights) (s .yields))) (laid-total L s ends set-good layout-laid _ directory-is)
 
   pub laid-valid : Valid L (laidColumn L s ends)
   unfolding laidColumn sound

@@ -11,8 +11,7 @@ use Rattle.model.specs.Deliveries.{inRange, among, matches, noTotals, totalsOf}
 use Rattle.model.specs.Blocks.{held}
 use Rattle.model.specs.Calls.{Call, find, range, insert, delete, move}
 use Rattle.model.specs.Directory.{directoryOf}
-use Rattle.model.specs.Column.{Column}
-use Rattle.model.specs.Snapshot.{allRecords}
+use Rattle.model.specs.Column.{Column, allRecords}
 use Rattle.model.specs.Accesses.{callCounts}
 use Rattle.model.specs.Questions.{ledgerChecks}
 use Rattle.model.specs.ColumnCalls.{Called, callTotals, columnAfter, columnRefusal, refusedCounts, laidColumn, columnCall, columnCalls}

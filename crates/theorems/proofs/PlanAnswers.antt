@@ -1,12 +1,13 @@
--- The planner's answer: 11 exactly where nothing is permitted, otherwise the least of what is. Assumes nothing.
-use Prim.Native.Nat.{ℕ, suc, _≤_}
+-- The planner's answer: 11 exactly where nothing is permitted, 15 exactly where something is and there is no room for it,
+-- otherwise the least of what is permitted. Assumes nothing.
+use Prim.Native.Nat.{ℕ, suc, _≤_, _<_}
 use mathlib.Core.Path.{_≡_, refl, sym, ap, _∙_}
 use mathlib.Core.Logic.{_≢_, _↔_, ⊎-elim}
 use mathlib.Core.Bool.{Bool, true, false, not, cond, _&&_}
 use mathlib.Core.Option.{Option, none, some}
 use mathlib.Core.List.{List, [], _∷_, _++_, List·Memᴰ, List·Memᴰ·head, List·Memᴰ·not-nil}
 use native.Mathlib.Omega.{arith}
-use lib.Dec.{T, leb, eqb, le→leb, eqb→eq, not-T}
+use lib.Dec.{T, leb, eqb, le→leb, leb→le, nleb→lt, eqb→eq, not-T}
 use lib.ListN.{length, drop}
 use lib.Seq.{take-at}
 use lib.IntN.{ℤ}
@@ -27,7 +28,6 @@ use Rattle.model.specs.Laws.{IsCheapest}
 use Rattle.model.proofs.Tests.{and-fst, is-true, of-true, first-passed}
 use Rattle.model.proofs.Integers.{is-exists, le-is}
 use Rattle.model.proofs.Order.{comesBefore-elim}
-use Rattle.model.proofs.LayoutLaws.{laid, cut-count}
 use Rattle.model.proofs.SetLaws.{good, n-least}
 use Rattle.model.proofs.PlanLaws.{permitted-listed, listed-permitted, cheapest-chosen, none-permitted}
 use Rattle.theorems.specs.Plan.{Admitted, layoutOf}
@@ -79,6 +79,16 @@ eleven : (b c : Bool) → (T b → ⊥) → lastTwo b c ≡ 11
 eleven true c f = absurd (f tt)
 eleven false c f = refl
 
+fifteen : (b c : Bool) → T b → T (not c) → lastTwo b c ≡ 15
+fifteen true true t f = absurd f
+fifteen true false t f = refl
+fifteen false c t f = absurd t
+
+fifteen-only : (b c : Bool) → lastTwo b c ≡ 15 → T b × T (not c)
+fifteen-only true true e = let z : ⊥ = omega arith in absurd z
+fifteen-only true false e = (tt, tt)
+fifteen-only false c e = let z : ⊥ = omega arith in absurd z
+
 zero-passed : (b c : Bool) → lastTwo b c ≡ 0 → T b
 zero-passed true c e = tt
 zero-passed false c e = let z : ⊥ = omega arith in absurd z
@@ -128,10 +138,6 @@ module _ (L : ℕ) (p : PriceCard) (l : Limits) (s : Set) (h : Admitted L p l s)
       go none e = let r = any-permitted t in absurd (none-permitted p l s L hs some-blocks e (r .0) (r .1))
       go (some x) e = cheapest-chosen p l s L hs x some-blocks e
 
-  -- a layout has no more ends than there are blocks
-  ends-few : T any → length ends ≤ blocks s
-  ends-few t = omega (arith, cut-count 0 ends (blocks s) (laid s ends (permitted-ok p l s ends (ends-cheapest t .allowed)) .cut))
-
   -- The refusal number.
 
   abbrev fits : List ℕ → Bool
@@ -153,12 +159,19 @@ module _ (L : ℕ) (p : PriceCard) (l : Limits) (s : Set) (h : Admitted L p l s)
     λ f. refusal-planned out ∙ eleven any (fits out) (λ t. let r = any-permitted t in f (r .0) (r .1)),
   )
 
-  -- a slice of as many ends as there are blocks is long enough
-  pub room-answers : (out : List ℕ) → planCall L p l s hs out .answer .refusal ≢ 11 → blocks s ≤ length out → planCall L p l s hs out .answer .refusal ≡ 0
+  pub fifteen-exactly : (out : List ℕ) → planCall L p l s hs out .answer .refusal ≡ 15 ↔ (((x : List ℕ) × T (permitted p l s x)) × (length out < length ends))
+  fifteen-exactly out = (
+    λ e. let r = fifteen-only any (fits out) (sym (refusal-planned out) ∙ e) in (any-permitted (r .0), nleb→lt (length ends) (length out) (r .1)),
+    λ h.
+        let short : T (not (fits out)) = not-T (fits out) (λ t. let k = leb→le (length ends) (length out) t in omega (arith, h .1)) in
+        refusal-planned out ∙ fifteen any (fits out) (permitted-any (h .0 .0) (h .0 .1)) short,
+  )
+
+  pub room-answers : (out : List ℕ) → planCall L p l s hs out .answer .refusal ≢ 11 → length ends ≤ length out → planCall L p l s hs out .answer .refusal ≡ 0
   room-answers out f k = refusal-planned out ∙ go any refl
     where
       go : (b : Bool) → any ≡ b → lastTwo b (fits out) ≡ 0
-      go true e = ap (λ (v : Bool). lastTwo true v) (is-true (fits out) (le→leb (length ends) (length out) (omega (arith, ends-few (of-true any e)))))
+      go true e = ap (λ (v : Bool). lastTwo true v) (is-true (fits out) (le→leb (length ends) (length out) k))
       go false e = absurd (f (refusal-planned out ∙ ap (λ (v : Bool). lastTwo v (fits out)) e))
 
   -- What an accepted planner answers.
@@ -177,7 +190,7 @@ module _ (L : ℕ) (p : PriceCard) (l : Limits) (s : Set) (h : Admitted L p l s)
     unfolding planCall
     result-is = rw (accepted, planCall)
 
-    layout-is : layoutOf r ≡ ends
+    pub layout-is : layoutOf r ≡ ends
     layout-is = ap layoutOf result-is ∙ take-at ends _ (length ends) refl
 
     pub layout-permitted : T (permitted p l s (layoutOf r))

@@ -66,23 +66,24 @@ module _ (L : ℕ) (s : Set) (h : SetPasses L s) (ends : List ℕ) (t : T (layou
   within : (g : ℕ) → place ends (blockOf s g) < length ends
   within g = part-in L s h ends t g
 
-  -- the blocks that a scan from lo's partition to hi's reads after its first
-  scan-two : (lo hi : ℕ) → lo ≤ hi → blocksScanned fresh (home lo) (home hi) - 1 ≡ before ends (blockOf s lo) + after ends (blockOf s hi) + (blockOf s hi - blockOf s lo)
+  -- the blocks that a scan from lo's partition to hi's reads: the first, and each other
+  scan-two : (lo hi : ℕ) → lo ≤ hi → blocksScanned fresh (home lo) (home hi) ≡ suc (before ends (blockOf s lo) + after ends (blockOf s hi) + (blockOf s hi - blockOf s lo))
   unfolding before after
   scan-two lo hi k =
       rw (home-is lo, home-is hi)
       (omega (arith, scanned-is L s o ends l (place ends (blockOf s lo)) (place ends (blockOf s hi)) (part-mono L s h ends t lo hi k) (within hi), part-first L s o ends l (blockOf s lo), part-end L s o ends l (blockOf s hi) (spot L s o hi .within), block-mono L s o lo hi k))
 
-  -- a scan of one partition, with x random reads and y random writes more
+  scan-one : (g : ℕ) → blocksScanned fresh (home g) (home g) ≡ suc (before ends (blockOf s g) + after ends (blockOf s g))
+  scan-one g = scan-two g g (omega arith) ∙ omega arith
+
+  -- a scan of one partition, and with x random reads and y random writes more
+  scan-price : (p : PriceCard) (g : ℕ) → priced p (scanNear fresh g) ≡ pointPrice p ends (blockOf s g)
+  unfolding scanNear scanCounts readsOf priced pointPrice
+  scan-price p g = rw (scan-one g) (omega arith)
+
   near-price : (p : PriceCard) (g x y : ℕ) → priced p (andAlso (scanNear fresh g) x y) ≡ pointPrice p ends (blockOf s g) + p .rr * x + p .«rw» * y
   unfolding scanNear scanCounts readsOf priced pointPrice
-  near-price p g x y =
-      let e : blocksScanned fresh (home g) (home g) - 1 ≡ before ends (blockOf s g) + after ends (blockOf s g) = scan-two g g (omega arith) ∙ omega arith in
-      rw e (omega arith)
-
-  scan-price : (p : PriceCard) (g : ℕ) → priced p (scanNear fresh g) ≡ pointPrice p ends (blockOf s g)
-  unfolding scanNear scanCounts readsOf
-  scan-price p g = near-price p g 0 0 ∙ omega arith
+  near-price p g x y = rw (scan-one g) (omega arith)
 
   onward-is : (g : ℕ) → onward fresh (home g) ≡ trailing ends (blockOf s g)
   unfolding trailing directoryFor
@@ -96,13 +97,13 @@ module _ (L : ℕ) (s : Set) (h : SetPasses L s) (ends : List ℕ) (t : T (layou
     unfolding raises plus minus sumOf callCounts
     find-balanced g = rw (find-report L s h ends t g, scan-price p g) (omega arith)
 
-    range-sum : (a b n : ℕ) → n + 1 ≡ b - a → (x : ℕ) → x ≡ before ends a + after ends b + (b - a) → a < b
-        → p .rr + p .sr * before ends a + (p .sr * (1 + after ends b) + (n * p .sr)) ≡ p .rr * 1 + p .sr * x + p .«rw» * 0 + 0
-    range-sum a b n k x e w = rw (e, ← k) (omega arith)
+    range-sum : (a b n : ℕ) → n + 1 ≡ b - a → a < b
+        → p .rr + p .sr * before ends a + (p .sr * (1 + after ends b) + (n * p .sr)) ≡ p .rr * 1 + p .sr * (before ends a + after ends b + (b - a)) + p .«rw» * 0 + 0
+    range-sum a b n k w = rw (← k) (omega arith)
 
     range-balanced : (lo hi : ℕ) → lo ≤ hi → Balanced (range lo hi)
     unfolding raises rangeRaises callCounts scanCounts readsOf priced plus minus sumOf pointPrice
-    range-balanced lo hi k = rw (range-report L s h ends t lo hi k) (go (eqb (blockOf s lo) (blockOf s hi)) refl)
+    range-balanced lo hi k = rw (range-report L s h ends t lo hi k, scan-two lo hi k) (go (eqb (blockOf s lo) (blockOf s hi)) refl)
       where
         a : ℕ
         a = blockOf s lo
@@ -111,7 +112,7 @@ module _ (L : ℕ) (s : Set) (h : SetPasses L s) (ends : List ℕ) (t : T (layou
         b = blockOf s hi
 
         x : ℕ
-        x = blocksScanned fresh (home lo) (home hi) - 1
+        x = before ends a + after ends b + (b - a)
 
         entries : Bool → List Entry
         entries v = cond v (at pq a ∷ []) (at rs a ∷ at re b ∷ map (at sc) (upFrom (a + 1) (b - (a + 1))))
@@ -119,12 +120,12 @@ module _ (L : ℕ) (s : Set) (h : SetPasses L s) (ends : List ℕ) (t : T (layou
         go : (v : Bool) → eqb (blockOf s lo) (blockOf s hi) ≡ v → load (plus p ends) (entries v) ≡ p .rr * 1 + p .sr * x + p .«rw» * 0 + load (minus p ends) (entries v)
         go true e =
             let q : a ≡ b = eqb→eq a b (of-true (eqb a b) e) in
-            let w : x ≡ before ends a + after ends a = scan-two lo hi k ∙ rw (← q) (omega arith) in
+            let w : x ≡ before ends a + after ends a = rw (← q) (omega arith) in
             rw w (omega arith)
         go false e =
             let w : a < b = omega (arith, block-mono L s o lo hi k, eqb-no a b e) in
             rw (sc-plus p ends (a + 1) (b - (a + 1)), sc-minus p ends (a + 1) (b - (a + 1)))
-            (range-sum a b (b - (a + 1)) (omega arith) x (scan-two lo hi k) w)
+            (range-sum a b (b - (a + 1)) (omega arith) w)
 
     insert-balanced : (d : Delivery) → T (inRange d) → s .used < length (s .growers) → Balanced (insert d)
     unfolding raises plus minus sumOf callCounts priced

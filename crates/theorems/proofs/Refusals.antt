@@ -9,8 +9,7 @@ use Rattle.model.specs.declared.Delivery.{Delivery}
 use Rattle.model.specs.Checks.{firstFailed}
 use Rattle.model.specs.Deliveries.{among}
 use Rattle.model.specs.Calls.{Call, find, range, insert, delete, move}
-use Rattle.model.specs.Column.{Column, hasFreeSlot, isHeld}
-use Rattle.model.specs.Snapshot.{allRecords}
+use Rattle.model.specs.Column.{Column, allRecords, hasFreeSlot, isHeld}
 use Rattle.model.specs.Questions.{callChecks, columnChecks, ledgerChecks}
 use Rattle.model.specs.ColumnCalls.{columnRefusal}
 use Rattle.theorems.proofs.Bags.{bag-length}

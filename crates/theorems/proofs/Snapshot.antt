@@ -6,7 +6,7 @@ use mathlib.Core.Bool.{not}
 use mathlib.Core.Option.{Option, none, some}
 use mathlib.Core.List.{List, [], _++_, map}
 use native.Mathlib.Omega.{arith}
-use lib.Dec.{T, leb, eqb, leb→le, le→leb}
+use lib.Dec.{T, eqb, leb→le, le→leb}
 use lib.ListN.{length, take, drop, length-append, length-map, length-drop, take-append-drop}
 use lib.Seq.{take-at, length-take-le}
 use Rattle.model.specs.declared.Delivery.{Delivery}
@@ -16,13 +16,14 @@ use Rattle.model.specs.Checks.{firstFailed}
 use Rattle.model.specs.Deliveries.{growerOf, weightOf, yieldOf, inRange}
 use Rattle.model.specs.Blocks.{blockLengthOk, slicesOk}
 use Rattle.model.specs.Directory.{Directory, directorySize, partitionCount, directoryOf, directoryNumbers, directoryBlockOk}
-use Rattle.model.specs.Column.{Column, slots, lengthsOf, fencesOf, soundGrowers, sound}
-use Rattle.model.specs.Snapshot.{Book, bookText, bookIn, snapshotText, allRecords, readBook, isBook, slotsForBook}
+use Rattle.model.specs.Column.{Column, slots, lengthsOf, fencesOf, soundGrowers, allRecords, sound}
+use Rattle.model.specs.Snapshot.{Book, bookText, bookIn, snapshotText, readBook, isBook, slotsForBook}
 use Rattle.model.specs.Questions.{readChecks}
 use Rattle.model.specs.SnapshotCalls.{WriteResult, writeCall, readCall, columnRead}
 use Rattle.model.proofs.Tests.{eq→eqb, is-true, yes-first, first-passed, or-snd}
 use Rattle.model.proofs.ListLaws.{map-take, every-front, every-back}
 use Rattle.model.proofs.MovesRows.{Columns, rows-columns}
+use Rattle.model.proofs.Parts.{flatten-parts}
 use Rattle.model.proofs.DirectoryLaws.{Fits, Shaped, shaped, shaped-passes, numbers-shaped, directory-again, length-lengths, length-fences}
 use Rattle.model.proofs.LineLaws.{Fit, fitsField}
 use Rattle.model.proofs.BookLaws.{Good, room-for, text-read, read-text}
@@ -55,7 +56,7 @@ module _ (L : ℕ) where
 
     -- the numbers of the records are those of the used slots
     numbers-used : (f : Delivery → ℕ) (s : List ℕ) → s ≡ map f (slots c) → map f (allRecords L c) ≡ take m s
-    numbers-used f s e = map-take f m (slots c) ∙ ap (take m) (sym e)
+    numbers-used f s e = ap (map f) (flatten-parts (lengthsOf L c) (slots c)) ∙ map-take f m (slots c) ∙ ap (take m) (sym e)
 
     growers-used : map growerOf (allRecords L c) ≡ take m (c .growers)
     growers-used = numbers-used growerOf (c .growers) (cols .growers)
@@ -167,7 +168,8 @@ module _ (L : ℕ) where
 
     records-in : allRecords L (columnIn b gs ws ys) ≡ b .deliveries
     records-in =
-        ap (λ (d : Directory). take (sumOf (d .lengths)) (slots (columnIn b gs ws ys))) there
+        flatten-parts (lengthsOf L (columnIn b gs ws ys)) (slots (columnIn b gs ws ys))
+        ∙ ap (λ (d : Directory). take (sumOf (d .lengths)) (slots (columnIn b gs ws ys))) there
         ∙ ap (take (sumOf (b .directory .lengths))) (rows-joined (b .deliveries) (drop (length (b .deliveries)) gs) (drop (length (b .deliveries)) ws) (drop (length (b .deliveries)) ys))
         ∙ take-at (b .deliveries) _ (sumOf (b .directory .lengths)) (sym (g .total))
 

@@ -14,8 +14,7 @@ use Rattle.model.specs.Deliveries.{inRange, same, among, matches}
 use Rattle.model.specs.Blocks.{slotsOk, slicesOk}
 use Rattle.model.specs.Partitions.{parts, part, between, startOf}
 use Rattle.model.specs.Directory.{partitionCount, directoryBlockOk, directoryOk}
-use Rattle.model.specs.Column.{Column, slots, inPlace, soundGrowers, lengthsOf, fencesOf, target, recordsOf, recordsNear, sound, scannedOk, hasFreeSlot, isHeld}
-use Rattle.model.specs.Snapshot.{allRecords}
+use Rattle.model.specs.Column.{Column, slots, inPlace, soundGrowers, lengthsOf, fencesOf, target, recordsOf, recordsNear, allRecords, sound, scannedOk, hasFreeSlot, isHeld}
 use Rattle.model.specs.Questions.{lentChecks}
 use Rattle.model.specs.Laws.{Even}
 use Rattle.model.proofs.Tests.{and-fst, and-snd, and-mk, is-true, yes-first, first-passed}
@@ -80,10 +79,7 @@ module _ (L : ℕ) where
     room = rw length-slots (v .shape .room)
 
     pub length-records : length (allRecords L c) ≡ sumOf (lengthsOf L c)
-    length-records = length-take-le (sumOf (lengthsOf L c)) (slots c) room
-
-    pub records-are : flatten (parts (lengthsOf L c) (slots c)) ≡ allRecords L c
-    records-are = flatten-parts (lengthsOf L c) (slots c)
+    length-records = ap length (flatten-parts (lengthsOf L c) (slots c)) ∙ length-take-le (sumOf (lengthsOf L c)) (slots c) room
 
     -- every record is in its grower's partition: the growers alone, and the records
     pub sound-growers : Sound (λ (p g : ℕ). T (inPlace (fencesOf L c) p g)) 0 (parts (lengthsOf L c) (c .growers))
@@ -102,7 +98,7 @@ module _ (L : ℕ) where
     pub scan-finds : (lo hi : ℕ) → keep (matches lo hi) (recordsOf L c (target L c lo) (target L c hi)) ≡ keep (matches lo hi) (allRecords L c)
     unfolding between
     scan-finds lo hi =
-        kept-scan _ (matches lo hi) (target L c lo) (target L c hi) (parts (lengthsOf L c) (slots c)) sound-slots only ∙ ap (keep (matches lo hi)) records-are
+        kept-scan _ (matches lo hi) (target L c lo) (target L c hi) (parts (lengthsOf L c) (slots c)) sound-slots only
       where
         only : (j : ℕ) (d : Delivery) → T (inPlace (fencesOf L c) j (d .grower)) → T (matches lo hi d) → (target L c lo ≤ j) × (j ≤ target L c hi)
         only j d h t =
@@ -137,7 +133,8 @@ module _ (L : ℕ) where
         let rest = drop p ns in
         is-true (every inRange (between ns p q (slots c)))
         (rw (between-is ns p q (slots c))
-        (every-part inRange (sumOf (take p ns)) (sumOf (take (q + 1 - p) rest)) (sumOf ns) (slots c) (omega (arith, sum-cut p ns, sum-take-le rest (q + 1 - p))) (v .values)))
+        (every-part inRange (sumOf (take p ns)) (sumOf (take (q + 1 - p) rest)) (sumOf ns) (slots c) (omega (arith, sum-cut p ns, sum-take-le rest (q + 1 - p)))
+        (subst (λ (l : List Delivery). T (every inRange l)) (flatten-parts ns (slots c)) (v .values))))
 
     -- check 12: as many slots are used as there are records
     pub free-slot-is : hasFreeSlot L c ≡ ltb (length (allRecords L c)) (length (c .growers))

@@ -12,8 +12,7 @@ use Rattle.model.specs.Checks.{firstFailed}
 use Rattle.model.specs.Deliveries.{inRange}
 use Rattle.model.specs.Blocks.{Set, held}
 use Rattle.model.specs.Calls.{Call}
-use Rattle.model.specs.Column.{Column, sound}
-use Rattle.model.specs.Snapshot.{allRecords}
+use Rattle.model.specs.Column.{Column, allRecords, sound}
 use Rattle.model.specs.Questions.{lentChecks}
 use Rattle.model.specs.ColumnCalls.{Called, applyCall, laidColumn, columnCalls}
 use Rattle.model.specs.Ledger.{Entered, ledgerCalls}

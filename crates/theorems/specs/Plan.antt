@@ -1,7 +1,8 @@
 -- Demand 3, one theorem about a whole list of calls; proofs/Demand3.antt proves it.
 -- "For every list of the five calls, recorded from zeros, refused ones included: the planner refuses by 11 exactly when no layout
--- is permitted; otherwise its layout is permitted and no permitted layout has a smaller bill; and with a free slot, each permitted
--- layout's bill is the sum, over the accepted calls, of the priced counts each reports when made alone on the column freshly laid by it."
+-- is permitted; otherwise, given room for its output (15), its layout is permitted and no permitted layout has a smaller bill; and
+-- with a free slot, each permitted layout's bill is the sum, over the accepted calls, of the priced counts each reports when made
+-- alone on the column freshly laid by it."
 use Prim.Native.Nat.{ℕ, _≤_, _<_}
 use mathlib.Core.Path.{_≡_}
 use mathlib.Core.Logic.{_↔_, _≢_}
@@ -23,7 +24,7 @@ use Rattle.model.specs.Layouts.{permitted}
 use Rattle.model.specs.Cost.{costOf}
 use Rattle.model.specs.Questions.{setChecks}
 use Rattle.model.specs.Recorder.{recordedFromZeros, acceptedFromZeros}
-use Rattle.model.specs.Planner.{PlanResult, costCall, planCall}
+use Rattle.model.specs.Planner.{PlanResult, costCall, plannedEnds, planCall}
 use Rattle.model.specs.ColumnCalls.{applyCall, reportAlone}
 
 -- the checks that the planner puts ahead of 11 are answered by yes: 1 2 3 4 5 8. Its 9 is not assumed: see `counted`.
@@ -52,8 +53,13 @@ module _ (calls : List Call) (L : ℕ) (p : PriceCard) (l : Limits) (s : Set) wh
   abbrev pub planned : List ℕ → PlanResult
   planned out = planCall L p l s recorded out
 
-  -- an answer that is the best: permitted, billed at its own cost, and none costs less
+  -- the planner's "output": the ends for which there is to be room
+  abbrev pub output : List ℕ
+  output = plannedEnds L p l s recorded
+
+  -- an answer that is the best: the whole output, permitted, billed at its own cost, and none costs less
   pub record IsBest (r : PlanResult) : Type 0 where
+    pub whole : layoutOf r ≡ output
     pub allowed : T (permitted p l s (layoutOf r))
     pub billed : r .answer .cost ≡ cost (layoutOf r)
     pub least : (ends : List ℕ) → T (permitted p l s ends) → cost (layoutOf r) ≤ℤ cost ends
@@ -63,8 +69,10 @@ module _ (calls : List Call) (L : ℕ) (p : PriceCard) (l : Limits) (s : Set) wh
     pub counted : T (countsOk L recorded)
     -- "the planner refuses by 11 exactly when no layout is permitted"
     pub refuses : (out : List ℕ) → (planned out .answer .refusal ≡ 11) ↔ ((ends : List ℕ) → T (permitted p l s ends) → ⊥)
-    -- "otherwise its layout is permitted and no permitted layout has a smaller bill"; a slice of as many ends as there are blocks is never too short
-    pub answers : (out : List ℕ) → planned out .answer .refusal ≢ 11 → blocks s ≤ length out → planned out .answer .refusal ≡ 0
+    -- "given room for its output (15)": it refuses by 15 exactly when a layout is permitted and the slice is shorter than the output
+    pub short : (out : List ℕ) → (planned out .answer .refusal ≡ 15) ↔ (((ends : List ℕ) × T (permitted p l s ends)) × (length out < length output))
+    -- "otherwise, given room for its output (15), its layout is permitted and no permitted layout has a smaller bill"
+    pub answers : (out : List ℕ) → planned out .answer .refusal ≢ 11 → length output ≤ length out → planned out .answer .refusal ≡ 0
     pub best : (out : List ℕ) → planned out .answer .refusal ≡ 0 → IsBest (planned out)
     -- the calls that bill and lay a layout accept each permitted one, so that its bill is its cost and its column is freshly laid
     pub bills : (ends : List ℕ) → T (permitted p l s ends) → costCall L p s ends recorded ≡ record { refusal = 0; cost = cost ends }

@@ -7,9 +7,8 @@ use borrow.Author.Tests.{not-true, not-false}
 use lib.Seq.{length-take-le}
 use Rattle.model.specs.Lists.{sumOf, every}
 use Rattle.model.specs.Deliveries.{inRange}
-use Rattle.model.specs.Column.{Column, lengthsOf, sound}
+use Rattle.model.specs.Column.{Column, lengthsOf, allRecords, sound}
 use Rattle.model.specs.Questions.{lentChecks}
-use Rattle.model.specs.Snapshot.{allRecords}
 use Rattle.checks.specs.Lent.{columnOf}
 use Rattle.checks.proofs.Answers.{Carried, shape-refusal, carried}
 use Rattle.snapshot.proofs.WriteAnswers.{Lent, lent-is, asked, check-lent, sound-is, values-there, check-sound, check-values, check-room, check-passed}
