@@ -1,3 +1,2 @@
--- What each part of a recorder call shows.
-pub mod Slots
+-- What a recorder call answers.
 pub mod Recording

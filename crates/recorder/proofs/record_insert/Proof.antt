@@ -1,78 +1,74 @@
--- `recorder::record_insert` meets its contract. Assumes nothing.
-use mathlib.Core.Path.{sym, ap, _∙_}
+-- `recorder::record_insert` meets its contract: the checks answer ahead of 10, and then the raised slots do. Assumes nothing.
 use native.Mathlib.Omega.{arith}
+use mathlib.Core.List.{List, map}
 use borrow.Author.Needs.{needs}
+use mathlib.Core.Path.{_≡_, sym, ap, _∙_}
 use mathlib.Core.Bool.{Bool, true}
+use Prim.Native.Nat.{ℕ, _<_}
+use Rattle.model.specs.Bounds.{blockLimit}
+use Rattle.model.specs.Histograms.{slot, raises}
+use Rattle.histograms.specs.Raising.{raisedAt}
+use Rattle.model.specs.Recorder.{recordCall}
+use Rattle.model.specs.Blocks.{Set}
+use Rattle.model.specs.Calls.{Call, insert, ordered, offeredOk}
+use Rattle.model.specs.Lent.{setOf}
 use Rattle.model.specs.Checks.{firstFailed}
-use Rattle.model.specs.Calls.{insert, ordered, offeredOk}
-use Rattle.checks.specs.Lent.{setOf}
-use Rattle.recorder.specs.Raising.{openingChecks}
-use Rattle.recorder.proofs.Recording.{opened, block-below, record-refused, record-raised, insert-slots}
+use Rattle.sets.specs.Sized.{countedChecks}
+use Rattle.recorder.proofs.Recording.{Admitted, admitted, block-below, record-refused, record-raised, insert-slots}
 use Rattle.recorder.proofs.record_insert.Statement.{statement}
 use Rattle.recorder.proofs.record_insert.Tie as tie
+
+abbrev the-set : tie.Start → Set
+the-set c = let a = c .args in setOf (a .block) (a .used) (a .growers .now) (a .weights .now) (a .yields .now)
+
+abbrev counts : tie.Start → List ℕ
+counts c = c .args .histograms .now
+
+abbrev the-call : tie.Start → Call
+the-call c = insert (c .args .d)
+
+-- the checks ahead of 10
+checked : (c : tie.After-counted-refusal)
+    → (let s = c .before .before .before .before .before .before .before in c .counted-refusal .result ≡ firstFailed (countedChecks blockLimit (the-set s) (counts s) (ordered (the-call s)) (offeredOk (the-call s))))
+unfolding ordered offeredOk
+checked c = c .counted-refusal .ensures ∙ ap (λ (t : Bool). firstFailed (countedChecks blockLimit (the-set (c .before .before .before .before .before .before .before)) (counts (c .before .before .before .before .before .before .before)) true t)) (c .before .before .in-range .ensures)
+
+-- past them, what they say, and that the call answers as its raised slots do
+passed : (c : tie.Else1) → (let s = c .before .before .before .before .before .before .before .before in Admitted blockLimit (the-set s) (counts s) (ordered (the-call s)))
+passed c = admitted blockLimit _ _ _ _ (sym (checked (c .before)) ∙ c .if1 .left)
+
+answers : (c : tie.Else1) (ks : List ℕ)
+    → (let s = c .before .before .before .before .before .before .before .before in map (slot blockLimit) (raises (the-set s) (the-call s)) ≡ ks → raisedAt (counts s) ks ≡ recordCall blockLimit (the-set s) (counts s) (the-call s))
+answers c ks e = let s = c .before .before .before .before .before .before .before .before in record-raised blockLimit (the-set s) (counts s) (the-call s) _ ks (checked (c .before)) (c .if1 .left) e
+
+in-limit : (c : tie.After-block-of) → c .block-of .result < blockLimit
+in-limit c =
+    let s = c .before .before .before .before .before .before .before .before .before in
+    omega (arith, block-below blockLimit _ (counts s) (passed (c .before) .whole-set) (s .args .d .grower), c .block-of .ensures (s .args .weights .now) (s .args .yields .now))
 
 in-range-requires : tie.Need-in-range-requires
 in-range-requires c κs = search needs
 
-opening-requires : tie.Need-opening-requires
-opening-requires c κs = search needs
+counted-refusal-requires : tie.Need-counted-refusal-requires
+counted-refusal-requires c κs = search needs
 
 same-length : tie.Need-same-length
 same-length c = search needs
 
 returns : tie.Need-returns
-unfolding ordered offeredOk
-returns c =
-    let g = c .before .before .before .before .before .before .before .before .args in
-    let s = setOf (g .block) (g .used) (g .growers .now) (g .weights .now) (g .yields .now) in
-    let hs = g .histograms .now in
-    record-refused s hs (insert (g .d)) _ (c .before .opening .ensures ∙ ap (λ (t : Bool). firstFailed (openingChecks s hs true t)) (c .before .before .before .in-range .ensures)) (c .if1 .taken)
+returns c = let s = c .before .before .before .before .before .before .before .before in record-refused blockLimit (the-set s) (counts s) (the-call s) _ (checked (c .before)) (c .if1 .taken)
 
 block-of-requires : tie.Need-block-of-requires
-block-of-requires c κs =
-    let g = c .before .before .before .before .before .before .before .before .args in
-    let s = setOf (g .block) (g .used) (g .growers .now) (g .weights .now) (g .yields .now) in
-    let hs = g .histograms .now in
-    let o = opened s hs _ _ (sym (c .before .opening .ensures) ∙ c .if1 .left) in
-    o .whole-set .sized
-
-add-raise-one : tie.Need-add-raise-one
-add-raise-one c =
-    let g = c .before .before .before .before .before .before .before .before .before .before .args in
-    let s = setOf (g .block) (g .used) (g .growers .now) (g .weights .now) (g .yields .now) in
-    let hs = g .histograms .now in
-    let o = opened s hs _ _ (sym (c .before .before .before .opening .ensures) ∙ c .before .before .if1 .left) in
-    omega (arith, block-below s hs (o .whole-set) (g .d .grower), c .before .block-of .ensures (g .weights .now) (g .yields .now))
+block-of-requires c κs = passed c .whole-set .sized
 
 raise-one-requires : tie.Need-raise-one-requires
-raise-one-requires c κs =
-    let g = c .before .before .before .before .before .before .before .before .before .before .args in
-    let s = setOf (g .block) (g .used) (g .growers .now) (g .weights .now) (g .yields .now) in
-    let hs = g .histograms .now in
-    let o = opened s hs _ _ (sym (c .before .before .before .opening .ensures) ∙ c .before .before .if1 .left) in
-    omega (arith, o .long, block-below s hs (o .whole-set) (g .d .grower), c .before .block-of .ensures (g .weights .now) (g .yields .now))
+raise-one-requires c κs = (omega arith, in-limit (c .before), passed (c .before .before) .long)
 
 same-length-2 : tie.Need-same-length-2
 same-length-2 c = search needs
 
 returns-2 : tie.Need-returns-2
-unfolding ordered offeredOk
-returns-2 c =
-    let g = c .before .before .before .before .before .before .before .before .before .before .before .before .before .args in
-    let s = setOf (g .block) (g .used) (g .growers .now) (g .weights .now) (g .yields .now) in
-    let hs = g .histograms .now in
-    c .before .before .raise-one .ensures ∙ record-raised s hs (insert (g .d)) _ _ (c .before .before .before .before .before .before .opening .ensures ∙ ap (λ (t : Bool). firstFailed (openingChecks s hs true t)) (c .before .before .before .before .before .before .before .before .in-range .ensures)) (c .before .before .before .before .before .if1 .left) (insert-slots s _ _ (c .before .before .before .before .block-of .ensures (g .weights .now) (g .yields .now)))
+returns-2 c = c .before .before .raise-one .ensures ∙ answers (c .before .before .before .before .before) _ (insert-slots blockLimit _ _ _ (c .before .before .before .before .block-of .ensures _ _))
 
 pub record-insert-spec : {M : Type 1} → statement M
-record-insert-spec =
-    tie.close
-    (tie.spec
-    in-range-requires
-    opening-requires
-    same-length
-    returns
-    block-of-requires
-    add-raise-one
-    raise-one-requires
-    same-length-2
-    returns-2)
+record-insert-spec = tie.close (tie.spec in-range-requires counted-refusal-requires same-length returns block-of-requires raise-one-requires same-length-2 returns-2)

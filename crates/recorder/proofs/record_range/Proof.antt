@@ -1,98 +1,91 @@
--- `recorder::record_range` meets its contract. Assumes nothing.
-use mathlib.Core.Path.{sym, _∙_}
+-- `recorder::record_range` meets its contract: the checks answer ahead of 10, and then the raised slots do. Assumes nothing.
 use native.Mathlib.Omega.{arith}
+use mathlib.Core.List.{List, map}
 use borrow.Author.Needs.{needs}
 use lib.Dec.{leb→le}
-use Rattle.model.specs.Calls.{range, ordered, offeredOk}
-use Rattle.checks.specs.Lent.{setOf}
-use Rattle.recorder.proofs.Recording.{opened, block-below, blocks-rise, record-refused, record-raised, range-one, range-span}
+use mathlib.Core.Path.{_≡_, sym, _∙_}
+use Prim.Native.Nat.{ℕ, _<_}
+use Rattle.model.specs.Bounds.{blockLimit}
+use Rattle.model.specs.Histograms.{slot, raises}
+use Rattle.histograms.specs.Raising.{raisedAt}
+use Rattle.model.specs.Recorder.{recordCall}
+use Rattle.model.specs.Calls.{Call, range, ordered, offeredOk}
+use Rattle.model.specs.Blocks.{Set}
+use Rattle.model.specs.Lent.{setOf}
+use Rattle.model.specs.Checks.{firstFailed}
+use Rattle.sets.specs.Sized.{countedChecks}
+use Rattle.recorder.proofs.Recording.{Admitted, admitted, block-below, record-refused, record-raised, blocks-rise, range-one, range-span}
 use Rattle.recorder.proofs.record_range.Statement.{statement}
 use Rattle.recorder.proofs.record_range.Tie as tie
 
-opening-requires : tie.Need-opening-requires
-opening-requires c κs = search needs
+abbrev the-set : tie.Start → Set
+the-set c = let a = c .args in setOf (a .block) (a .used) (a .growers .now) (a .weights .now) (a .yields .now)
+
+abbrev counts : tie.Start → List ℕ
+counts c = c .args .histograms .now
+
+abbrev the-call : tie.Start → Call
+the-call c = range (c .args .lo) (c .args .hi)
+
+-- the checks ahead of 10
+checked : (c : tie.After-counted-refusal)
+    → (let s = c .before .before .before .before .before .before in c .counted-refusal .result ≡ firstFailed (countedChecks blockLimit (the-set s) (counts s) (ordered (the-call s)) (offeredOk (the-call s))))
+unfolding ordered offeredOk
+checked c = c .counted-refusal .ensures
+
+-- past them, what they say, and that the call answers as its raised slots do
+passed : (c : tie.Else1) → (let s = c .before .before .before .before .before .before .before in Admitted blockLimit (the-set s) (counts s) (ordered (the-call s)))
+passed c = admitted blockLimit _ _ _ _ (sym (checked (c .before)) ∙ c .if1 .left)
+
+answers : (c : tie.Else1) (ks : List ℕ)
+    → (let s = c .before .before .before .before .before .before .before in map (slot blockLimit) (raises (the-set s) (the-call s)) ≡ ks → raisedAt (counts s) ks ≡ recordCall blockLimit (the-set s) (counts s) (the-call s))
+answers c ks e = let s = c .before .before .before .before .before .before .before in record-raised blockLimit (the-set s) (counts s) (the-call s) _ ks (checked (c .before)) (c .if1 .left) e
+
+in-limit : (c : tie.After-block-of) → c .block-of .result < blockLimit
+in-limit c =
+    let s = c .before .before .before .before .before .before .before .before in
+    omega (arith, block-below blockLimit _ (counts s) (passed (c .before) .whole-set) (s .args .lo), c .block-of .ensures (s .args .weights .now) (s .args .yields .now))
+
+counted-refusal-requires : tie.Need-counted-refusal-requires
+counted-refusal-requires c κs = search needs
 
 same-length : tie.Need-same-length
 same-length c = search needs
 
 returns : tie.Need-returns
-unfolding ordered offeredOk
-returns c =
-    let g = c .before .before .before .before .before .before .before .args in
-    let s = setOf (g .block) (g .used) (g .growers .now) (g .weights .now) (g .yields .now) in
-    let hs = g .histograms .now in
-    record-refused s hs (range (g .lo) (g .hi)) _ (c .before .opening .ensures) (c .if1 .taken)
+returns c = let s = c .before .before .before .before .before .before .before in record-refused blockLimit (the-set s) (counts s) (the-call s) _ (checked (c .before)) (c .if1 .taken)
 
 block-of-requires : tie.Need-block-of-requires
-block-of-requires c κs =
-    let g = c .before .before .before .before .before .before .before .args in
-    let s = setOf (g .block) (g .used) (g .growers .now) (g .weights .now) (g .yields .now) in
-    let hs = g .histograms .now in
-    let o = opened s hs _ _ (sym (c .before .opening .ensures) ∙ c .if1 .left) in
-    o .whole-set .sized
+block-of-requires c κs = passed c .whole-set .sized
 
 block-of-requires-2 : tie.Need-block-of-requires-2
-block-of-requires-2 c κs =
-    let g = c .before .before .before .before .before .before .before .before .args in
-    let s = setOf (g .block) (g .used) (g .growers .now) (g .weights .now) (g .yields .now) in
-    let hs = g .histograms .now in
-    let o = opened s hs _ _ (sym (c .before .before .opening .ensures) ∙ c .before .if1 .left) in
-    o .whole-set .sized
+block-of-requires-2 c κs = passed (c .before) .whole-set .sized
 
 raise-one-requires : tie.Need-raise-one-requires
-raise-one-requires c κs =
-    let g = c .before .before .before .before .before .before .before .before .before .before .before .args in
-    let s = setOf (g .block) (g .used) (g .growers .now) (g .weights .now) (g .yields .now) in
-    let hs = g .histograms .now in
-    let o = opened s hs _ _ (sym (c .before .before .before .before .before .opening .ensures) ∙ c .before .before .before .before .if1 .left) in
-    omega (arith, o .long, block-below s hs (o .whole-set) (g .lo), c .before .before .before .block-of .ensures (g .weights .now) (g .yields .now))
+raise-one-requires c κs = (omega arith, in-limit (c .before .before .before), passed (c .before .before .before .before) .long)
 
 same-length-2 : tie.Need-same-length-2
 same-length-2 c = search needs
 
 returns-2 : tie.Need-returns-2
-unfolding ordered offeredOk
-returns-2 c =
-    let g = c .before .before .before .before .before .before .before .before .before .before .before .before .before .before .args in
-    let s = setOf (g .block) (g .used) (g .growers .now) (g .weights .now) (g .yields .now) in
-    let hs = g .histograms .now in
-    c .before .before .raise-one .ensures ∙ record-raised s hs (range (g .lo) (g .hi)) _ _ (c .before .before .before .before .before .before .before .before .opening .ensures) (c .before .before .before .before .before .before .before .if1 .left) (range-one s _ _ _ _ (c .before .before .before .before .before .before .block-of .ensures (g .weights .now) (g .yields .now)) (c .before .before .before .before .before .block-of2 .ensures (g .weights .now) (g .yields .now)) (c .before .before .before .before .if2 .taken))
+returns-2 c = c .before .before .raise-one .ensures ∙ answers (c .before .before .before .before .before .before .before) _ (range-one blockLimit _ _ _ _ _ (c .before .before .before .before .before .before .block-of .ensures _ _) (c .before .before .before .before .before .block-of2 .ensures _ _) (c .before .before .before .before .if2 .taken))
 
 raise-span-requires : tie.Need-raise-span-requires
+unfolding ordered
 raise-span-requires c κs =
     let g = c .before .before .before .before .before .before .before .before .before .before .before .args in
-    let s = setOf (g .block) (g .used) (g .growers .now) (g .weights .now) (g .yields .now) in
-    let hs = g .histograms .now in
-    let o = opened s hs _ _ (sym (c .before .before .before .before .before .opening .ensures) ∙ c .before .before .before .before .if1 .left) in
-    let r = blocks-rise s hs (o .whole-set) (g .lo) (g .hi) (leb→le (g .lo) (g .hi) (o .in-order)) in
+    let o = passed (c .before .before .before .before) in
+    let r = blocks-rise blockLimit _ (counts (c .before .before .before .before .before .before .before .before .before .before .before)) (o .whole-set) (g .lo) (g .hi) (leb→le (g .lo) (g .hi) (o .in-order)) in
     let p = c .before .before .before .block-of .ensures (g .weights .now) (g .yields .now) in
     let q = c .before .before .block-of2 .ensures (g .weights .now) (g .yields .now) in
     let n = c .before .if2 .left in
-    (omega (arith, n), omega (arith, block-below s hs (o .whole-set) (g .hi)), o .long)
+    (omega (arith, n), omega (arith, block-below blockLimit _ (counts (c .before .before .before .before .before .before .before .before .before .before .before)) (o .whole-set) (g .hi)), o .long)
 
 same-length-3 : tie.Need-same-length-3
 same-length-3 c = search needs
 
 returns-3 : tie.Need-returns-3
-unfolding ordered offeredOk
-returns-3 c =
-    let g = c .before .before .before .before .before .before .before .before .before .before .before .before .before .before .args in
-    let s = setOf (g .block) (g .used) (g .growers .now) (g .weights .now) (g .yields .now) in
-    let hs = g .histograms .now in
-    c .before .before .raise-span .ensures ∙ record-raised s hs (range (g .lo) (g .hi)) _ _ (c .before .before .before .before .before .before .before .before .opening .ensures) (c .before .before .before .before .before .before .before .if1 .left) (range-span s _ _ _ _ (c .before .before .before .before .before .before .block-of .ensures (g .weights .now) (g .yields .now)) (c .before .before .before .before .before .block-of2 .ensures (g .weights .now) (g .yields .now)) (c .before .before .before .before .if2 .left))
+returns-3 c = c .before .before .raise-span .ensures ∙ answers (c .before .before .before .before .before .before .before) _ (range-span blockLimit _ _ _ _ _ (c .before .before .before .before .before .before .block-of .ensures _ _) (c .before .before .before .before .before .block-of2 .ensures _ _) (c .before .before .before .before .if2 .left))
 
 pub record-range-spec : {M : Type 1} → statement M
-record-range-spec =
-    tie.close
-    (tie.spec
-    opening-requires
-    same-length
-    returns
-    block-of-requires
-    block-of-requires-2
-    raise-one-requires
-    same-length-2
-    returns-2
-    raise-span-requires
-    same-length-3
-    returns-3)
+record-range-spec = tie.close (tie.spec counted-refusal-requires same-length returns block-of-requires block-of-requires-2 raise-one-requires same-length-2 returns-2 raise-span-requires same-length-3 returns-3)

@@ -1,2 +1,0 @@
--- What the parts of a recorder call answer.
-pub mod Raising
