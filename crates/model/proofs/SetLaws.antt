@@ -6,20 +6,50 @@ use mathlib.Core.List.{List, [], _∷_, _++_, map}
 use native.Mathlib.Omega.{arith}
 use native.Mathlib.Decide.{ℕ-discrete}
 use native.Mathlib.Nat.{mul-le-mul-right}
-use lib.Dec.{T, leb, eqb, leb→le, eqb→eq}
+use lib.Dec.{T, leb, eqb, leb→le, le→leb, eqb→eq}
 use lib.ListN.{length, getD, take, length-map}
 use lib.Seq.{length-take-le, getD-take}
+use Rattle.model.specs.Bounds.{mostSlots, mostBlockLength}
 use Rattle.model.specs.Lists.{upFrom, every, neverFalls}
 use Rattle.model.specs.Checks.{ask, firstFailed}
 use Rattle.model.specs.Place.{place}
 use Rattle.model.specs.Deliveries.{inRange}
 use Rattle.model.specs.Blocks.{Set, held, blocks, blockStop, lastGrower, blockOf, blockLengthOk, slotsOk, slicesOk, usedOk, growersOk, valuesOk}
+use Rattle.model.specs.Lent.{Even}
 use Rattle.model.specs.Layouts.{endOf, firstOf}
 use Rattle.model.specs.Questions.{setChecks}
-use Rattle.model.proofs.Tests.{and-fst, and-snd, yes-first}
+use Rattle.model.proofs.Tests.{and-fst, and-snd, and-mk, eq→eqb, yes-first}
 use Rattle.model.proofs.ListLaws.{at-map, at-upFrom, length-upFrom, sorted, ceil-least, ceil-most, ceil-some, ceil-within}
 use Rattle.model.proofs.Places.{Placed, placed, placed-only, placed-mono}
 use Rattle.model.proofs.LayoutLaws.{cut-count, cut-last, cut-early, Laid}
+
+-- Check 3, taken apart.
+
+pub record Sliced (gs ws ys : List ℕ) : Type 0 where
+  pub even : Even gs ws ys
+  pub one : 1 ≤ length gs
+  pub most : length gs ≤ mostSlots
+
+pub sliced : (gs ws ys : List ℕ) → T (slicesOk gs ws ys) → Sliced gs ws ys
+unfolding slicesOk slotsOk
+sliced gs ws ys t =
+    let a = eqb (length ws) (length gs) in
+    let b = eqb (length ys) (length gs) in
+    let c = leb 1 (length gs) && leb (length gs) mostSlots in
+    let u = and-fst (a && b) c t in
+    let v = and-snd (a && b) c t in
+    record {
+      even = record { weights = eqb→eq (length ws) (length gs) (and-fst a b u); yields = eqb→eq (length ys) (length gs) (and-snd a b u) };
+      one = leb→le 1 (length gs) (and-fst (leb 1 (length gs)) (leb (length gs) mostSlots) v);
+      most = leb→le (length gs) mostSlots (and-snd (leb 1 (length gs)) (leb (length gs) mostSlots) v);
+    }
+
+pub slices-pass : (gs ws ys : List ℕ) → Sliced gs ws ys → T (slicesOk gs ws ys)
+unfolding slicesOk slotsOk
+slices-pass gs ws ys s =
+    and-mk (eqb (length ws) (length gs) && eqb (length ys) (length gs)) (leb 1 (length gs) && leb (length gs) mostSlots)
+    (and-mk (eqb (length ws) (length gs)) (eqb (length ys) (length gs)) (eq→eqb _ _ (s .even .weights)) (eq→eqb _ _ (s .even .yields)))
+    (and-mk (leb 1 (length gs)) (leb (length gs) mostSlots) (le→leb 1 (length gs) (s .one)) (le→leb (length gs) mostSlots (s .most)))
 
 -- Checks 2 to 5 and 8 of the set, taken apart.
 
@@ -33,8 +63,6 @@ module _ (L : ℕ) where
     pub m-least : 1 ≤ s .used
     pub m-fits : s .used ≤ length (s .growers)
     pub m-most : s .used ≤ L * s .block
-    pub same-weights : length (s .weights) ≡ length (s .growers)
-    pub same-yields : length (s .yields) ≡ length (s .growers)
 
   pub good : (s : Set) → firstFailed (setChecks L s ++ ask 8 (valuesOk s) ∷ []) ≡ 0 → Good s
   unfolding blockLengthOk slotsOk slicesOk usedOk growersOk valuesOk
@@ -46,18 +74,15 @@ module _ (L : ℕ) where
       let c5 = yes-first 4 (growersOk s) _ (c4 .1) in
       let c8 = yes-first 7 (valuesOk s) _ (c5 .1) in
       let u = and-fst (leb 1 (s .used) && leb (s .used) c) (leb (s .used) (L * s .block)) (c4 .0) in
-      let v = and-fst (eqb (length (s .weights)) c && eqb (length (s .yields)) c) (slotsOk c) (c3 .0) in
       record {
         block-ok = c2 .0;
         slices-ok = c3 .0;
         values-ok = c8 .0;
         falls-not = c5 .0;
-        b-least = leb→le 1 (s .block) (and-fst (leb 1 (s .block)) (leb (s .block) 4096) (c2 .0));
+        b-least = leb→le 1 (s .block) (and-fst (leb 1 (s .block)) (leb (s .block) mostBlockLength) (c2 .0));
         m-least = leb→le 1 (s .used) (and-fst (leb 1 (s .used)) (leb (s .used) c) u);
         m-fits = leb→le (s .used) c (and-snd (leb 1 (s .used)) (leb (s .used) c) u);
         m-most = leb→le (s .used) (L * s .block) (and-snd (leb 1 (s .used) && leb (s .used) c) (leb (s .used) (L * s .block)) (c4 .0));
-        same-weights = eqb→eq (length (s .weights)) c (and-fst (eqb (length (s .weights)) c) (eqb (length (s .yields)) c) v);
-        same-yields = eqb→eq (length (s .yields)) c (and-snd (eqb (length (s .weights)) c) (eqb (length (s .yields)) c) v);
       }
 
 -- The blocks of any set.

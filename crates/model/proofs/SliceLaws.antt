@@ -6,10 +6,10 @@ use Rattle.model.specs.declared.Delivery.{Delivery}
 use Rattle.model.specs.Moves.{inserted, deleted, moved}
 use Rattle.model.specs.Column.{Column, slots}
 use Rattle.model.specs.ColumnCalls.{moveSlices}
-use Rattle.model.specs.Laws.{Even}
+use Rattle.model.specs.Lent.{Even}
 use Rattle.model.proofs.MovesRows.{Columns, rows-columns, columns-rows, inserted-columns, deleted-columns, moved-columns}
 
-module _ (c : Column) (e : Even c) where
+module _ (c : Column) (e : Even (c .growers) (c .weights) (c .yields)) where
   columns : Columns (slots c) (c .growers) (c .weights) (c .yields)
   columns = rows-columns (c .growers) (c .weights) (c .yields) (e .weights) (e .yields)
 

@@ -1,50 +1,20 @@
 -- Writing's checks taken apart, and what it answers where they pass. Assumes nothing.
-use Prim.Native.Nat.{ℕ, _≤_}
+use Prim.Native.Nat.{ℕ}
 use mathlib.Core.Path.{_≡_, refl, sym, subst}
-use mathlib.Core.Bool.{Bool, true, false, cond, _&&_}
+use mathlib.Core.Bool.{Bool, true, false, cond}
 use mathlib.Core.List.{List, _++_}
-use lib.Dec.{T, leb, eqb, leb→le, le→leb, eqb→eq}
+use lib.Dec.{T, leb, eqb, eqb→eq}
 use lib.ListN.{length, drop}
-use Rattle.model.specs.Bounds.{mostSlots}
 use Rattle.model.specs.Lists.{every}
 use Rattle.model.specs.Checks.{firstFailed}
 use Rattle.model.specs.Deliveries.{inRange}
-use Rattle.model.specs.Blocks.{slotsOk, slicesOk}
+use Rattle.model.specs.Blocks.{slicesOk}
 use Rattle.model.specs.Directory.{directoryBlockOk, directoryOk}
 use Rattle.model.specs.Column.{Column, allRecords, sound}
 use Rattle.model.specs.Snapshot.{snapshotText}
 use Rattle.model.specs.Questions.{writeChecks}
 use Rattle.model.specs.SnapshotCalls.{WriteResult, writeCall}
-use Rattle.model.proofs.Tests.{and-fst, and-snd, and-mk, eq→eqb, is-true, yes-first}
-
--- check 3
-pub record Sliced (gs ws ys : List ℕ) : Type 0 where
-  pub weights : length ws ≡ length gs
-  pub yields : length ys ≡ length gs
-  pub one : 1 ≤ length gs
-  pub most : length gs ≤ mostSlots
-
-pub sliced : (gs ws ys : List ℕ) → T (slicesOk gs ws ys) → Sliced gs ws ys
-unfolding slicesOk slotsOk
-sliced gs ws ys t =
-    let a = eqb (length ws) (length gs) in
-    let b = eqb (length ys) (length gs) in
-    let c = leb 1 (length gs) && leb (length gs) mostSlots in
-    let u = and-fst (a && b) c t in
-    let v = and-snd (a && b) c t in
-    record {
-      weights = eqb→eq (length ws) (length gs) (and-fst a b u);
-      yields = eqb→eq (length ys) (length gs) (and-snd a b u);
-      one = leb→le 1 (length gs) (and-fst (leb 1 (length gs)) (leb (length gs) mostSlots) v);
-      most = leb→le (length gs) mostSlots (and-snd (leb 1 (length gs)) (leb (length gs) mostSlots) v);
-    }
-
-pub slices-pass : (gs ws ys : List ℕ) → Sliced gs ws ys → T (slicesOk gs ws ys)
-unfolding slicesOk slotsOk
-slices-pass gs ws ys s =
-    and-mk (eqb (length ws) (length gs) && eqb (length ys) (length gs)) (leb 1 (length gs) && leb (length gs) mostSlots)
-    (and-mk (eqb (length ws) (length gs)) (eqb (length ys) (length gs)) (eq→eqb _ _ (s .weights)) (eq→eqb _ _ (s .yields)))
-    (and-mk (leb 1 (length gs)) (leb (length gs) mostSlots) (le→leb 1 (length gs) (s .one)) (le→leb (length gs) mostSlots (s .most)))
+use Rattle.model.proofs.Tests.{is-true, yes-first}
 
 module _ (L : ℕ) where
   -- checks 2 3 6 6 8 15 of writing

@@ -19,6 +19,7 @@ use Rattle.model.specs.Cost.{costOf}
 use Rattle.model.specs.Plan.{comesBefore}
 use Rattle.model.specs.Partitions.{part, parts, free, everyAt, oneMore, oneFewer}
 use Rattle.model.specs.Moves.{insertAt, deleteAt, moveAt, inserted, deleted, moved}
+use Rattle.model.specs.Lent.{Even}
 use Rattle.model.specs.Column.{Column, slots, lengthsFrom}
 use Rattle.model.specs.Accesses.{blocksOf}
 use Rattle.model.specs.Questions.{setChecks}
@@ -71,15 +72,10 @@ pub record CommutesWithMap {A B : Type 0} (f : A → B) : Type 0 where
   pub delete : (ns : List ℕ) (t i : ℕ) (x : A) (s : List A) → map f (deleted ns t i x s) ≡ deleted ns t i (f x) (map f s)
   pub move : (ns : List ℕ) (t i u : ℕ) (x : A) (s : List A) → map f (moved ns t i u x s) ≡ moved ns t i u (f x) (map f s)
 
--- slices of one length
-pub record Even (c : Column) : Type 0 where
-  pub weights : length (c .weights) ≡ length (c .growers)
-  pub yields : length (c .yields) ≡ length (c .growers)
-
 pub record SlicesMoveAsOne : Type 0 where
-  pub insert : (c : Column) → Even c → (ns : List ℕ) (t : ℕ) (d : Delivery) (ms : List ℕ) → slots (moveSlices (inserted ns t) d ms c) ≡ inserted ns t d (slots c)
-  pub delete : (c : Column) → Even c → (ns : List ℕ) (t i : ℕ) (d : Delivery) (ms : List ℕ) → slots (moveSlices (deleted ns t i) d ms c) ≡ deleted ns t i d (slots c)
-  pub move : (c : Column) → Even c → (ns : List ℕ) (t i u : ℕ) (d : Delivery) (ms : List ℕ) → slots (moveSlices (moved ns t i u) d ms c) ≡ moved ns t i u d (slots c)
+  pub insert : (c : Column) → Even (c .growers) (c .weights) (c .yields) → (ns : List ℕ) (t : ℕ) (d : Delivery) (ms : List ℕ) → slots (moveSlices (inserted ns t) d ms c) ≡ inserted ns t d (slots c)
+  pub delete : (c : Column) → Even (c .growers) (c .weights) (c .yields) → (ns : List ℕ) (t i : ℕ) (d : Delivery) (ms : List ℕ) → slots (moveSlices (deleted ns t i) d ms c) ≡ deleted ns t i d (slots c)
+  pub move : (c : Column) → Even (c .growers) (c .weights) (c .yields) → (ns : List ℕ) (t i u : ℕ) (d : Delivery) (ms : List ℕ) → slots (moveSlices (moved ns t i u) d ms c) ≡ moved ns t i u d (slots c)
 
 -- two slices of counts, added count by count
 unfoldable pub addCounts : List ℕ → List ℕ → List ℕ

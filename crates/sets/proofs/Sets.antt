@@ -18,6 +18,7 @@ use Rattle.model.specs.Questions.{setChecks}
 use Rattle.model.proofs.Tests.{and-fst, and-snd, of-true, yes-first, first-passed}
 use Rattle.model.proofs.ListLaws.{ceil-some, ceil-within}
 use Rattle.model.proofs.Deliveries.{rows-part}
+use Rattle.model.proofs.SetLaws.{sliced}
 use Rattle.sets.specs.Sized.{Sized, setRefusalOf}
 use Rattle.checks.specs.Values.{allValuesOk}
 use Rattle.checks.proofs.Answers.{none-failed, every-rows}
@@ -59,8 +60,7 @@ module _ (L : ℕ) (s : Set) where
       let c3 = yes-first 2 (slicesOk (s .growers) (s .weights) (s .yields)) _ (c2 .1) in
       let c4 = yes-first 3 (usedOk L s) _ (c3 .1) in
       let u = and-fst (leb 1 m && leb m c) (leb m (L * b)) (c4 .0) in
-      let v = and-fst (eqb (length (s .weights)) c && eqb (length (s .yields)) c) (slotsOk c) (c3 .0) in
-      let w = and-snd (eqb (length (s .weights)) c && eqb (length (s .yields)) c) (slotsOk c) (c3 .0) in
+      let l = sliced (s .growers) (s .weights) (s .yields) (c3 .0) in
       record {
         sized = record {
           block-least = leb→le 1 b (and-fst (leb 1 b) (leb b mostBlockLength) (c2 .0));
@@ -68,12 +68,9 @@ module _ (L : ℕ) (s : Set) where
           used-least = leb→le 1 m (and-fst (leb 1 m) (leb m c) u);
           used-fits = leb→le m c (and-snd (leb 1 m) (leb m c) u);
           used-most = leb→le m (L * b) (and-snd (leb 1 m && leb m c) (leb m (L * b)) (c4 .0));
-          slots-most = leb→le c mostSlots (and-snd (leb 1 c) (leb c mostSlots) w);
+          slots-most = l .most;
         };
-        even = record {
-          weights = eqb→eq (length (s .weights)) c (and-fst (eqb (length (s .weights)) c) (eqb (length (s .yields)) c) v);
-          yields = eqb→eq (length (s .yields)) c (and-snd (eqb (length (s .weights)) c) (eqb (length (s .yields)) c) v);
-        };
+        even = l .even;
       }
 
   -- a list of checks that begins with them

@@ -28,7 +28,8 @@ use Rattle.model.proofs.DirectoryLaws.{Fits, Shaped, shaped, shaped-passes, num
 use Rattle.model.proofs.LineLaws.{Fit, fitsField}
 use Rattle.model.proofs.BookLaws.{Good, room-for, text-read, read-text}
 use Rattle.model.proofs.ColumnBooks.{sound-used, rows-joined, numbers-again}
-use Rattle.model.proofs.WriteLaws.{Sliced, sliced, slices-pass, Writable, writable, writes, write-accepted, write-is}
+use Rattle.model.proofs.SetLaws.{Sliced, sliced, slices-pass}
+use Rattle.model.proofs.WriteLaws.{Writable, writable, writes, write-accepted, write-is}
 use Rattle.theorems.specs.Snapshot.{Numbers32, written, readInto, WrittenIsRead, ReadIsWritten}
 use Rattle.theorems.proofs.ValidColumn.{Valid, even-slices, length-records}
 use Rattle.theorems.proofs.PlanChecks.{nothing-failed}
@@ -159,9 +160,9 @@ module _ (L : ℕ) where
     slices-in : Sliced (columnIn b gs ws ys .growers) (columnIn b gs ws ys .weights) (columnIn b gs ws ys .yields)
     slices-in =
         let x = length-read growerOf gs enough in
-        let y = length-read weightOf ws (omega (arith, sl .weights)) in
-        let z = length-read yieldOf ys (omega (arith, sl .yields)) in
-        record { weights = y ∙ sl .weights ∙ sym x; yields = z ∙ sl .yields ∙ sym x; one = omega (arith, x, sl .one); most = omega (arith, x, sl .most) }
+        let y = length-read weightOf ws (omega (arith, sl .even .weights)) in
+        let z = length-read yieldOf ys (omega (arith, sl .even .yields)) in
+        record { even = record { weights = y ∙ sl .even .weights ∙ sym x; yields = z ∙ sl .even .yields ∙ sym x }; one = omega (arith, x, sl .one); most = omega (arith, x, sl .most) }
 
     shape-in : Shaped L (length (columnIn b gs ws ys .growers)) (directoryNumbers L (b .directory))
     shape-in = numbers-shaped L (length (columnIn b gs ws ys .growers)) (b .directory) directory-fits (g .some-parts) (g .rises) (omega (arith, g .total, length-read growerOf gs enough))

@@ -11,14 +11,15 @@ use Rattle.model.specs.declared.Delivery.{Delivery}
 use Rattle.model.specs.Lists.{sumOf, every, keep}
 use Rattle.model.specs.Checks.{Check, firstFailed}
 use Rattle.model.specs.Deliveries.{inRange, same, among, matches}
-use Rattle.model.specs.Blocks.{slotsOk, slicesOk}
+use Rattle.model.specs.Blocks.{slicesOk}
 use Rattle.model.specs.Partitions.{parts, part, between, startOf}
 use Rattle.model.specs.Directory.{partitionCount, directoryBlockOk, directoryOk}
 use Rattle.model.specs.Column.{Column, slots, inPlace, soundGrowers, lengthsOf, fencesOf, target, recordsOf, recordsNear, allRecords, sound, scannedOk, hasFreeSlot, isHeld}
 use Rattle.model.specs.Questions.{lentChecks}
-use Rattle.model.specs.Laws.{Even}
+use Rattle.model.specs.Lent.{Even}
 use Rattle.model.proofs.Tests.{and-fst, and-snd, and-mk, is-true, yes-first, first-passed}
 use Rattle.model.proofs.ListLaws.{sum-cut, sum-take-le, every-part}
+use Rattle.model.proofs.SetLaws.{sliced}
 use Rattle.model.proofs.Places.{Placed, placed, placed-mono}
 use Rattle.model.proofs.Parts.{flatten-parts, between-is, length-parts, lengths-parts}
 use Rattle.model.proofs.DirectoryLaws.{Shaped, shaped, shaped-passes, length-lengths, length-fences}
@@ -28,16 +29,6 @@ use Rattle.model.proofs.MovesKeep.{Sound}
 use Rattle.model.proofs.SoundLaws.{everyAt-sound}
 use Rattle.theorems.proofs.OneDelivery.{same-equal, among-kept}
 use Rattle.theorems.proofs.Scans.{sound-mapped, kept-scan}
-
--- check 3, taken apart
-pub even : (c : Column) → T (slicesOk (c .growers) (c .weights) (c .yields)) → Even c
-unfolding slicesOk
-even c t =
-    let n = length (c .growers) in
-    let w = eqb (length (c .weights)) n in
-    let y = eqb (length (c .yields)) n in
-    let u = and-fst (w && y) (slotsOk n) t in
-    record { weights = eqb→eq (length (c .weights)) n (and-fst w y u); yields = eqb→eq (length (c .yields)) n (and-snd w y u) }
 
 module _ (L : ℕ) where
   pub record Valid (c : Column) : Type 0 where
@@ -55,8 +46,8 @@ module _ (L : ℕ) where
       record { block-ok = c2 .0; slices-ok = c3 .0; shape = shaped L _ _ (c6 .0); sound = s; values = v }
 
   module _ (c : Column) (v : Valid c) where
-    pub even-slices : Even c
-    even-slices = even c (v .slices-ok)
+    pub even-slices : Even (c .growers) (c .weights) (c .yields)
+    even-slices = sliced (c .growers) (c .weights) (c .yields) (v .slices-ok) .even
 
     -- there are as many lengths as fences, and every grower has its partition
     pub count-lengths : length (lengthsOf L c) ≡ partitionCount L (c .directory)
