@@ -1,5 +1,6 @@
 // The C interface (include/meltusk.h): wrappers on numbers and slices over the proved calls, each with its own equation.
 ghost use mathlib.Core.Path.{_≡_};
+ghost use Rattle.model.specs.Bounds.{blockLimit};
 ghost use Rattle.model.specs.Prices.{prices, limits};
 ghost use Rattle.model.specs.Deliveries.{delivery};
 ghost use Rattle.model.specs.Calls.{find, range, insert, delete, move};
@@ -7,7 +8,7 @@ ghost use Rattle.model.specs.Recorder.{recordCall};
 ghost use Rattle.model.specs.Planner.{costCall, planCall};
 ghost use Rattle.model.specs.ColumnCalls.{applyCall, columnCall, partitionCall};
 ghost use Rattle.model.specs.SnapshotCalls.{writeCall, readCall};
-ghost use Rattle.checks.specs.Lent.{columnOf, setOf};
+ghost use Rattle.model.specs.Lent.{columnIn, columnOut, setIn};
 ghost use Rattle.snapshot.specs.Answers.{resultOf};
 use model::Answer;
 use model::Applied;
@@ -29,7 +30,7 @@ pub extern "C" fn meltusk_apply_layout(
     yields: &[u32],
     ends: &[u32],
 ) -> Applied
-    ensures { λ r. ⌜ r ≡ applyCall 64 (setOf block used (now (growers .entry)) (now (weights .entry)) (now (yields .entry))) (now (ends .entry)) ⌝ }
+    ensures { λ r. ⌜ r ≡ applyCall blockLimit (setIn block used growers weights yields) (now (ends .entry)) ⌝ }
 {
     apply::apply_layout(block, used, growers, weights, yields, ends)
 }
@@ -43,7 +44,7 @@ pub extern "C" fn meltusk_find(
     yields: &[u32],
     grower: u32,
 ) -> Answer
-    ensures { λ r. ⌜ r ≡ columnCall 64 (columnOf (now (directory .entry)) (now (growers .entry)) (now (weights .entry)) (now (yields .entry))) (find grower) .answer ⌝ }
+    ensures { λ r. ⌜ r ≡ columnCall blockLimit (columnIn directory growers weights yields) (find grower) .answer ⌝ }
 {
     column::find(directory, growers, weights, yields, grower)
 }
@@ -58,7 +59,7 @@ pub extern "C" fn meltusk_range(
     lo: u32,
     hi: u32,
 ) -> Answer
-    ensures { λ r. ⌜ r ≡ columnCall 64 (columnOf (now (directory .entry)) (now (growers .entry)) (now (weights .entry)) (now (yields .entry))) (range lo hi) .answer ⌝ }
+    ensures { λ r. ⌜ r ≡ columnCall blockLimit (columnIn directory growers weights yields) (range lo hi) .answer ⌝ }
 {
     column::range(directory, growers, weights, yields, lo, hi)
 }
@@ -74,8 +75,8 @@ pub extern "C" fn meltusk_insert(
     weight: u32,
     oil_yield: u32,
 ) -> Answer
-    ensures { λ r. ⌜ record { answer = r; column = columnOf (now (directory .exit)) (now (growers .exit)) (now (weights .exit)) (now (yields .exit)) }
-        ≡ columnCall 64 (columnOf (now (directory .entry)) (now (growers .entry)) (now (weights .entry)) (now (yields .entry))) (insert (delivery grower weight «oil_yield»)) ⌝ }
+    ensures { λ r. ⌜ record { answer = r; column = columnOut directory growers weights yields }
+        ≡ columnCall blockLimit (columnIn directory growers weights yields) (insert (delivery grower weight «oil_yield»)) ⌝ }
 {
     let d = Delivery {
         grower,
@@ -96,8 +97,8 @@ pub extern "C" fn meltusk_delete(
     weight: u32,
     oil_yield: u32,
 ) -> Answer
-    ensures { λ r. ⌜ record { answer = r; column = columnOf (now (directory .exit)) (now (growers .exit)) (now (weights .exit)) (now (yields .exit)) }
-        ≡ columnCall 64 (columnOf (now (directory .entry)) (now (growers .entry)) (now (weights .entry)) (now (yields .entry))) (delete (delivery grower weight «oil_yield»)) ⌝ }
+    ensures { λ r. ⌜ record { answer = r; column = columnOut directory growers weights yields }
+        ≡ columnCall blockLimit (columnIn directory growers weights yields) (delete (delivery grower weight «oil_yield»)) ⌝ }
 {
     let d = Delivery {
         grower,
@@ -119,8 +120,8 @@ pub extern "C" fn meltusk_move(
     oil_yield: u32,
     new_grower: u32,
 ) -> Answer
-    ensures { λ r. ⌜ record { answer = r; column = columnOf (now (directory .exit)) (now (growers .exit)) (now (weights .exit)) (now (yields .exit)) }
-        ≡ columnCall 64 (columnOf (now (directory .entry)) (now (growers .entry)) (now (weights .entry)) (now (yields .entry))) (move (delivery grower weight «oil_yield») «new_grower») ⌝ }
+    ensures { λ r. ⌜ record { answer = r; column = columnOut directory growers weights yields }
+        ≡ columnCall blockLimit (columnIn directory growers weights yields) (move (delivery grower weight «oil_yield») «new_grower») ⌝ }
 {
     let d = Delivery {
         grower,
@@ -137,7 +138,7 @@ pub extern "C" fn meltusk_partition(
     growers: &[u32],
     grower: u32,
 ) -> PartitionSlice
-    ensures { λ r. ⌜ r ≡ partitionCall 64 (now (directory .entry)) (now (growers .entry)) grower ⌝ }
+    ensures { λ r. ⌜ r ≡ partitionCall blockLimit (now (directory .entry)) (now (growers .entry)) grower ⌝ }
 {
     column::partition(directory, growers, grower)
 }
@@ -153,7 +154,8 @@ pub extern "C" fn meltusk_record_find(
     yields: &[u32],
     grower: u32,
 ) -> u32
-    ensures { λ r. ⌜ record { refusal = r; histograms = now (histograms .exit) } ≡ recordCall 64 (setOf block used (now (growers .entry)) (now (weights .entry)) (now (yields .entry))) (now (histograms .entry)) (find grower) ⌝ }
+    ensures { λ r. ⌜ record { refusal = r; histograms = now (histograms .exit) }
+        ≡ recordCall blockLimit (setIn block used growers weights yields) (now (histograms .entry)) (find grower) ⌝ }
 {
     recorder::record_find(histograms, block, used, growers, weights, yields, grower)
 }
@@ -170,7 +172,8 @@ pub extern "C" fn meltusk_record_range(
     lo: u32,
     hi: u32,
 ) -> u32
-    ensures { λ r. ⌜ record { refusal = r; histograms = now (histograms .exit) } ≡ recordCall 64 (setOf block used (now (growers .entry)) (now (weights .entry)) (now (yields .entry))) (now (histograms .entry)) (range lo hi) ⌝ }
+    ensures { λ r. ⌜ record { refusal = r; histograms = now (histograms .exit) }
+        ≡ recordCall blockLimit (setIn block used growers weights yields) (now (histograms .entry)) (range lo hi) ⌝ }
 {
     recorder::record_range(histograms, block, used, growers, weights, yields, lo, hi)
 }
@@ -188,7 +191,8 @@ pub extern "C" fn meltusk_record_insert(
     weight: u32,
     oil_yield: u32,
 ) -> u32
-    ensures { λ r. ⌜ record { refusal = r; histograms = now (histograms .exit) } ≡ recordCall 64 (setOf block used (now (growers .entry)) (now (weights .entry)) (now (yields .entry))) (now (histograms .entry)) (insert (delivery grower weight «oil_yield»)) ⌝ }
+    ensures { λ r. ⌜ record { refusal = r; histograms = now (histograms .exit) }
+        ≡ recordCall blockLimit (setIn block used growers weights yields) (now (histograms .entry)) (insert (delivery grower weight «oil_yield»)) ⌝ }
 {
     let d = Delivery {
         grower,
@@ -211,7 +215,8 @@ pub extern "C" fn meltusk_record_delete(
     weight: u32,
     oil_yield: u32,
 ) -> u32
-    ensures { λ r. ⌜ record { refusal = r; histograms = now (histograms .exit) } ≡ recordCall 64 (setOf block used (now (growers .entry)) (now (weights .entry)) (now (yields .entry))) (now (histograms .entry)) (delete (delivery grower weight «oil_yield»)) ⌝ }
+    ensures { λ r. ⌜ record { refusal = r; histograms = now (histograms .exit) }
+        ≡ recordCall blockLimit (setIn block used growers weights yields) (now (histograms .entry)) (delete (delivery grower weight «oil_yield»)) ⌝ }
 {
     let d = Delivery {
         grower,
@@ -235,7 +240,8 @@ pub extern "C" fn meltusk_record_move(
     oil_yield: u32,
     new_grower: u32,
 ) -> u32
-    ensures { λ r. ⌜ record { refusal = r; histograms = now (histograms .exit) } ≡ recordCall 64 (setOf block used (now (growers .entry)) (now (weights .entry)) (now (yields .entry))) (now (histograms .entry)) (move (delivery grower weight «oil_yield») «new_grower») ⌝ }
+    ensures { λ r. ⌜ record { refusal = r; histograms = now (histograms .exit) }
+        ≡ recordCall blockLimit (setIn block used growers weights yields) (now (histograms .entry)) (move (delivery grower weight «oil_yield») «new_grower») ⌝ }
 {
     let d = Delivery {
         grower,
@@ -268,7 +274,8 @@ pub extern "C" fn meltusk_cost(
     ends: &[u32],
     histograms: &[u32],
 ) -> Costed
-    ensures { λ r. ⌜ r ≡ costCall 64 (prices rr sr «rw») (setOf block used (now (growers .entry)) (now (weights .entry)) (now (yields .entry))) (now (ends .entry)) (now (histograms .entry)) ⌝ }
+    ensures { λ r. ⌜ r
+        ≡ costCall blockLimit (prices rr sr «rw») (setIn block used growers weights yields) (now (ends .entry)) (now (histograms .entry)) ⌝ }
 {
     let card = PriceCard { rr, sr, rw };
     planner::cost(
@@ -300,7 +307,7 @@ pub extern "C" fn meltusk_plan(
     ends: &mut [u32],
 ) -> Planned
     ensures { λ r. ⌜ record { answer = r; ends = now (ends .exit) }
-        ≡ planCall 64 (prices rr sr «rw») (limits read insert) (setOf block used (now (growers .entry)) (now (weights .entry)) (now (yields .entry))) (now (histograms .entry)) (now (ends .entry)) ⌝ }
+        ≡ planCall blockLimit (prices rr sr «rw») (limits read insert) (setIn block used growers weights yields) (now (histograms .entry)) (now (ends .entry)) ⌝ }
 {
     let card = PriceCard { rr, sr, rw };
     let limits = Limits { read, insert };
@@ -327,7 +334,7 @@ pub extern "C" fn meltusk_write_snapshot(
     text: &mut [u8],
 ) -> Written
     ensures { λ r. ⌜ record { answer = r; text = now (text .exit) }
-        ≡ writeCall 64 (columnOf (now (directory .entry)) (now (growers .entry)) (now (weights .entry)) (now (yields .entry))) (now (text .entry)) ⌝ }
+        ≡ writeCall blockLimit (columnIn directory growers weights yields) (now (text .entry)) ⌝ }
 {
     snapshot::write(directory, growers, weights, yields, text)
 }
@@ -341,7 +348,7 @@ pub extern "C" fn meltusk_read_snapshot(
     yields: &mut [u32],
 ) -> Applied
     ensures { λ r. ⌜ resultOf r (now (growers .exit)) (now (weights .exit)) (now (yields .exit))
-        ≡ readCall 64 (now (text .entry)) (now (growers .entry)) (now (weights .entry)) (now (yields .entry)) ⌝ }
+        ≡ readCall blockLimit (now (text .entry)) (now (growers .entry)) (now (weights .entry)) (now (yields .entry)) ⌝ }
 {
     snapshot::read(text, growers, weights, yields)
 }
