@@ -1,5 +1,5 @@
 -- A refusal, and where a delivery lies that delete or move names.
-use Prim.Native.Nat.{ℕ, _≤_, _<_}
+use Prim.Native.Nat.{ℕ, _+_, _*_, _≤_, _<_}
 use mathlib.Core.Path.{_≡_}
 use mathlib.Core.Bool.{cond}
 use mathlib.Core.List.{List}
@@ -80,10 +80,12 @@ takenOf c t i = moveSlices (deleted (lengthsOf 64 c) t i) freed (oneFewer t (len
 abbrev pub shiftedOf : Column → ℕ → ℕ → ℕ → Delivery → Column
 shiftedOf c t i u d = moveSlices (moved (lengthsOf 64 c) t i u) d (oneMore u (oneFewer t (lengthsOf 64 c))) c
 
--- what the partition call hands back, and the number that it leaves
+-- what the partition call hands back: where it lies (its block and its byte there), its numbers, and the number that is left
 pub record Part : Type 0 where
+  pub place : ℕ × ℕ
   pub part : List ℕ
   pub refusal : ℕ
 
-unfoldable pub partOf : PartitionSlice → List ℕ → Part
-partOf p gs = record { part = take (p .count) (drop (p .start) gs); refusal = p .refusal }
+-- of growers that lie at o, four bytes each
+unfoldable pub partOf : PartitionSlice → ℕ × ℕ → List ℕ → Part
+partOf p o gs = record { place = (o .0, p .start * 4 + o .1); part = take (p .count) (drop (p .start) gs); refusal = p .refusal }

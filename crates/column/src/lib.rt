@@ -526,7 +526,8 @@ pub fn partition_slice<'a>(
     grower: u32,
     refusal: &mut u32,
 ) -> &'a [u32]
-    ensures { λ r. ⌜ record { part = now r; refusal = now (refusal .exit) } ≡ partOf (partitionCall 64 (now (directory .entry)) (now (growers .entry)) grower) (now (growers .entry)) ⌝ }
+    ensures { λ r. ⌜ record { place = r .ptr; part = now r; refusal = now (refusal .exit) }
+        ≡ partOf (partitionCall 64 (now (directory .entry)) (now (growers .entry)) grower) (growers .entry .ptr) (now (growers .entry)) ⌝ }
 {
     let p = partition(directory, growers, grower);
     *refusal = p.refusal;

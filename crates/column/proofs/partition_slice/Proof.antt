@@ -35,7 +35,7 @@ part-result-end c = let g = (c .before .before .before .before .before .args) in
 
 returns : tie.Need-returns
 unfolding partOf
-returns c = let g = (c .before .before .before .before .before .before .args) in let q = (c .before .before .before .partition) .result in let e : q .start + q .count - q .start ≡ q .count = omega arith in rw (e) (ap (λ (x : PartitionSlice). partOf x (g .growers .now)) ((c .before .before .before .partition) .ensures))
+returns c = let g = (c .before .before .before .before .before .before .args) in let q = (c .before .before .before .partition) .result in let e : q .start + q .count - q .start ≡ q .count = omega arith in rw (e) (ap (λ (x : PartitionSlice). partOf x (g .growers .ptr) (g .growers .now)) ((c .before .before .before .partition) .ensures))
 
 pub partition-slice-spec : {M : Type 1} → statement M
 partition-slice-spec =
