@@ -23,7 +23,7 @@ use Rattle.model.specs.Questions.{lentChecks, callChecks, columnChecks}
 use Rattle.model.specs.ColumnCalls.{Called, columnRefusal, columnAfter, columnCall, callTotals, refusedCounts, slotOf, moveSlices}
 use Rattle.model.proofs.DirectoryLaws.{Shaped, Kept, with-lengths, shaped, shaped-passes, shaped-with, length-lengths}
 use Rattle.model.proofs.MovesLengths.{sum-oneFewer}
-use Rattle.checks.specs.Lent.{columnOf}
+use Rattle.model.specs.Lent.{columnOf}
 use Rattle.column.specs.declared.Located.{Located}
 use Rattle.column.specs.declared.Opened.{Opened}
 use Rattle.column.specs.Answers.{withoutTotals, locatedOf, notOpened, openedOf, Held, Ready, putOf, takenOf, shiftedOf}

@@ -1,9 +1,10 @@
-// The laid column (01): find, range, insert, delete, move and the partition call, over three lent slices and the lent directory of 130 numbers.
+// The laid column (01): find, range, insert, delete, move and the partition call, over three lent slices and the lent directory.
 // No call trusts what it is lent: each puts its checks first, and a refused call writes to no slice.
 ghost use mathlib.Core.Path.{_≡_};
 ghost use Prim.Native.Nat.{_+_, _-_, _≤_, _<_};
 ghost use lib.ListN.{length, getD};
 ghost use lib.Dec.{T};
+ghost use Rattle.model.specs.Bounds.{blockLimit, mostSlots};
 ghost use Rattle.model.specs.Lists.{sumOf};
 ghost use Rattle.model.specs.Deliveries.{rows};
 ghost use Rattle.model.specs.Checks.{firstFailed};
@@ -15,11 +16,15 @@ ghost use Rattle.model.specs.Directory.{partitionCount, directoryOf, directoryO
 ghost use Rattle.model.specs.Accesses.{noCounts, andAlso, onward, apart};
 ghost use Rattle.model.specs.Questions.{lentChecks};
 ghost use Rattle.model.specs.ColumnCalls.{columnCall, partitionCall};
-ghost use Rattle.checks.specs.Lent.{columnOf};
+ghost use Rattle.model.specs.Lent.{columnOf, columnIn, columnOut};
 ghost use Rattle.column.specs.Answers.{withoutTotals, notLocated, searchedOf, locatedOf, notOpened, openedOf, Held, Ready, putOf, takenOf, shiftedOf, partOf};
 use model::Answer;
+use model::BLOCK;
+use model::COUNT;
 use model::Counts;
 use model::Delivery;
+use model::FENCES;
+use model::LENGTHS;
 use model::PartitionSlice;
 
 fn no_counts() -> Counts
@@ -53,28 +58,28 @@ fn refused(n: u32) -> Answer
 
 // A grower's partition.
 fn partition_of(directory: &[u32], g: u32) -> usize
-    requires { ⌜ T (directoryOk 64 262144 (now directory)) ⌝ }
-    ensures { λ r. ⌜ r ≡ place (directoryOf 64 (now (directory .entry)) .fences) g ⌝ }
+    requires { ⌜ T (directoryOk blockLimit mostSlots (now directory)) ⌝ }
+    ensures { λ r. ⌜ r ≡ place (directoryOf blockLimit (now (directory .entry)) .fences) g ⌝ }
 {
-    let f = 66 + directory[1] as usize;
-    slices::place_of(&directory[66..f], g)
+    let f = FENCES + directory[COUNT] as usize;
+    slices::place_of(&directory[FENCES..f], g)
 }
 
 // The slot at which partition t starts.
 fn start_of(directory: &[u32], t: usize) -> usize
     requires { ⌜ Held (now directory) t ⌝ }
-    ensures { λ r. ⌜ r ≡ startOf (directoryOf 64 (now (directory .entry)) .lengths) t ⌝ }
+    ensures { λ r. ⌜ r ≡ startOf (directoryOf blockLimit (now (directory .entry)) .lengths) t ⌝ }
 {
-    let e = 2 + t;
-    slices::total(&directory[2..e]) as usize
+    let e = LENGTHS + t;
+    slices::total(&directory[LENGTHS..e]) as usize
 }
 
 // How many records partition t has.
 fn length_of(directory: &[u32], t: usize) -> usize
     requires { ⌜ Held (now directory) t ⌝ }
-    ensures { λ r. ⌜ r ≡ getD (directoryOf 64 (now (directory .entry)) .lengths) t 0 ⌝ }
+    ensures { λ r. ⌜ r ≡ getD (directoryOf blockLimit (now (directory .entry)) .lengths) t 0 ⌝ }
 {
-    directory[2 + t] as usize
+    directory[LENGTHS + t] as usize
 }
 
 // The partitions from p, which is lo's and starts at a, to hi's, once checks 2, 3, 6 and 7 are passed.
@@ -88,12 +93,23 @@ fn read(
     lo: u32,
     hi: u32,
 ) -> Answer
-    requires { ⌜ (firstFailed (lentChecks 64 (columnOf (now directory) (now g) (now w) (now y))) ≡ 0) × (lo ≤ hi) × (p ≡ place (directoryOf 64 (now directory) .fences) lo) × (a ≡ startOf (directoryOf 64 (now directory) .lengths) p) ⌝ }
-    ensures { λ r. ⌜ r ≡ columnCall 64 (columnOf (now (directory .entry)) (now (g .entry)) (now (w .entry)) (now (y .entry))) (range lo hi) .answer ⌝ }
+    requires { ⌜ (firstFailed (lentChecks blockLimit (columnOf (now directory) (now g) (now w) (now y))) ≡ 0) × (lo ≤ hi) × (p ≡ place (directoryOf blockLimit (now directory) .fences) lo) × (a ≡ startOf (directoryOf blockLimit (now directory) .lengths) p) ⌝ }
+    ensures { λ r. ⌜ r ≡ columnCall blockLimit (columnIn directory g w y) (range lo hi) .answer ⌝ }
 {
-    let l = 2 + directory[1] as usize;
+    let l = LENGTHS + directory[COUNT] as usize;
     let q = partition_of(directory, hi);
-    let s = scan::scan_parts(g, w, y, &directory[2..l], p, q, a, directory[0], lo, hi);
+    let s = scan::scan_parts(
+        g,
+        w,
+        y,
+        &directory[LENGTHS..l],
+        p,
+        q,
+        a,
+        directory[BLOCK],
+        lo,
+        hi,
+    );
     if !s.good {
         return refused(8);
     }
@@ -115,7 +131,7 @@ pub fn range(
     lo: u32,
     hi: u32,
 ) -> Answer
-    ensures { λ r. ⌜ r ≡ columnCall 64 (columnOf (now (directory .entry)) (now (growers .entry)) (now (weights .entry)) (now (yields .entry))) (range lo hi) .answer ⌝ }
+    ensures { λ r. ⌜ r ≡ columnCall blockLimit (columnIn directory growers weights yields) (range lo hi) .answer ⌝ }
 {
     let shape = checks::lent(directory, growers, weights, yields, lo);
     let n = shape.refusal;
@@ -145,7 +161,7 @@ pub fn find(
     yields: &[u32],
     grower: u32,
 ) -> Answer
-    ensures { λ r. ⌜ r ≡ columnCall 64 (columnOf (now (directory .entry)) (now (growers .entry)) (now (weights .entry)) (now (yields .entry))) (find grower) .answer ⌝ }
+    ensures { λ r. ⌜ r ≡ columnCall blockLimit (columnIn directory growers weights yields) (find grower) .answer ⌝ }
 {
     range(directory, growers, weights, yields, grower, grower)
 }
@@ -181,7 +197,7 @@ fn not_located(n: u32) -> Located
 
 // Checks 8 and 13 in partition t, which starts at a, of which it is handed its part of each slice.
 fn search_part(g: &[u32], w: &[u32], y: &[u32], b: u32, t: usize, a: usize, d: Delivery) -> Located
-    requires { ⌜ (length (now g) ≤ 262144) × (length (now w) ≡ length (now g)) × (length (now y) ≡ length (now g)) × (1 ≤ b) ⌝ }
+    requires { ⌜ (length (now g) ≤ mostSlots) × (length (now w) ≡ length (now g)) × (length (now y) ≡ length (now g)) × (1 ≤ b) ⌝ }
     ensures { λ r. ⌜ r ≡ searchedOf b t a d (rows (now (g .entry)) (now (w .entry)) (now (y .entry))) ⌝ }
 {
     if !checks::values_ok(w, y) {
@@ -203,7 +219,7 @@ fn search_part(g: &[u32], w: &[u32], y: &[u32], b: u32, t: usize, a: usize, d: D
 
 // Checks 2, 3, 6, 8 and 13 of delete and move.
 fn locate(directory: &[u32], g: &[u32], w: &[u32], y: &[u32], d: Delivery) -> Located
-    ensures { λ r. ⌜ r ≡ locatedOf (columnOf (now (directory .entry)) (now (g .entry)) (now (w .entry)) (now (y .entry))) d ⌝ }
+    ensures { λ r. ⌜ r ≡ locatedOf (columnIn directory g w y) d ⌝ }
 {
     let shape = checks::lent(directory, g, w, y, d.grower);
     let n = shape.refusal;
@@ -216,24 +232,24 @@ fn locate(directory: &[u32], g: &[u32], w: &[u32], y: &[u32], d: Delivery) -> Lo
     let t = shape.target;
     let a = shape.start;
     let e = a + length_of(directory, t);
-    search_part(&g[a..e], &w[a..e], &y[a..e], directory[0], t, a, d)
+    search_part(&g[a..e], &w[a..e], &y[a..e], directory[BLOCK], t, a, d)
 }
 
 // One more record in partition t.
 fn grow(directory: &mut [u32], t: usize)
     requires { ⌜ Held (now directory) t ⌝ }
-    ensures { λ r. ⌜ now (directory .exit) ≡ withLengths (oneMore t (directoryOf 64 (now (directory .entry)) .lengths)) (now (directory .entry)) ⌝ }
+    ensures { λ r. ⌜ now (directory .exit) ≡ withLengths (oneMore t (directoryOf blockLimit (now (directory .entry)) .lengths)) (now (directory .entry)) ⌝ }
 {
-    let i = 2 + t;
+    let i = LENGTHS + t;
     directory[i] = directory[i] + 1;
 }
 
 // One record fewer in partition t.
 fn shrink(directory: &mut [u32], t: usize)
-    requires { ⌜ Held (now directory) t × (1 ≤ getD (directoryOf 64 (now directory) .lengths) t 0) ⌝ }
-    ensures { λ r. ⌜ now (directory .exit) ≡ withLengths (oneFewer t (directoryOf 64 (now (directory .entry)) .lengths)) (now (directory .entry)) ⌝ }
+    requires { ⌜ Held (now directory) t × (1 ≤ getD (directoryOf blockLimit (now directory) .lengths) t 0) ⌝ }
+    ensures { λ r. ⌜ now (directory .exit) ≡ withLengths (oneFewer t (directoryOf blockLimit (now (directory .entry)) .lengths)) (now (directory .entry)) ⌝ }
 {
-    let i = 2 + t;
+    let i = LENGTHS + t;
     directory[i] = directory[i] - 1;
 }
 
@@ -258,7 +274,7 @@ fn not_opened(n: u32) -> Opened
 
 // Checks 2, 3, 6, 8 and 12 of an insert.
 fn open(directory: &[u32], g: &[u32], w: &[u32], y: &[u32], d: Delivery) -> Opened
-    ensures { λ r. ⌜ r ≡ openedOf (columnOf (now (directory .entry)) (now (g .entry)) (now (w .entry)) (now (y .entry))) d ⌝ }
+    ensures { λ r. ⌜ r ≡ openedOf (columnIn directory g w y) d ⌝ }
 {
     let shape = checks::lent(directory, g, w, y, d.grower);
     let n = shape.refusal;
@@ -283,9 +299,9 @@ fn open(directory: &[u32], g: &[u32], w: &[u32], y: &[u32], d: Delivery) -> Open
 // How many partitions there are from t to the last.
 fn onward(directory: &[u32], t: usize) -> u64
     requires { ⌜ Held (now directory) t ⌝ }
-    ensures { λ r. ⌜ r ≡ onward (directoryOf 64 (now (directory .entry))) t ⌝ }
+    ensures { λ r. ⌜ r ≡ onward (directoryOf blockLimit (now (directory .entry))) t ⌝ }
 {
-    (directory[1] as usize - t) as u64
+    (directory[COUNT] as usize - t) as u64
 }
 
 // The slots and the length of an insert into partition t, which starts at a.
@@ -299,12 +315,12 @@ fn put(
     used: usize,
     d: Delivery,
 )
-    requires { ⌜ Ready (columnOf (now directory) (now g) (now w) (now y)) t a × (used ≡ sumOf (directoryOf 64 (now directory) .lengths)) × (used < length (now g)) ⌝ }
-    ensures { λ r. ⌜ columnOf (now (directory .exit)) (now (g .exit)) (now (w .exit)) (now (y .exit))
-        ≡ putOf (columnOf (now (directory .entry)) (now (g .entry)) (now (w .entry)) (now (y .entry))) t d ⌝ }
+    requires { ⌜ Ready (columnOf (now directory) (now g) (now w) (now y)) t a × (used ≡ sumOf (directoryOf blockLimit (now directory) .lengths)) × (used < length (now g)) ⌝ }
+    ensures { λ r. ⌜ columnOut directory g w y
+        ≡ putOf (columnIn directory g w y) t d ⌝ }
 {
-    let l = 2 + directory[1] as usize;
-    ripple::insert_slots(g, w, y, &directory[2..l], t, a, used, d);
+    let l = LENGTHS + directory[COUNT] as usize;
+    ripple::insert_slots(g, w, y, &directory[LENGTHS..l], t, a, used, d);
     grow(directory, t);
 }
 
@@ -318,17 +334,17 @@ fn take_out(
     a: usize,
     i: usize,
 )
-    requires { ⌜ Ready (columnOf (now directory) (now g) (now w) (now y)) t a × (i < getD (directoryOf 64 (now directory) .lengths) t 0) ⌝ }
-    ensures { λ r. ⌜ columnOf (now (directory .exit)) (now (g .exit)) (now (w .exit)) (now (y .exit))
-        ≡ takenOf (columnOf (now (directory .entry)) (now (g .entry)) (now (w .entry)) (now (y .entry))) t i ⌝ }
+    requires { ⌜ Ready (columnOf (now directory) (now g) (now w) (now y)) t a × (i < getD (directoryOf blockLimit (now directory) .lengths) t 0) ⌝ }
+    ensures { λ r. ⌜ columnOut directory g w y
+        ≡ takenOf (columnIn directory g w y) t i ⌝ }
 {
-    let l = 2 + directory[1] as usize;
+    let l = LENGTHS + directory[COUNT] as usize;
     let freed = Delivery {
         grower: 0,
         weight: 0,
         oil_yield: 0,
     };
-    ripple::delete_slots(g, w, y, &directory[2..l], t, a, i, freed);
+    ripple::delete_slots(g, w, y, &directory[LENGTHS..l], t, a, i, freed);
     shrink(directory, t);
 }
 
@@ -344,18 +360,18 @@ fn shift_slots(
     u: usize,
     d: Delivery,
 )
-    requires { ⌜ Ready (columnOf (now directory) (now g) (now w) (now y)) t a × (i < getD (directoryOf 64 (now directory) .lengths) t 0) × (u < partitionCount 64 (now directory)) ⌝ }
-    ensures { λ r. ⌜ (now (g .exit) ≡ moved (directoryOf 64 (now (directory .entry)) .lengths) t i u (d .grower) (now (g .entry)))
-        × (now (w .exit) ≡ moved (directoryOf 64 (now (directory .entry)) .lengths) t i u (d .weight) (now (w .entry)))
-        × (now (y .exit) ≡ moved (directoryOf 64 (now (directory .entry)) .lengths) t i u (d .«oil_yield») (now (y .entry))) ⌝ }
+    requires { ⌜ Ready (columnOf (now directory) (now g) (now w) (now y)) t a × (i < getD (directoryOf blockLimit (now directory) .lengths) t 0) × (u < partitionCount blockLimit (now directory)) ⌝ }
+    ensures { λ r. ⌜ (now (g .exit) ≡ moved (directoryOf blockLimit (now (directory .entry)) .lengths) t i u (d .grower) (now (g .entry)))
+        × (now (w .exit) ≡ moved (directoryOf blockLimit (now (directory .entry)) .lengths) t i u (d .weight) (now (w .entry)))
+        × (now (y .exit) ≡ moved (directoryOf blockLimit (now (directory .entry)) .lengths) t i u (d .«oil_yield») (now (y .entry))) ⌝ }
 {
-    let l = 2 + directory[1] as usize;
+    let l = LENGTHS + directory[COUNT] as usize;
     if t <= u {
-        ripple::forward_slots(g, w, y, &directory[2..l], t, a, i, u, d);
+        ripple::forward_slots(g, w, y, &directory[LENGTHS..l], t, a, i, u, d);
         return;
     }
     let b = start_of(directory, u);
-    ripple::backward_slots(g, w, y, &directory[2..l], t, a, i, u, b, d);
+    ripple::backward_slots(g, w, y, &directory[LENGTHS..l], t, a, i, u, b, d);
 }
 
 // The slots and the lengths of a move of slot i of partition t, which starts at a, to partition u, as d.
@@ -370,9 +386,9 @@ fn shift(
     u: usize,
     d: Delivery,
 )
-    requires { ⌜ Ready (columnOf (now directory) (now g) (now w) (now y)) t a × (i < getD (directoryOf 64 (now directory) .lengths) t 0) × (u < partitionCount 64 (now directory)) ⌝ }
-    ensures { λ r. ⌜ columnOf (now (directory .exit)) (now (g .exit)) (now (w .exit)) (now (y .exit))
-        ≡ shiftedOf (columnOf (now (directory .entry)) (now (g .entry)) (now (w .entry)) (now (y .entry))) t i u d ⌝ }
+    requires { ⌜ Ready (columnOf (now directory) (now g) (now w) (now y)) t a × (i < getD (directoryOf blockLimit (now directory) .lengths) t 0) × (u < partitionCount blockLimit (now directory)) ⌝ }
+    ensures { λ r. ⌜ columnOut directory g w y
+        ≡ shiftedOf (columnIn directory g w y) t i u d ⌝ }
 {
     shift_slots(directory, g, w, y, t, a, i, u, d);
     shrink(directory, t);
@@ -399,8 +415,8 @@ pub fn insert(
     yields: &mut [u32],
     d: Delivery,
 ) -> Answer
-    ensures { λ r. ⌜ record { answer = r; column = columnOf (now (directory .exit)) (now (growers .exit)) (now (weights .exit)) (now (yields .exit)) }
-        ≡ columnCall 64 (columnOf (now (directory .entry)) (now (growers .entry)) (now (weights .entry)) (now (yields .entry))) (insert d) ⌝ }
+    ensures { λ r. ⌜ record { answer = r; column = columnOut directory growers weights yields }
+        ≡ columnCall blockLimit (columnIn directory growers weights yields) (insert d) ⌝ }
 {
     let o = open(directory, growers, weights, yields, d);
     let n = o.refusal;
@@ -426,8 +442,8 @@ pub fn delete(
     yields: &mut [u32],
     d: Delivery,
 ) -> Answer
-    ensures { λ r. ⌜ record { answer = r; column = columnOf (now (directory .exit)) (now (growers .exit)) (now (weights .exit)) (now (yields .exit)) }
-        ≡ columnCall 64 (columnOf (now (directory .entry)) (now (growers .entry)) (now (weights .entry)) (now (yields .entry))) (delete d) ⌝ }
+    ensures { λ r. ⌜ record { answer = r; column = columnOut directory growers weights yields }
+        ≡ columnCall blockLimit (columnIn directory growers weights yields) (delete d) ⌝ }
 {
     let f = locate(directory, growers, weights, yields, d);
     let s = f.counts;
@@ -460,8 +476,8 @@ pub fn move_delivery(
     d: Delivery,
     new_grower: u32,
 ) -> Answer
-    ensures { λ r. ⌜ record { answer = r; column = columnOf (now (directory .exit)) (now (growers .exit)) (now (weights .exit)) (now (yields .exit)) }
-        ≡ columnCall 64 (columnOf (now (directory .entry)) (now (growers .entry)) (now (weights .entry)) (now (yields .entry))) (move d «new_grower») ⌝ }
+    ensures { λ r. ⌜ record { answer = r; column = columnOut directory growers weights yields }
+        ≡ columnCall blockLimit (columnIn directory growers weights yields) (move d «new_grower») ⌝ }
 {
     let f = locate(directory, growers, weights, yields, d);
     let s = f.counts;
@@ -503,7 +519,7 @@ fn no_partition(n: u32) -> PartitionSlice
 
 // Where a grower's partition lies in the growers (01: the run call, by value).
 pub fn partition(directory: &[u32], growers: &[u32], grower: u32) -> PartitionSlice
-    ensures { λ r. ⌜ r ≡ partitionCall 64 (now (directory .entry)) (now (growers .entry)) grower ⌝ }
+    ensures { λ r. ⌜ r ≡ partitionCall blockLimit (now (directory .entry)) (now (growers .entry)) grower ⌝ }
 {
     let shape = checks::lent_growers(directory, growers, grower);
     let n = shape.refusal;
@@ -527,7 +543,7 @@ pub fn partition_slice<'a>(
     refusal: &mut u32,
 ) -> &'a [u32]
     ensures { λ r. ⌜ record { place = r .ptr; part = now r; refusal = now (refusal .exit) }
-        ≡ partOf (partitionCall 64 (now (directory .entry)) (now (growers .entry)) grower) (growers .entry .ptr) (now (growers .entry)) ⌝ }
+        ≡ partOf (partitionCall blockLimit (now (directory .entry)) (now (growers .entry)) grower) (growers .entry .ptr) (now (growers .entry)) ⌝ }
 {
     let p = partition(directory, growers, grower);
     *refusal = p.refusal;

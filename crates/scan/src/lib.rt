@@ -2,6 +2,7 @@
 ghost use mathlib.Core.Path.{_≡_};
 ghost use Prim.Native.Nat.{_+_, _-_, _≤_, _<_};
 ghost use lib.ListN.{length};
+ghost use Rattle.model.specs.Bounds.{blockLimit, mostSlots};
 ghost use Rattle.model.specs.Lists.{sumOf};
 ghost use Rattle.model.specs.Deliveries.{rows};
 ghost use Rattle.model.specs.Partitions.{startOf};
@@ -12,7 +13,7 @@ use model::Totals;
 
 // How many blocks a partition of n records counts as.
 pub fn blocks_of(n: usize, b: u32) -> u64
-    requires { ⌜ (1 ≤ b) × (n ≤ 262144) ⌝ }
+    requires { ⌜ (1 ≤ b) × (n ≤ mostSlots) ⌝ }
     ensures { λ r. ⌜ r ≡ blocksOf b n ⌝ }
 {
     if n == 0 {
@@ -54,7 +55,7 @@ fn bad_scan() -> Scan
 
 // A scan goes on to one more partition, of which it is handed its part of each slice.
 fn scan_more(s: Scan, g: &[u32], w: &[u32], y: &[u32], b: u32, lo: u32, hi: u32) -> Scan
-    requires { ⌜ (length (now g) ≤ 262144) × (length (now w) ≡ length (now g)) × (length (now y) ≡ length (now g)) × (1 ≤ b) × Light 262144 64 s ⌝ }
+    requires { ⌜ (length (now g) ≤ mostSlots) × (length (now w) ≡ length (now g)) × (length (now y) ≡ length (now g)) × (1 ≤ b) × Light mostSlots blockLimit s ⌝ }
     ensures { λ r. ⌜ r ≡ scanMore b lo hi s (rows (now (g .entry)) (now (w .entry)) (now (y .entry))) ⌝ }
 {
     if !s.good {
@@ -86,8 +87,8 @@ pub fn scan_parts(
     lo: u32,
     hi: u32,
 ) -> Scan
-    requires { ⌜ (p ≤ q) × (q < length (now lens)) × (length (now lens) ≤ 64) × (sumOf (now lens) ≤ length (now g)) × (1 ≤ b) × (start ≡ startOf (now lens) p) ⌝ }
-    requires { ⌜ (length (now g) ≤ 262144) × (length (now w) ≡ length (now g)) × (length (now y) ≡ length (now g)) ⌝ }
+    requires { ⌜ (p ≤ q) × (q < length (now lens)) × (length (now lens) ≤ blockLimit) × (sumOf (now lens) ≤ length (now g)) × (1 ≤ b) × (start ≡ startOf (now lens) p) ⌝ }
+    requires { ⌜ (length (now g) ≤ mostSlots) × (length (now w) ≡ length (now g)) × (length (now y) ≡ length (now g)) ⌝ }
     ensures { λ r. ⌜ r ≡ scanOf b (now (lens .entry)) p (q + 1 - p) lo hi (rows (now (g .entry)) (now (w .entry)) (now (y .entry))) ⌝ }
 {
     let mut at = start;

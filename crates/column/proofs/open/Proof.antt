@@ -4,7 +4,7 @@ use native.Mathlib.Omega.{arith}
 use borrow.Author.Needs.{needs}
 use borrow.Author.Tests.{not-true, not-false}
 use Rattle.model.specs.Questions.{lentChecks}
-use Rattle.checks.specs.Lent.{columnOf}
+use Rattle.model.specs.Lent.{columnOf}
 use Rattle.checks.proofs.Answers.{shape-refusal, carried}
 use Rattle.column.proofs.Writing.{opened-lent, opened-range, opened-full, opened-yes}
 use Rattle.column.proofs.open.Statement.{statement}

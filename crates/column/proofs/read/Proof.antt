@@ -6,7 +6,7 @@ use borrow.Author.Needs.{needs}
 use borrow.Author.Tests.{not-true, not-false}
 use lib.ListN.{getD}
 use Rattle.model.specs.Column.{slots, lengthsOf, target}
-use Rattle.checks.specs.Lent.{columnOf}
+use Rattle.model.specs.Lent.{columnOf}
 use Rattle.scan.specs.Scans.{scanOf}
 use Rattle.column.proofs.LentColumns.{lent-column, the-lengths, count-lengths, held-directory}
 use Rattle.column.proofs.Reading.{good-scan, blocks-some, target-there, targets-ordered, range-bad, range-good}

@@ -3,7 +3,7 @@ use native.Mathlib.Omega.{arith}
 use borrow.Author.Needs.{needs}
 use Rattle.model.specs.Column.{lengthsOf}
 use Rattle.model.specs.Partitions.{oneMore, oneFewer}
-use Rattle.checks.specs.Lent.{columnOf}
+use Rattle.model.specs.Lent.{columnOf}
 use Rattle.column.proofs.Writing.{held-after, twice, column-is}
 use Rattle.model.specs.Moves.{moved}
 use Rattle.column.proofs.shift.Statement.{statement}

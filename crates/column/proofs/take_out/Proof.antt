@@ -3,7 +3,7 @@ use native.Mathlib.Omega.{arith}
 use borrow.Author.Needs.{needs}
 use Rattle.model.specs.Column.{lengthsOf}
 use Rattle.model.specs.Partitions.{oneFewer}
-use Rattle.checks.specs.Lent.{columnOf}
+use Rattle.model.specs.Lent.{columnOf}
 use Rattle.column.proofs.LentColumns.{dir-size, dir-few}
 use Rattle.column.proofs.Writing.{column-is}
 use Rattle.model.specs.Moves.{deleted}
