@@ -13,6 +13,7 @@ use Rattle.model.specs.Checks.{firstFailed}
 use Rattle.model.specs.Blocks.{blockLengthOk, slotsOk, slicesOk}
 use Rattle.model.specs.Partitions.{startOf}
 use Rattle.model.specs.Directory.{directoryOf, directoryBlockOk, directoryOk}
+use Rattle.model.specs.Lent.{Even}
 use Rattle.model.specs.Column.{Column, lengthsOf, fencesOf}
 use Rattle.model.specs.Questions.{lentChecks}
 use Rattle.model.proofs.Tests.{and-fst, and-snd, yes-first}
@@ -26,8 +27,7 @@ pub record LentColumn (c : Column) : Type 0 where
   pub shape : Shaped 64 (length (c .growers)) (c .directory)
   pub block : 1 ≤ getD (c .directory) 0 0
   pub most : length (c .growers) ≤ 262144
-  pub even-weights : length (c .weights) ≡ length (c .growers)
-  pub even-yields : length (c .yields) ≡ length (c .growers)
+  pub even : Even (c .growers) (c .weights) (c .yields)
 
 directory-block : (ns : List ℕ) → length ns ≡ 130 → T (directoryBlockOk 64 ns) → T (blockLengthOk (getD ns 0 0))
 unfolding directoryBlockOk
@@ -48,8 +48,10 @@ lent-column c h =
       shape = s;
       block = leb→le 1 (getD (c .directory) 0 0) (and-fst (leb 1 (getD (c .directory) 0 0)) (leb (getD (c .directory) 0 0) 4096) b);
       most = leb→le n 262144 (and-snd (leb 1 n) (leb n 262144) m);
-      even-weights = eqb→eq (length (c .weights)) n (and-fst (eqb (length (c .weights)) n) (eqb (length (c .yields)) n) e);
-      even-yields = eqb→eq (length (c .yields)) n (and-snd (eqb (length (c .weights)) n) (eqb (length (c .yields)) n) e);
+      even = record {
+        weights = eqb→eq (length (c .weights)) n (and-fst (eqb (length (c .weights)) n) (eqb (length (c .yields)) n) e);
+        yields = eqb→eq (length (c .yields)) n (and-snd (eqb (length (c .weights)) n) (eqb (length (c .yields)) n) e);
+      };
     }
 
 module _ (c : Column) (l : LentColumn c) where

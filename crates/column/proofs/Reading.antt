@@ -17,6 +17,7 @@ use Rattle.model.specs.Deliveries.{inRange, totalsBetween}
 use Rattle.model.specs.Calls.{range}
 use Rattle.model.specs.Partitions.{startOf, between}
 use Rattle.model.specs.Directory.{directoryOf}
+use Rattle.model.specs.Lent.{Even}
 use Rattle.model.specs.Column.{Column, slots, lengthsOf, fencesOf, target, scannedOk}
 use Rattle.model.specs.Accesses.{noCounts, blocksOf, readsOf, scanCounts, blocksScanned, callCounts}
 use Rattle.model.specs.Questions.{lentChecks, callChecks}
@@ -109,8 +110,7 @@ pub record Near (c : Column) (g a n : ℕ) : Type 0 where
   pub count : n ≡ getD (lengthsOf 64 c) (target 64 c g) 0
   pub inside : a + n ≤ length (c .growers)
   pub most : length (c .growers) ≤ 262144
-  pub even-weights : length (c .weights) ≡ length (c .growers)
-  pub even-yields : length (c .yields) ≡ length (c .growers)
+  pub even : Even (c .growers) (c .weights) (c .yields)
 
 module _ (c : Column) (g : ℕ) (s : Shape) (w : Carried (lentChecks 64 c) (c .directory) g s) where
   pub near-held : Held (c .directory) (s .target)
@@ -125,6 +125,5 @@ module _ (c : Column) (g : ℕ) (s : Shape) (w : Carried (lentChecks 64 c) (c .d
         count = k;
         inside = omega (arith, w .start, stop-le (lengthsOf 64 c) (target 64 c g) (target-there c (w .passed) g), l .shape .room);
         most = l .most;
-        even-weights = l .even-weights;
-        even-yields = l .even-yields;
+        even = l .even;
       }

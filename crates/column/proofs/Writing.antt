@@ -135,7 +135,7 @@ by-number (suc n) P f g = g (λ e. omega arith)
 pub ready : (c : Column) (g : ℕ) → firstFailed (lentChecks 64 c) ≡ 0 → Ready c (target 64 c g) (startOf (lengthsOf 64 c) (target 64 c g))
 ready c g h =
     let l = lent-column c h in
-    record { here = held c l (target 64 c g) (target-there c h g); start = refl; room = l .shape .room; even-weights = l .even-weights; even-yields = l .even-yields }
+    record { here = held c l (target 64 c g) (target-there c h g); start = refl; room = l .shape .room; even = l .even }
 
 module _ (c : Column) (d : Delivery) where
   -- an insert is refused by 2, 3, 6, 8 or 12

@@ -15,6 +15,7 @@ use Rattle.model.specs.Calls.{insert, delete}
 use Rattle.model.specs.Partitions.{startOf, oneMore, oneFewer}
 use Rattle.model.specs.Moves.{inserted, deleted, moved}
 use Rattle.model.specs.Directory.{partitionCount, directoryOf, directoryOk}
+use Rattle.model.specs.Lent.{Even}
 use Rattle.model.specs.Column.{Column, lengthsOf, target}
 use Rattle.model.specs.Accesses.{noCounts, blocksOf, readsOf, scanNear}
 use Rattle.model.specs.ColumnCalls.{columnRefusal, slotOf, freed, moveSlices}
@@ -57,8 +58,7 @@ pub record Ready (c : Column) (t a : ℕ) : Type 0 where
   pub here : Held (c .directory) t
   pub start : a ≡ startOf (lengthsOf 64 c) t
   pub room : sumOf (lengthsOf 64 c) ≤ length (c .growers)
-  pub even-weights : length (c .weights) ≡ length (c .growers)
-  pub even-yields : length (c .yields) ≡ length (c .growers)
+  pub even : Even (c .growers) (c .weights) (c .yields)
 
 -- where an insert goes, or its refusal
 abbrev pub notOpened : ℕ → Opened

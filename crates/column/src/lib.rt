@@ -16,7 +16,7 @@ ghost use Rattle.model.specs.Directory.{partitionCount, directoryOf, directoryO
 ghost use Rattle.model.specs.Accesses.{noCounts, andAlso, onward, apart};
 ghost use Rattle.model.specs.Questions.{lentChecks};
 ghost use Rattle.model.specs.ColumnCalls.{columnCall, partitionCall};
-ghost use Rattle.model.specs.Lent.{columnOf, columnIn, columnOut};
+ghost use Rattle.model.specs.Lent.{columnOf, columnIn, columnOut, Even};
 ghost use Rattle.column.specs.Answers.{withoutTotals, notLocated, searchedOf, locatedOf, notOpened, openedOf, Held, Ready, putOf, takenOf, shiftedOf, partOf};
 use model::Answer;
 use model::BLOCK;
@@ -93,7 +93,8 @@ fn read(
     lo: u32,
     hi: u32,
 ) -> Answer
-    requires { ⌜ (firstFailed (lentChecks blockLimit (columnOf (now directory) (now g) (now w) (now y))) ≡ 0) × (lo ≤ hi) × (p ≡ place (directoryOf blockLimit (now directory) .fences) lo) × (a ≡ startOf (directoryOf blockLimit (now directory) .lengths) p) ⌝ }
+    requires { ⌜ (firstFailed (lentChecks blockLimit (columnOf (now directory) (now g) (now w) (now y))) ≡ 0) × (lo ≤ hi)
+        × (p ≡ place (directoryOf blockLimit (now directory) .fences) lo) × (a ≡ startOf (directoryOf blockLimit (now directory) .lengths) p) ⌝ }
     ensures { λ r. ⌜ r ≡ columnCall blockLimit (columnIn directory g w y) (range lo hi) .answer ⌝ }
 {
     let l = LENGTHS + directory[COUNT] as usize;
@@ -197,7 +198,7 @@ fn not_located(n: u32) -> Located
 
 // Checks 8 and 13 in partition t, which starts at a, of which it is handed its part of each slice.
 fn search_part(g: &[u32], w: &[u32], y: &[u32], b: u32, t: usize, a: usize, d: Delivery) -> Located
-    requires { ⌜ (length (now g) ≤ mostSlots) × (length (now w) ≡ length (now g)) × (length (now y) ≡ length (now g)) × (1 ≤ b) ⌝ }
+    requires { ⌜ (length (now g) ≤ mostSlots) × Even (now g) (now w) (now y) × (1 ≤ b) ⌝ }
     ensures { λ r. ⌜ r ≡ searchedOf b t a d (rows (now (g .entry)) (now (w .entry)) (now (y .entry))) ⌝ }
 {
     if !checks::values_ok(w, y) {
@@ -315,7 +316,8 @@ fn put(
     used: usize,
     d: Delivery,
 )
-    requires { ⌜ Ready (columnOf (now directory) (now g) (now w) (now y)) t a × (used ≡ sumOf (directoryOf blockLimit (now directory) .lengths)) × (used < length (now g)) ⌝ }
+    requires { ⌜ Ready (columnOf (now directory) (now g) (now w) (now y)) t a × (used ≡ sumOf (directoryOf blockLimit (now directory) .lengths))
+        × (used < length (now g)) ⌝ }
     ensures { λ r. ⌜ columnOut directory g w y
         ≡ putOf (columnIn directory g w y) t d ⌝ }
 {
@@ -360,7 +362,8 @@ fn shift_slots(
     u: usize,
     d: Delivery,
 )
-    requires { ⌜ Ready (columnOf (now directory) (now g) (now w) (now y)) t a × (i < getD (directoryOf blockLimit (now directory) .lengths) t 0) × (u < partitionCount blockLimit (now directory)) ⌝ }
+    requires { ⌜ Ready (columnOf (now directory) (now g) (now w) (now y)) t a × (i < getD (directoryOf blockLimit (now directory) .lengths) t 0)
+        × (u < partitionCount blockLimit (now directory)) ⌝ }
     ensures { λ r. ⌜ (now (g .exit) ≡ moved (directoryOf blockLimit (now (directory .entry)) .lengths) t i u (d .grower) (now (g .entry)))
         × (now (w .exit) ≡ moved (directoryOf blockLimit (now (directory .entry)) .lengths) t i u (d .weight) (now (w .entry)))
         × (now (y .exit) ≡ moved (directoryOf blockLimit (now (directory .entry)) .lengths) t i u (d .«oil_yield») (now (y .entry))) ⌝ }
@@ -386,7 +389,8 @@ fn shift(
     u: usize,
     d: Delivery,
 )
-    requires { ⌜ Ready (columnOf (now directory) (now g) (now w) (now y)) t a × (i < getD (directoryOf blockLimit (now directory) .lengths) t 0) × (u < partitionCount blockLimit (now directory)) ⌝ }
+    requires { ⌜ Ready (columnOf (now directory) (now g) (now w) (now y)) t a × (i < getD (directoryOf blockLimit (now directory) .lengths) t 0)
+        × (u < partitionCount blockLimit (now directory)) ⌝ }
     ensures { λ r. ⌜ columnOut directory g w y
         ≡ shiftedOf (columnIn directory g w y) t i u d ⌝ }
 {

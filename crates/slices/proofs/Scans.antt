@@ -62,7 +62,7 @@ running-start f g w y = omega arith
 module _ (f : Delivery → Bool) (g w y : List ℕ) (m : Measured g w y) (records weight oil i : ℕ) (h : i < length g) (t : Running f g w y records weight oil i) where
   step : (b : Bool) → f (rowAt g w y i) ≡ b → rest f g w y i ≡ cond b (rowAt g w y i ∷ rest f g w y (i + 1)) (rest f g w y (i + 1))
   unfolding rest keep
-  step b e = rw (rows-from g w y i h (m .even-weights) (m .even-yields), e)
+  step b e = rw (rows-from g w y i h (m .even .weights) (m .even .yields), e)
 
   pub running-take : f (rowAt g w y i) ≡ true → Running f g w y (records + 1) (weight + getD w i 0) (oil + getD w i 0 * getD y i 0) (i + 1)
   unfolding sumOf

@@ -1,14 +1,14 @@
 -- Tests of all numbers of a slice and of one record, and totals.
 use Prim.Native.Nat.{ℕ, _+_, _*_, _≤_}
-use mathlib.Core.Path.{_≡_}
 use mathlib.Core.Bool.{Bool, _&&_}
 use mathlib.Core.List.{List}
 use lib.ListN.{length, getD}
 use lib.Dec.{T, leb, eqb}
 use Rattle.model.specs.declared.Delivery.{Delivery}
 use Rattle.model.specs.declared.Totals.{Totals}
-use Rattle.model.specs.Bounds.{mostWeight, mostYield}
+use Rattle.model.specs.Bounds.{mostWeight, mostYield, mostSlots}
 use Rattle.model.specs.Lists.{every, keep}
+use Rattle.model.specs.Lent.{Even}
 use Rattle.model.specs.Deliveries.{delivery, same}
 
 -- none is above m
@@ -29,9 +29,8 @@ countBetween lo hi s = length (keep (λ (n : ℕ). leb lo n && leb n hi) s)
 
 -- three slices of one length, every weight and yield in range
 pub record Measured (g w y : List ℕ) : Type 0 where
-  pub few : length g ≤ 262144
-  pub even-weights : length w ≡ length g
-  pub even-yields : length y ≡ length g
+  pub few : length g ≤ mostSlots
+  pub even : Even g w y
   pub good-weights : T (allWithin mostWeight w)
   pub good-yields : T (allWithin mostYield y)
 

@@ -6,6 +6,7 @@ ghost use lib.ListN.{length};
 ghost use lib.Dec.{T};
 ghost use Rattle.model.specs.Bounds.{blockLimit, mostSlots};
 ghost use Rattle.model.specs.Lists.{sumOf, rising, neverFalls};
+ghost use Rattle.model.specs.Lent.{Even};
 ghost use Rattle.model.specs.Place.{place};
 ghost use Rattle.model.specs.Partitions.{startOf};
 ghost use Rattle.model.specs.Deliveries.{rows, noTotals, totalsOf, totalsBetween, firstMatch};
@@ -285,7 +286,7 @@ pub fn totals(g: &[u32], w: &[u32], y: &[u32], lo: u32, hi: u32) -> Totals
 
 // Whether record i is the delivery.
 fn is_same(g: &[u32], w: &[u32], y: &[u32], i: usize, d: Delivery) -> bool
-    requires { ⌜ (i < length (now g)) × (length (now w) ≡ length (now g)) × (length (now y) ≡ length (now g)) ⌝ }
+    requires { ⌜ (i < length (now g)) × Even (now g) (now w) (now y) ⌝ }
     ensures { λ r. ⌜ r ≡ sameAt d (now (g .entry)) (now (w .entry)) (now (y .entry)) i ⌝ }
 {
     if d.grower != g[i] {
@@ -299,7 +300,7 @@ fn is_same(g: &[u32], w: &[u32], y: &[u32], i: usize, d: Delivery) -> bool
 
 // The first record that is the delivery, or how many there are; each tested.
 fn first_tested(g: &[u32], w: &[u32], y: &[u32], d: Delivery) -> usize
-    requires { ⌜ (length (now w) ≡ length (now g)) × (length (now y) ≡ length (now g)) ⌝ }
+    requires { ⌜ Even (now g) (now w) (now y) ⌝ }
     ensures { λ r. ⌜ r ≡ firstMatch d (rows (now (g .entry)) (now (w .entry)) (now (y .entry))) ⌝ }
 {
     let mut i = 0;
@@ -314,7 +315,7 @@ fn first_tested(g: &[u32], w: &[u32], y: &[u32], d: Delivery) -> usize
 
 // The first record that is the delivery, or how many there are. Only where the delivery's grower is among them are the records tested.
 fn first_in_stride(g: &[u32], w: &[u32], y: &[u32], d: Delivery) -> usize
-    requires { ⌜ (length (now g) ≤ mostSlots) × (length (now w) ≡ length (now g)) × (length (now y) ≡ length (now g)) ⌝ }
+    requires { ⌜ (length (now g) ≤ mostSlots) × Even (now g) (now w) (now y) ⌝ }
     ensures { λ r. ⌜ r ≡ firstMatch d (rows (now (g .entry)) (now (w .entry)) (now (y .entry))) ⌝ }
 {
     if count_between(g, d.grower, d.grower) < 1 {
@@ -325,7 +326,7 @@ fn first_in_stride(g: &[u32], w: &[u32], y: &[u32], d: Delivery) -> usize
 
 // The first record that is the delivery, or how many there are; a stride at a time.
 pub fn first_match(g: &[u32], w: &[u32], y: &[u32], d: Delivery) -> usize
-    requires { ⌜ (length (now w) ≡ length (now g)) × (length (now y) ≡ length (now g)) ⌝ }
+    requires { ⌜ Even (now g) (now w) (now y) ⌝ }
     ensures { λ r. ⌜ r ≡ firstMatch d (rows (now (g .entry)) (now (w .entry)) (now (y .entry))) ⌝ }
 {
     let mut i = 0;

@@ -30,7 +30,7 @@ part-insert-slots-end : tie.Need-part-insert-slots-end
 part-insert-slots-end c = let g = (c .before .before .before .before .before .before .before .before .before .args) in omega (arith, dir-size (g .directory .now) (((c .before .before .before .before .before .before .before .before .before .pre) .0 .here) .shaped), dir-few (g .directory .now) (((c .before .before .before .before .before .before .before .before .before .pre) .0 .here) .shaped))
 
 insert-slots-requires : tie.Need-insert-slots-requires
-insert-slots-requires c κs = let g = (c .before .before .before .before .before .before .before .before .before .before .args) in let m = dir-many (g .directory .now) (((c .before .before .before .before .before .before .before .before .before .before .pre) .0 .here) .shaped) in rw (dir-lengths (g .directory .now) (((c .before .before .before .before .before .before .before .before .before .before .pre) .0 .here) .shaped)) (omega (arith, m, ((c .before .before .before .before .before .before .before .before .before .before .pre) .0 .here) .there), (c .before .before .before .before .before .before .before .before .before .before .pre) .0 .start, (c .before .before .before .before .before .before .before .before .before .before .pre) .1, (c .before .before .before .before .before .before .before .before .before .before .pre) .2, (c .before .before .before .before .before .before .before .before .before .before .pre) .0 .even-weights, (c .before .before .before .before .before .before .before .before .before .before .pre) .0 .even-yields)
+insert-slots-requires c κs = let g = (c .before .before .before .before .before .before .before .before .before .before .args) in let m = dir-many (g .directory .now) (((c .before .before .before .before .before .before .before .before .before .before .pre) .0 .here) .shaped) in rw (dir-lengths (g .directory .now) (((c .before .before .before .before .before .before .before .before .before .before .pre) .0 .here) .shaped)) (omega (arith, m, ((c .before .before .before .before .before .before .before .before .before .before .pre) .0 .here) .there), (c .before .before .before .before .before .before .before .before .before .before .pre) .0 .start, (c .before .before .before .before .before .before .before .before .before .before .pre) .1, (c .before .before .before .before .before .before .before .before .before .before .pre) .2, (c .before .before .before .before .before .before .before .before .before .before .pre) .0 .even)
 
 grow-requires : tie.Need-grow-requires
 grow-requires c κs = search needs

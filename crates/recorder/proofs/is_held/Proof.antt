@@ -19,7 +19,7 @@ first-match-requires : tie.Need-first-match-requires
 first-match-requires c κs =
     let g = c .before .before .before .before .before .before .args in
     let n = length-take-le (g .used) (g .g .now) (omega arith) in
-    (length-take-le (g .used) (g .w .now) (omega arith) ∙ sym n, length-take-le (g .used) (g .y .now) (omega arith) ∙ sym n)
+    record { weights = length-take-le (g .used) (g .w .now) (omega arith) ∙ sym n; yields = length-take-le (g .used) (g .y .now) (omega arith) ∙ sym n }
 
 returns : tie.Need-returns
 returns c =
