@@ -26,22 +26,13 @@ use model::Delivery;
 use model::FENCES;
 use model::LENGTHS;
 use model::PartitionSlice;
-
-fn no_counts() -> Counts
-    ensures { λ r. ⌜ r ≡ noCounts ⌝ }
-{
-    Counts {
-        rr: 0,
-        sr: 0,
-        rw: 0,
-    }
-}
+use model::Totals;
 
 // An answer that has no totals: an accepted insert, delete or move, and every refusal.
 fn without_totals(n: u32, counts: Counts) -> Answer
     ensures { λ r. ⌜ r ≡ withoutTotals n counts ⌝ }
 {
-    let totals = slices::no_totals();
+    let totals = Totals::none();
     Answer {
         refusal: n,
         counts,
@@ -53,7 +44,7 @@ fn without_totals(n: u32, counts: Counts) -> Answer
 fn refused(n: u32) -> Answer
     ensures { λ r. ⌜ r ≡ withoutTotals n noCounts ⌝ }
 {
-    without_totals(n, no_counts())
+    without_totals(n, Counts::none())
 }
 
 // A grower's partition.
@@ -193,7 +184,7 @@ fn not_located_after(n: u32, scanned: Counts) -> Located
 fn not_located(n: u32) -> Located
     ensures { λ r. ⌜ r ≡ notLocated n noCounts ⌝ }
 {
-    not_located_after(n, no_counts())
+    not_located_after(n, Counts::none())
 }
 
 // Checks 8 and 13 in partition t, which starts at a, of which it is handed its part of each slice.

@@ -13,7 +13,7 @@ use Rattle.model.specs.declared.Totals.{Totals}
 use Rattle.model.specs.Bounds.{blockLimit, mostSlots}
 use Rattle.model.specs.Lent.{Even}
 use Rattle.model.specs.Lists.{sumOf, every, keep}
-use Rattle.model.specs.Deliveries.{inRange, noTotals, totalsOf, totalsBetween, rows}
+use Rattle.model.specs.Deliveries.{plusTotals, inRange, noTotals, totalsOf, totalsBetween, rows}
 use Rattle.model.specs.Partitions.{parts, part, startOf}
 use Rattle.model.specs.Accesses.{blocksOf}
 use Rattle.model.proofs.Tests.{and-fst, and-snd, of-true}
@@ -22,7 +22,7 @@ use Rattle.model.proofs.Parts.{flatten-parts, take-parts, drop-parts, part-part
 use Rattle.model.proofs.Deliveries.{values-rows, rows-part}
 use Rattle.checks.specs.Lent.{allValuesOk}
 use Rattle.scan.specs.declared.Scan.{Scan}
-use Rattle.slices.specs.Slices.{Measured, plusTotals}
+use Rattle.slices.specs.Slices.{Measured}
 use Rattle.slices.proofs.Sums.{totals-joined, totals-light}
 use Rattle.scan.specs.Scans.{badScan, scanMore, recordsIn, scanOf, Light}
 use Rattle.scan.proofs.Blocks.{blocks-most}

@@ -46,7 +46,7 @@ pub struct Scan {
 fn bad_scan() -> Scan
     ensures { λ r. ⌜ r ≡ badScan ⌝ }
 {
-    let totals = slices::no_totals();
+    let totals = Totals::none();
     Scan {
         good: false,
         totals,
@@ -66,7 +66,7 @@ fn scan_more(s: Scan, g: &[u32], w: &[u32], y: &[u32], block: u32, lo: u32, hi: 
         return bad_scan();
     }
     let more = slices::totals(g, w, y, lo, hi);
-    let totals = slices::plus(s.totals, more);
+    let totals = s.totals.plus(more);
     let blocks = s.blocks + blocks_of(g.len(), block);
     Scan {
         good: true,
@@ -95,7 +95,7 @@ pub fn scan_parts(
 {
     let mut at = start;
     let mut i = from;
-    let none = slices::no_totals();
+    let none = Totals::none();
     let mut s = Scan {
         good: true,
         totals: none,

@@ -13,11 +13,11 @@ use Rattle.model.specs.declared.Totals.{Totals}
 use Rattle.model.specs.Bounds.{mostSlots}
 use Rattle.model.specs.Lent.{Even}
 use Rattle.model.specs.Lists.{sumOf, every, keep}
-use Rattle.model.specs.Deliveries.{inRange, matches, rows, noTotals, totalsOf, totalsBetween}
+use Rattle.model.specs.Deliveries.{LightTotals, plusTotals, inRange, matches, rows, noTotals, totalsOf, totalsBetween}
 use Rattle.model.proofs.Tests.{and-fst, and-snd, and-mk, is-true}
 use Rattle.model.proofs.ListLaws.{sum-append, keep-append, every-part, keep-fewer}
 use Rattle.model.proofs.Deliveries.{values-rows, rows-part, length-rows}
-use Rattle.slices.specs.Slices.{allWithin, countBetween, Measured, LightTotals, plusTotals}
+use Rattle.slices.specs.Slices.{allWithin, countBetween, Measured}
 
 -- Totals of records that were joined.
 

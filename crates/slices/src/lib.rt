@@ -9,8 +9,8 @@ ghost use Rattle.model.specs.Lists.{sumOf, rising, neverFalls};
 ghost use Rattle.model.specs.Lent.{Even};
 ghost use Rattle.model.specs.Place.{place};
 ghost use Rattle.model.specs.Partitions.{startOf};
-ghost use Rattle.model.specs.Deliveries.{rows, noTotals, totalsOf, totalsBetween, firstMatch};
-ghost use Rattle.slices.specs.Slices.{allWithin, allZero, sameAt, countBetween, Measured, LightTotals, plusTotals};
+ghost use Rattle.model.specs.Deliveries.{rows, totalsOf, totalsBetween, firstMatch};
+ghost use Rattle.slices.specs.Slices.{allWithin, allZero, sameAt, countBetween, Measured};
 use model::Delivery;
 use model::Totals;
 
@@ -157,28 +157,6 @@ pub fn surveyed(lens: &[u32], fences: &[u32], g: u32) -> Survey
     }
 }
 
-pub fn no_totals() -> Totals
-    ensures { λ r. ⌜ r ≡ noTotals ⌝ }
-{
-    Totals {
-        records: 0,
-        weight: 0,
-        oil: 0,
-    }
-}
-
-// The totals of two lists of records.
-pub fn plus(a: Totals, b: Totals) -> Totals
-    requires { ⌜ LightTotals mostSlots a × LightTotals mostSlots b ⌝ }
-    ensures { λ r. ⌜ r ≡ plusTotals a b ⌝ }
-{
-    Totals {
-        records: a.records + b.records,
-        weight: a.weight + b.weight,
-        oil: a.oil + b.oil,
-    }
-}
-
 // How many growers are lo to hi.
 fn count_between(g: &[u32], lo: u32, hi: u32) -> usize
     requires { ⌜ length (now g) ≤ mostSlots ⌝ }
@@ -258,7 +236,7 @@ fn total_stride(g: &[u32], w: &[u32], y: &[u32], lo: u32, hi: u32) -> Totals
 {
     let n = count_between(g, lo, hi);
     if n < 1 {
-        return no_totals();
+        return Totals::none();
     }
     if n == g.len() {
         return total_all(g, w, y);
@@ -271,17 +249,17 @@ pub fn totals(g: &[u32], w: &[u32], y: &[u32], lo: u32, hi: u32) -> Totals
     requires { ⌜ Measured (now g) (now w) (now y) ⌝ }
     ensures { λ r. ⌜ r ≡ totalsBetween lo hi (rows (now (g .entry)) (now (w .entry)) (now (y .entry))) ⌝ }
 {
-    let mut t = no_totals();
+    let mut t = Totals::none();
     let mut i = 0;
     while STRIDE <= g.len() - i {
         let e = i + STRIDE;
         let u = total_stride(&g[i..e], &w[i..e], &y[i..e], lo, hi);
-        t = plus(t, u);
+        t = t.plus(u);
         i = e;
     }
     let e = g.len();
     let u = total_tested(&g[i..e], &w[i..e], &y[i..e], lo, hi);
-    plus(t, u)
+    t.plus(u)
 }
 
 // Whether record i is the delivery.

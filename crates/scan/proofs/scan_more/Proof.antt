@@ -4,9 +4,9 @@ use native.Mathlib.Omega.{arith}
 use borrow.Author.Needs.{needs}
 use borrow.Author.Tests.{not-true, not-false}
 use lib.ListN.{length}
+use Rattle.model.specs.Deliveries.{plusTotals}
 use Rattle.model.specs.Accesses.{blocksOf}
 use Rattle.model.proofs.Deliveries.{length-rows}
-use Rattle.slices.specs.Slices.{plusTotals}
 use Rattle.slices.proofs.Sums.{measured-light}
 use Rattle.scan.proofs.Blocks.{blocks-most}
 use Rattle.scan.proofs.Scanning.{measured, more-after-bad, more-bad, more-good}

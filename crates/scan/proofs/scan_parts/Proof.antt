@@ -17,11 +17,11 @@ Inv-loop g w y lens from to start block lo hi at₀ i₀ s₀ at i s = Scanning 
 abbrev μ-loop : tie.MeasureT-loop
 μ-loop g w y lens from to start block lo hi at₀ i₀ s₀ at i s = to + 1 - i
 
-no-totals-requires : tie.Need-no-totals-requires Inv-loop μ-loop
-no-totals-requires c κs = search needs
+none-requires : tie.Need-none-requires Inv-loop μ-loop
+none-requires c κs = search needs
 
 loop-holds : tie.Need-loop-holds Inv-loop μ-loop
-loop-holds c = let g = c .before .before .before .before .before .args in rw (c .no-totals .ensures) (scanning-start (g .block) (g .lens .now) (g .from) (g .to) (g .lo) (g .hi) (rows (g .g .now) (g .w .now) (g .y .now)) (g .start) (omega arith) (c .before .before .before .before .before .pre .0 .5))
+loop-holds c = let g = c .before .before .before .before .before .args in rw (c .none .ensures) (scanning-start (g .block) (g .lens .now) (g .from) (g .to) (g .lo) (g .hi) (rows (g .g .now) (g .w .now) (g .y .now)) (g .start) (omega arith) (c .before .before .before .before .before .pre .0 .5))
 
 mul-e : tie.Need-mul-e Inv-loop μ-loop
 mul-e c = search needs
@@ -102,7 +102,7 @@ scan-parts-spec =
     (tie.spec
     Inv-loop
     μ-loop
-    no-totals-requires
+    none-requires
     loop-holds
     mul-e
     shared-slice-read-e

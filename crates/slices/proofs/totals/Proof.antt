@@ -14,11 +14,11 @@ Inv-loop g w y lo hi t₀ i₀ t i = Adding lo hi g w y t i
 abbrev μ-loop : tie.MeasureT-loop
 μ-loop g w y lo hi t₀ i₀ t i = length g - i
 
-no-totals-requires : tie.Need-no-totals-requires Inv-loop μ-loop
-no-totals-requires c κs = search needs
+none-requires : tie.Need-none-requires Inv-loop μ-loop
+none-requires c κs = search needs
 
 loop-holds : tie.Need-loop-holds Inv-loop μ-loop
-loop-holds c = adding-start _ _ _ _ _ _ (c .no-totals .ensures)
+loop-holds c = adding-start _ _ _ _ _ _ (c .none .ensures)
 
 sub-loop : tie.Need-sub-loop Inv-loop μ-loop
 sub-loop c = omega (arith, c .loop .inv .at)
@@ -125,7 +125,7 @@ totals-spec =
     (tie.spec
     Inv-loop
     μ-loop
-    no-totals-requires
+    none-requires
     loop-holds
     sub-loop
     add-e
