@@ -18,7 +18,7 @@ use Rattle.model.proofs.Tests.{and-snd, yes-first}
 use Rattle.model.proofs.Places.{placed}
 use Rattle.model.proofs.Parts.{stop-le}
 use Rattle.model.proofs.DirectoryLaws.{Shaped, shaped, shaped-passes}
-use Rattle.column.specs.Answers.{Held, Part, partOf}
+use Rattle.column.specs.Answers.{InDirectory, Part, partOf}
 use Rattle.column.proofs.LentColumns.{dir-some, dir-count, dir-many}
 
 module _ (ns gs : List ℕ) (g : ℕ) where
@@ -48,7 +48,7 @@ module _ (ns gs : List ℕ) (g : ℕ) where
         let s = shape .0 in
         shaped-passes 64 262144 ns (record { size = s .size; some = s .some; few = s .few; unused = s .unused; rises = s .rises; room = omega (arith, s .room, shape .1) })
 
-    pub partition-held : Held ns t
+    pub partition-held : InDirectory ns t
     partition-held = record {
       shaped = partition-directory;
       there = omega (arith, placed (directoryOf 64 ns .fences) g (omega (arith, dir-count ns partition-directory, dir-some ns partition-directory)) .within, dir-count ns partition-directory);

@@ -20,7 +20,7 @@ use Rattle.model.proofs.Tests.{and-fst, and-snd, yes-first}
 use Rattle.model.proofs.DirectoryLaws.{Shaped, shaped, shaped-passes, length-lengths, length-fences}
 use Rattle.model.proofs.ListLaws.{elem-le}
 use Rattle.model.proofs.Parts.{start-le}
-use Rattle.column.specs.Answers.{Held}
+use Rattle.column.specs.Answers.{InDirectory}
 use Rattle.checks.proofs.Judging.{lengths-part, fences-part}
 
 pub record LentColumn (c : Column) : Type 0 where
@@ -75,7 +75,7 @@ module _ (c : Column) (l : LentColumn c) where
   pub held-directory : T (directoryOk 64 262144 (c .directory))
   held-directory = shaped-passes 64 262144 (c .directory) (record { size = l .shape .size; some = l .shape .some; few = l .shape .few; unused = l .shape .unused; rises = l .shape .rises; room = omega (arith, l .shape .room, l .most) })
 
-  pub held : (t : ℕ) → t < length (lengthsOf 64 c) → Held (c .directory) t
+  pub held : (t : ℕ) → t < length (lengthsOf 64 c) → InDirectory (c .directory) t
   held t h = record { shaped = held-directory; there = omega (arith, count-lengths) }
 
 -- A directory alone.

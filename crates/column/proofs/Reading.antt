@@ -29,7 +29,7 @@ use Rattle.checks.proofs.Answers.{Carried}
 use Rattle.scan.specs.declared.Scan.{Scan}
 use Rattle.scan.specs.Scans.{badScan, recordsIn, scanOf}
 use Rattle.scan.proofs.Blocks.{blocks-least}
-use Rattle.column.specs.Answers.{withoutTotals, Held}
+use Rattle.column.specs.Answers.{withoutTotals, InDirectory}
 use Rattle.column.proofs.LentColumns.{LentColumn, lent-column, count-lengths, count-fences, held}
 use Rattle.column.proofs.Answering.{lent-yes, refused-call, accepted-call}
 
@@ -113,7 +113,7 @@ pub record Near (c : Column) (g a n : ℕ) : Type 0 where
   pub even : Even (c .growers) (c .weights) (c .yields)
 
 module _ (c : Column) (g : ℕ) (s : Shape) (w : Carried (lentChecks 64 c) (c .directory) g s) where
-  pub near-held : Held (c .directory) (s .target)
+  pub near-held : InDirectory (c .directory) (s .target)
   near-held = rw (w .target) (held c (lent-column c (w .passed)) (target 64 c g) (target-there c (w .passed) g))
 
   pub near : (n : ℕ) → n ≡ getD (lengthsOf 64 c) (s .target) 0 → Near c g (s .start) n

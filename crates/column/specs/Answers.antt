@@ -19,8 +19,9 @@ use Rattle.model.specs.Lent.{Even}
 use Rattle.model.specs.Column.{Column, lengthsOf, target}
 use Rattle.model.specs.Accesses.{noCounts, blocksOf, readsOf, scanNear}
 use Rattle.model.specs.ColumnCalls.{columnRefusal, slotOf, freed, moveSlices}
+use Rattle.checks.specs.declared.Shape.{Shape}
+use Rattle.checks.specs.Lent.{notShaped}
 use Rattle.column.specs.declared.Located.{Located}
-use Rattle.column.specs.declared.Opened.{Opened}
 
 -- an answer that has no totals
 abbrev pub withoutTotals : ℕ → Counts → Answer
@@ -49,26 +50,23 @@ locatedOf c d =
     (notLocated n (cond (eqb n 13) k noCounts))
 
 -- partition t of a directory for at most 262,144 slots
-pub record Held (ns : List ℕ) (t : ℕ) : Type 0 where
+pub record InDirectory (ns : List ℕ) (t : ℕ) : Type 0 where
   pub shaped : T (directoryOk 64 262144 ns)
   pub there : t < partitionCount 64 ns
 
 -- a column of proper shape, and partition t of it, which starts at a
 pub record Ready (c : Column) (t a : ℕ) : Type 0 where
-  pub here : Held (c .directory) t
+  pub here : InDirectory (c .directory) t
   pub start : a ≡ startOf (lengthsOf 64 c) t
   pub room : sumOf (lengthsOf 64 c) ≤ length (c .growers)
   pub even : Even (c .growers) (c .weights) (c .yields)
 
 -- where an insert goes, or its refusal
-abbrev pub notOpened : ℕ → Opened
-notOpened n = record { refusal = n; target = 0; start = 0; used = 0 }
-
-unfoldable pub openedOf : Column → Delivery → Opened
+unfoldable pub openedOf : Column → Delivery → Shape
 openedOf c d =
     let n : ℕ = columnRefusal 64 c (insert d) in
     let t : ℕ = target 64 c (d .grower) in
-    cond (eqb n 0) (record { refusal = 0; target = t; start = startOf (lengthsOf 64 c) t; used = sumOf (lengthsOf 64 c) }) (notOpened n)
+    cond (eqb n 0) (record { refusal = 0; used = sumOf (lengthsOf 64 c); target = t; start = startOf (lengthsOf 64 c) t }) (notShaped n)
 
 -- the column after the slots and lengths of an insert, a delete and a move have changed
 abbrev pub putOf : Column → ℕ → Delivery → Column

@@ -17,7 +17,10 @@ ghost use Rattle.model.specs.Accesses.{noCounts, andAlso, onward, apart};
 ghost use Rattle.model.specs.Questions.{lentChecks};
 ghost use Rattle.model.specs.ColumnCalls.{columnCall, partitionCall};
 ghost use Rattle.model.specs.Lent.{columnOf, columnIn, columnOut, Even};
-ghost use Rattle.column.specs.Answers.{withoutTotals, notLocated, searchedOf, locatedOf, notOpened, openedOf, Held, Ready, putOf, takenOf, shiftedOf, partOf};
+ghost use Rattle.checks.specs.Lent.{notShaped};
+ghost use Rattle.column.specs.Answers.{withoutTotals, notLocated, searchedOf, locatedOf, openedOf, partOf};
+ghost use Rattle.column.specs.Answers.{InDirectory, Ready, putOf, takenOf, shiftedOf};
+use checks::Shape;
 use model::Answer;
 use model::BLOCK;
 use model::COUNT;
@@ -29,75 +32,76 @@ use model::PartitionSlice;
 use model::Totals;
 
 // An answer that has no totals: an accepted insert, delete or move, and every refusal.
-fn without_totals(n: u32, counts: Counts) -> Answer
-    ensures { λ r. ⌜ r ≡ withoutTotals n counts ⌝ }
+fn without_totals(refusal: u32, counts: Counts) -> Answer
+    ensures { λ r. ⌜ r ≡ withoutTotals refusal counts ⌝ }
 {
     let totals = Totals::none();
     Answer {
-        refusal: n,
+        refusal,
         counts,
         totals,
     }
 }
 
 // A refusal: totals and counts 0.
-fn refused(n: u32) -> Answer
-    ensures { λ r. ⌜ r ≡ withoutTotals n noCounts ⌝ }
+fn refused(refusal: u32) -> Answer
+    ensures { λ r. ⌜ r ≡ withoutTotals refusal noCounts ⌝ }
 {
-    without_totals(n, Counts::none())
+    without_totals(refusal, Counts::none())
 }
 
 // A grower's partition.
-fn partition_of(directory: &[u32], g: u32) -> usize
+fn partition_of(directory: &[u32], grower: u32) -> usize
     requires { ⌜ T (directoryOk blockLimit mostSlots (now directory)) ⌝ }
-    ensures { λ r. ⌜ r ≡ place (directoryOf blockLimit (now (directory .entry)) .fences) g ⌝ }
+    ensures { λ r. ⌜ r ≡ place (directoryOf blockLimit (now (directory .entry)) .fences) grower ⌝ }
 {
     let f = FENCES + directory[COUNT] as usize;
-    slices::place_of(&directory[FENCES..f], g)
+    slices::place_of(&directory[FENCES..f], grower)
 }
 
-// The slot at which partition t starts.
-fn start_of(directory: &[u32], t: usize) -> usize
-    requires { ⌜ Held (now directory) t ⌝ }
-    ensures { λ r. ⌜ r ≡ startOf (directoryOf blockLimit (now (directory .entry)) .lengths) t ⌝ }
+// The slot at which a partition starts.
+fn start_of(directory: &[u32], partition: usize) -> usize
+    requires { ⌜ InDirectory (now directory) partition ⌝ }
+    ensures { λ r. ⌜ r ≡ startOf (directoryOf blockLimit (now (directory .entry)) .lengths) partition ⌝ }
 {
-    let e = LENGTHS + t;
+    let e = LENGTHS + partition;
     slices::total(&directory[LENGTHS..e]) as usize
 }
 
-// How many records partition t has.
-fn length_of(directory: &[u32], t: usize) -> usize
-    requires { ⌜ Held (now directory) t ⌝ }
-    ensures { λ r. ⌜ r ≡ getD (directoryOf blockLimit (now (directory .entry)) .lengths) t 0 ⌝ }
+// How many records a partition has.
+fn length_of(directory: &[u32], partition: usize) -> usize
+    requires { ⌜ InDirectory (now directory) partition ⌝ }
+    ensures { λ r. ⌜ r ≡ getD (directoryOf blockLimit (now (directory .entry)) .lengths) partition 0 ⌝ }
 {
-    directory[LENGTHS + t] as usize
+    directory[LENGTHS + partition] as usize
 }
 
-// The partitions from p, which is lo's and starts at a, to hi's, once checks 2, 3, 6 and 7 are passed.
+// The partitions from lo's, which begins at start, to hi's, once checks 2, 3, 6 and 7 are passed.
 fn read(
     directory: &[u32],
     g: &[u32],
     w: &[u32],
     y: &[u32],
-    p: usize,
-    a: usize,
+    from: usize,
+    start: usize,
     lo: u32,
     hi: u32,
 ) -> Answer
     requires { ⌜ (firstFailed (lentChecks blockLimit (columnOf (now directory) (now g) (now w) (now y))) ≡ 0) × (lo ≤ hi)
-        × (p ≡ place (directoryOf blockLimit (now directory) .fences) lo) × (a ≡ startOf (directoryOf blockLimit (now directory) .lengths) p) ⌝ }
+        × (from ≡ place (directoryOf blockLimit (now directory) .fences) lo)
+        × (start ≡ startOf (directoryOf blockLimit (now directory) .lengths) from) ⌝ }
     ensures { λ r. ⌜ r ≡ columnCall blockLimit (columnIn directory g w y) (range lo hi) .answer ⌝ }
 {
     let l = LENGTHS + directory[COUNT] as usize;
-    let q = partition_of(directory, hi);
+    let to = partition_of(directory, hi);
     let s = scan::scan_parts(
         g,
         w,
         y,
         &directory[LENGTHS..l],
-        p,
-        q,
-        a,
+        from,
+        to,
+        start,
         directory[BLOCK],
         lo,
         hi,
@@ -168,11 +172,11 @@ struct Located {
 }
 
 // A refusal of delete or move, and what its scan cost.
-fn not_located_after(n: u32, scanned: Counts) -> Located
-    ensures { λ r. ⌜ r ≡ notLocated n scanned ⌝ }
+fn not_located_after(refusal: u32, scanned: Counts) -> Located
+    ensures { λ r. ⌜ r ≡ notLocated refusal scanned ⌝ }
 {
     Located {
-        refusal: n,
+        refusal,
         target: 0,
         start: 0,
         slot: 0,
@@ -181,27 +185,35 @@ fn not_located_after(n: u32, scanned: Counts) -> Located
 }
 
 // A refusal of delete or move ahead of its scan.
-fn not_located(n: u32) -> Located
-    ensures { λ r. ⌜ r ≡ notLocated n noCounts ⌝ }
+fn not_located(refusal: u32) -> Located
+    ensures { λ r. ⌜ r ≡ notLocated refusal noCounts ⌝ }
 {
-    not_located_after(n, Counts::none())
+    not_located_after(refusal, Counts::none())
 }
 
-// Checks 8 and 13 in partition t, which starts at a, of which it is handed its part of each slice.
-fn search_part(g: &[u32], w: &[u32], y: &[u32], b: u32, t: usize, a: usize, d: Delivery) -> Located
-    requires { ⌜ (length (now g) ≤ mostSlots) × Even (now g) (now w) (now y) × (1 ≤ b) ⌝ }
-    ensures { λ r. ⌜ r ≡ searchedOf b t a d (rows (now (g .entry)) (now (w .entry)) (now (y .entry))) ⌝ }
+// Checks 8 and 13 in a partition, which begins at start, of which it is handed its part of each slice.
+fn search_part(
+    g: &[u32],
+    w: &[u32],
+    y: &[u32],
+    block: u32,
+    partition: usize,
+    start: usize,
+    d: Delivery,
+) -> Located
+    requires { ⌜ (length (now g) ≤ mostSlots) × Even (now g) (now w) (now y) × (1 ≤ block) ⌝ }
+    ensures { λ r. ⌜ r ≡ searchedOf block partition start d (rows (now (g .entry)) (now (w .entry)) (now (y .entry))) ⌝ }
 {
     if !checks::values_ok(w, y) {
         return not_located(8);
     }
     let i = slices::first_match(g, w, y, d);
-    let counts = scan::reads_of(scan::blocks_of(g.len(), b));
+    let counts = scan::reads_of(scan::blocks_of(g.len(), block));
     if i < g.len() {
         return Located {
             refusal: 0,
-            target: t,
-            start: a,
+            target: partition,
+            start,
             slot: i,
             counts,
         };
@@ -227,45 +239,40 @@ fn locate(directory: &[u32], g: &[u32], w: &[u32], y: &[u32], d: Delivery) -> Lo
     search_part(&g[a..e], &w[a..e], &y[a..e], directory[BLOCK], t, a, d)
 }
 
-// One more record in partition t.
-fn grow(directory: &mut [u32], t: usize)
-    requires { ⌜ Held (now directory) t ⌝ }
-    ensures { λ r. ⌜ now (directory .exit) ≡ withLengths (oneMore t (directoryOf blockLimit (now (directory .entry)) .lengths)) (now (directory .entry)) ⌝ }
+// One more record in a partition.
+fn grow(directory: &mut [u32], partition: usize)
+    requires { ⌜ InDirectory (now directory) partition ⌝ }
+    ensures { λ r. ⌜ now (directory .exit)
+        ≡ withLengths (oneMore partition (directoryOf blockLimit (now (directory .entry)) .lengths)) (now (directory .entry)) ⌝ }
 {
-    let i = LENGTHS + t;
+    let i = LENGTHS + partition;
     directory[i] = directory[i] + 1;
 }
 
-// One record fewer in partition t.
-fn shrink(directory: &mut [u32], t: usize)
-    requires { ⌜ Held (now directory) t × (1 ≤ getD (directoryOf blockLimit (now directory) .lengths) t 0) ⌝ }
-    ensures { λ r. ⌜ now (directory .exit) ≡ withLengths (oneFewer t (directoryOf blockLimit (now (directory .entry)) .lengths)) (now (directory .entry)) ⌝ }
+// One record fewer in a partition.
+fn shrink(directory: &mut [u32], partition: usize)
+    requires { ⌜ InDirectory (now directory) partition × (1 ≤ getD (directoryOf blockLimit (now directory) .lengths) partition 0) ⌝ }
+    ensures { λ r. ⌜ now (directory .exit)
+        ≡ withLengths (oneFewer partition (directoryOf blockLimit (now (directory .entry)) .lengths)) (now (directory .entry)) ⌝ }
 {
-    let i = LENGTHS + t;
+    let i = LENGTHS + partition;
     directory[i] = directory[i] - 1;
 }
 
-// Where an insert goes, or why it is refused: its partition, where that starts, and the slots in use.
-struct Opened {
-    refusal: u32,
-    target: usize,
-    start: usize,
-    used: usize,
-}
-
-fn not_opened(n: u32) -> Opened
-    ensures { λ r. ⌜ r ≡ notOpened n ⌝ }
+// Why an insert is refused.
+fn not_opened(refusal: u32) -> Shape
+    ensures { λ r. ⌜ r ≡ notShaped refusal ⌝ }
 {
-    Opened {
-        refusal: n,
+    Shape {
+        refusal,
         target: 0,
         start: 0,
         used: 0,
     }
 }
 
-// Checks 2, 3, 6, 8 and 12 of an insert.
-fn open(directory: &[u32], g: &[u32], w: &[u32], y: &[u32], d: Delivery) -> Opened
+// Checks 2, 3, 6, 8 and 12 of an insert: where it goes, or why it is refused.
+fn open(directory: &[u32], g: &[u32], w: &[u32], y: &[u32], d: Delivery) -> Shape
     ensures { λ r. ⌜ r ≡ openedOf (columnIn directory g w y) d ⌝ }
 {
     let shape = checks::lent(directory, g, w, y, d.grower);
@@ -276,60 +283,56 @@ fn open(directory: &[u32], g: &[u32], w: &[u32], y: &[u32], d: Delivery) -> Open
     if !checks::in_range(d) {
         return not_opened(8);
     }
-    let used = shape.used;
-    if g.len() <= used {
+    if g.len() <= shape.used {
         return not_opened(12);
     }
-    Opened {
-        refusal: 0,
-        target: shape.target,
-        start: shape.start,
-        used,
-    }
+    shape
 }
 
-// How many partitions there are from t to the last.
-fn onward(directory: &[u32], t: usize) -> u64
-    requires { ⌜ Held (now directory) t ⌝ }
-    ensures { λ r. ⌜ r ≡ onward (directoryOf blockLimit (now (directory .entry))) t ⌝ }
+// How many partitions there are from one to the last.
+fn onward(directory: &[u32], partition: usize) -> u64
+    requires { ⌜ InDirectory (now directory) partition ⌝ }
+    ensures { λ r. ⌜ r ≡ onward (directoryOf blockLimit (now (directory .entry))) partition ⌝ }
 {
-    (directory[COUNT] as usize - t) as u64
+    (directory[COUNT] as usize - partition) as u64
 }
 
-// The slots and the length of an insert into partition t, which starts at a.
+// The slots and the length of an insert into a partition, which begins at start.
 fn put(
     directory: &mut [u32],
     g: &mut [u32],
     w: &mut [u32],
     y: &mut [u32],
-    t: usize,
-    a: usize,
+    partition: usize,
+    start: usize,
     used: usize,
     d: Delivery,
 )
-    requires { ⌜ Ready (columnOf (now directory) (now g) (now w) (now y)) t a × (used ≡ sumOf (directoryOf blockLimit (now directory) .lengths))
+    requires { ⌜ Ready (columnOf (now directory) (now g) (now w) (now y)) partition start
+        × (used ≡ sumOf (directoryOf blockLimit (now directory) .lengths))
         × (used < length (now g)) ⌝ }
     ensures { λ r. ⌜ columnOut directory g w y
-        ≡ putOf (columnIn directory g w y) t d ⌝ }
+        ≡ putOf (columnIn directory g w y) partition d ⌝ }
 {
     let l = LENGTHS + directory[COUNT] as usize;
-    ripple::insert_slots(g, w, y, &directory[LENGTHS..l], t, a, used, d);
-    grow(directory, t);
+    ripple::insert_slots(g, w, y, &directory[LENGTHS..l], partition, start, used, d);
+    grow(directory, partition);
 }
 
-// The slots and the length of a delete of slot i of partition t, which starts at a.
+// The slots and the length of a delete of a slot of a partition, which begins at start.
 fn take_out(
     directory: &mut [u32],
     g: &mut [u32],
     w: &mut [u32],
     y: &mut [u32],
-    t: usize,
-    a: usize,
-    i: usize,
+    partition: usize,
+    start: usize,
+    slot: usize,
 )
-    requires { ⌜ Ready (columnOf (now directory) (now g) (now w) (now y)) t a × (i < getD (directoryOf blockLimit (now directory) .lengths) t 0) ⌝ }
+    requires { ⌜ Ready (columnOf (now directory) (now g) (now w) (now y)) partition start
+        × (slot < getD (directoryOf blockLimit (now directory) .lengths) partition 0) ⌝ }
     ensures { λ r. ⌜ columnOut directory g w y
-        ≡ takenOf (columnIn directory g w y) t i ⌝ }
+        ≡ takenOf (columnIn directory g w y) partition slot ⌝ }
 {
     let l = LENGTHS + directory[COUNT] as usize;
     let freed = Delivery {
@@ -337,68 +340,100 @@ fn take_out(
         weight: 0,
         oil_yield: 0,
     };
-    ripple::delete_slots(g, w, y, &directory[LENGTHS..l], t, a, i, freed);
-    shrink(directory, t);
+    ripple::delete_slots(
+        g,
+        w,
+        y,
+        &directory[LENGTHS..l],
+        partition,
+        start,
+        slot,
+        freed,
+    );
+    shrink(directory, partition);
 }
 
-// The slots of a move of slot i of partition t, which starts at a, to partition u, as d.
+// The slots of a move: a slot's record goes from one partition to another, as d.
 fn shift_slots(
     directory: &[u32],
     g: &mut [u32],
     w: &mut [u32],
     y: &mut [u32],
-    t: usize,
-    a: usize,
-    i: usize,
-    u: usize,
+    from: usize,
+    from_start: usize,
+    slot: usize,
+    to: usize,
     d: Delivery,
 )
-    requires { ⌜ Ready (columnOf (now directory) (now g) (now w) (now y)) t a × (i < getD (directoryOf blockLimit (now directory) .lengths) t 0)
-        × (u < partitionCount blockLimit (now directory)) ⌝ }
-    ensures { λ r. ⌜ (now (g .exit) ≡ moved (directoryOf blockLimit (now (directory .entry)) .lengths) t i u (d .grower) (now (g .entry)))
-        × (now (w .exit) ≡ moved (directoryOf blockLimit (now (directory .entry)) .lengths) t i u (d .weight) (now (w .entry)))
-        × (now (y .exit) ≡ moved (directoryOf blockLimit (now (directory .entry)) .lengths) t i u (d .«oil_yield») (now (y .entry))) ⌝ }
+    requires { ⌜ Ready (columnOf (now directory) (now g) (now w) (now y)) from «from_start»
+        × (slot < getD (directoryOf blockLimit (now directory) .lengths) from 0)
+        × (to < partitionCount blockLimit (now directory)) ⌝ }
+    ensures { λ r. ⌜ (now (g .exit) ≡ moved (directoryOf blockLimit (now (directory .entry)) .lengths) from slot to (d .grower) (now (g .entry)))
+        × (now (w .exit) ≡ moved (directoryOf blockLimit (now (directory .entry)) .lengths) from slot to (d .weight) (now (w .entry)))
+        × (now (y .exit) ≡ moved (directoryOf blockLimit (now (directory .entry)) .lengths) from slot to (d .«oil_yield») (now (y .entry))) ⌝ }
 {
     let l = LENGTHS + directory[COUNT] as usize;
-    if t <= u {
-        ripple::forward_slots(g, w, y, &directory[LENGTHS..l], t, a, i, u, d);
+    if from <= to {
+        ripple::forward_slots(
+            g,
+            w,
+            y,
+            &directory[LENGTHS..l],
+            from,
+            from_start,
+            slot,
+            to,
+            d,
+        );
         return;
     }
-    let b = start_of(directory, u);
-    ripple::backward_slots(g, w, y, &directory[LENGTHS..l], t, a, i, u, b, d);
+    let to_start = start_of(directory, to);
+    ripple::backward_slots(
+        g,
+        w,
+        y,
+        &directory[LENGTHS..l],
+        from,
+        from_start,
+        slot,
+        to,
+        to_start,
+        d,
+    );
 }
 
-// The slots and the lengths of a move of slot i of partition t, which starts at a, to partition u, as d.
+// The slots and the lengths of a move: a slot's record goes from one partition to another, as d.
 fn shift(
     directory: &mut [u32],
     g: &mut [u32],
     w: &mut [u32],
     y: &mut [u32],
-    t: usize,
-    a: usize,
-    i: usize,
-    u: usize,
+    from: usize,
+    from_start: usize,
+    slot: usize,
+    to: usize,
     d: Delivery,
 )
-    requires { ⌜ Ready (columnOf (now directory) (now g) (now w) (now y)) t a × (i < getD (directoryOf blockLimit (now directory) .lengths) t 0)
-        × (u < partitionCount blockLimit (now directory)) ⌝ }
+    requires { ⌜ Ready (columnOf (now directory) (now g) (now w) (now y)) from «from_start»
+        × (slot < getD (directoryOf blockLimit (now directory) .lengths) from 0)
+        × (to < partitionCount blockLimit (now directory)) ⌝ }
     ensures { λ r. ⌜ columnOut directory g w y
-        ≡ shiftedOf (columnIn directory g w y) t i u d ⌝ }
+        ≡ shiftedOf (columnIn directory g w y) from slot to d ⌝ }
 {
-    shift_slots(directory, g, w, y, t, a, i, u, d);
-    shrink(directory, t);
-    grow(directory, u);
+    shift_slots(directory, g, w, y, from, from_start, slot, to, d);
+    shrink(directory, from);
+    grow(directory, to);
 }
 
-// A scan's counts, and x random reads and y random writes more.
-fn with_more(s: Counts, x: u64, y: u64) -> Counts
-    requires { ⌜ (s .rr ≤ 1) × (s .«rw» ≤ 0) × (x ≤ 100) × (y ≤ 100) ⌝ }
-    ensures { λ r. ⌜ r ≡ andAlso s x y ⌝ }
+// A scan's counts, and random reads and random writes more.
+fn with_more(scanned: Counts, reads: u64, writes: u64) -> Counts
+    requires { ⌜ (scanned .rr ≤ 1) × (scanned .«rw» ≤ 0) × (reads ≤ 100) × (writes ≤ 100) ⌝ }
+    ensures { λ r. ⌜ r ≡ andAlso scanned reads writes ⌝ }
 {
     Counts {
-        rr: s.rr + x,
-        sr: s.sr,
-        rw: s.rw + y,
+        rr: scanned.rr + reads,
+        sr: scanned.sr,
+        rw: scanned.rw + writes,
     }
 }
 
@@ -453,13 +488,13 @@ pub fn delete(
 }
 
 // The partitions from one to another, the first not counted.
-fn apart(t: usize, u: usize) -> u64
-    ensures { λ r. ⌜ r ≡ apart t u ⌝ }
+fn apart(from: usize, to: usize) -> u64
+    ensures { λ r. ⌜ r ≡ apart from to ⌝ }
 {
-    if t < u {
-        return (u - t) as u64;
+    if from < to {
+        return (to - from) as u64;
     }
-    (t - u) as u64
+    (from - to) as u64
 }
 
 // Moves the first equal delivery of its grower's partition to a new grower.
@@ -502,11 +537,11 @@ pub fn move_delivery(
     without_totals(0, counts)
 }
 
-fn no_partition(n: u32) -> PartitionSlice
-    ensures { λ r. ⌜ r ≡ record { refusal = n; start = 0; count = 0 } ⌝ }
+fn no_partition(refusal: u32) -> PartitionSlice
+    ensures { λ r. ⌜ r ≡ record { refusal = refusal; start = 0; count = 0 } ⌝ }
 {
     PartitionSlice {
-        refusal: n,
+        refusal,
         start: 0,
         count: 0,
     }

@@ -151,7 +151,7 @@ pub fn delete_slots(
     );
 }
 
-// A slot of partition from goes to partition to, no earlier, as d.
+// A slot's record goes from one partition to another, no earlier one, as d.
 pub fn forward_slots(
     g: &mut [u32],
     w: &mut [u32],
@@ -177,7 +177,7 @@ pub fn forward_slots(
     delete_slots(g, w, y, &lens[..v], from, from_start, slot, d);
 }
 
-// A slot of partition from goes to the earlier partition to, as d.
+// A slot's record goes from one partition to an earlier one, as d.
 pub fn backward_slots(
     g: &mut [u32],
     w: &mut [u32],

@@ -12,7 +12,7 @@ not-located-after-requires : tie.Need-not-located-after-requires
 not-located-after-requires c κs = search needs
 
 returns : tie.Need-returns
-returns c = c .not-located-after .ensures ∙ ap (notLocated (c .before .before .args .n)) (c .before .none .ensures)
+returns c = c .not-located-after .ensures ∙ ap (notLocated (c .before .before .args .refusal)) (c .before .none .ensures)
 
 pub not-located-spec : {M : Type 1} → statement M
 not-located-spec = tie.close (tie.spec none-requires not-located-after-requires returns)

@@ -12,7 +12,7 @@ without-totals-requires : tie.Need-without-totals-requires
 without-totals-requires c κs = search needs
 
 returns : tie.Need-returns
-returns c = c .without-totals .ensures ∙ ap (withoutTotals (c .before .before .args .n)) (c .before .none .ensures)
+returns c = c .without-totals .ensures ∙ ap (withoutTotals (c .before .before .args .refusal)) (c .before .none .ensures)
 
 pub refused-spec : {M : Type 1} → statement M
 refused-spec = tie.close (tie.spec none-requires without-totals-requires returns)

@@ -49,7 +49,7 @@ same-length-4 : tie.Need-same-length-4
 same-length-4 c = search needs
 
 returns : tie.Need-returns
-returns c = let g = (c .before .before .before .before .before .before .before .before .before .before .before .before .before .before .before .before .before .before .before .before .before .args) in let col = columnOf (g .directory .now) (g .g .now) (g .w .now) (g .y .now) in let e = rw (dir-lengths (g .directory .now) (((c .before .before .before .before .before .before .before .before .before .before .before .before .before .before .before .before .before .before .before .before .before .pre) .0 .here) .shaped)) at ((c .before .before .before .before .before .before .before .before .before .before .delete-slots) .ensures) in column-is (deleted (lengthsOf 64 col) (g .t) (g .i)) freed (oneFewer (g .t) (lengthsOf 64 col)) col _ _ _ _ ((c .before .before .shrink) .ensures) (e .0) (e .1) (e .2)
+returns c = let g = (c .before .before .before .before .before .before .before .before .before .before .before .before .before .before .before .before .before .before .before .before .before .args) in let col = columnOf (g .directory .now) (g .g .now) (g .w .now) (g .y .now) in let e = rw (dir-lengths (g .directory .now) (((c .before .before .before .before .before .before .before .before .before .before .before .before .before .before .before .before .before .before .before .before .before .pre) .0 .here) .shaped)) at ((c .before .before .before .before .before .before .before .before .before .before .delete-slots) .ensures) in column-is (deleted (lengthsOf 64 col) (g .partition) (g .slot)) freed (oneFewer (g .partition) (lengthsOf 64 col)) col _ _ _ _ ((c .before .before .shrink) .ensures) (e .0) (e .1) (e .2)
 
 pub take-out-spec : {M : Type 1} → statement M
 take-out-spec =

@@ -9,7 +9,7 @@ none-requires : tie.Need-none-requires
 none-requires c κs = search needs
 
 returns : tie.Need-returns
-returns c = ap (λ (t : Totals). record { refusal = c .before .args .n; counts = c .before .args .counts; totals = t }) (c .none .ensures)
+returns c = ap (λ (t : Totals). record { refusal = c .before .args .refusal; counts = c .before .args .counts; totals = t }) (c .none .ensures)
 
 pub without-totals-spec : {M : Type 1} → statement M
 without-totals-spec = tie.close (tie.spec none-requires returns)
