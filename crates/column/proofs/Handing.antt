@@ -54,7 +54,7 @@ module _ (ns gs : List ℕ) (g : ℕ) where
       there = omega (arith, placed (directoryOf 64 ns .fences) g (omega (arith, dir-count ns partition-directory, dir-some ns partition-directory)) .within, dir-count ns partition-directory);
     }
 
-    pub partition-inside : startOf (directoryOf 64 ns .lengths) t + getD (directoryOf 64 ns .lengths) t 0 ≤ length gs
+    partition-inside : startOf (directoryOf 64 ns .lengths) t + getD (directoryOf 64 ns .lengths) t 0 ≤ length gs
     partition-inside = omega (arith, stop-le (directoryOf 64 ns .lengths) t (omega (arith, partition-held .there, dir-many ns partition-directory)), shape .0 .room)
 
 -- what is handed back lies in the growers

@@ -62,9 +62,6 @@ module _ (c : Column) (l : LentColumn c) where
   pub the-lengths : take (2 + k - 2) (drop 2 (c .directory)) ≡ lengthsOf 64 c
   the-lengths = lengths-part (c .directory) (l .shape .size) (l .shape .few)
 
-  pub the-fences : take (66 + k - 66) (drop 66 (c .directory)) ≡ fencesOf 64 c
-  the-fences = fences-part (c .directory) (l .shape .size) (l .shape .few)
-
   pub count-lengths : length (lengthsOf 64 c) ≡ k
   count-lengths = length-lengths 64 (length (c .growers)) (c .directory) (l .shape)
 

@@ -35,7 +35,7 @@ use Rattle.column.proofs.Answering.{lent-yes, refused-call, accepted-ca
 
 -- what a scan that came out good or bad says
 module _ (b : ℕ) (ns : List ℕ) (p n lo hi : ℕ) (ds : List Delivery) (s : Scan) (e : s ≡ scanOf b ns p n lo hi ds) where
-  pub bad-scan : s .good ≡ false → every inRange (recordsIn ns p n ds) ≡ false
+  bad-scan : s .good ≡ false → every inRange (recordsIn ns p n ds) ≡ false
   unfolding scanOf
   bad-scan f = go (every inRange (recordsIn ns p n ds)) (sym (ap (λ (r : Scan). r .good) e) ∙ f)
     where

@@ -50,7 +50,7 @@ set-length (b ∷ c ∷ r) t v e h k =
     ap (λ (m : ℕ). set (b ∷ c ∷ r) m v) q ∙ ap (λ (l : List ℕ). b ∷ c ∷ l) (set-in-front r c t v k (omega arith) ∙ ap (λ (m : ℕ). set (take c r) t v ++ drop m r) (sym n))
 
 -- two changes of the lengths are the last one
-pub with-with : (a b ns : List ℕ) → 2 ≤ length ns → length a ≡ length b → withLengths a (withLengths b ns) ≡ withLengths a ns
+with-with : (a b ns : List ℕ) → 2 ≤ length ns → length a ≡ length b → withLengths a (withLengths b ns) ≡ withLengths a ns
 unfolding withLengths
 with-with a b [] h e = let z : ⊥ = omega arith in absurd z
 with-with a b (x ∷ []) h e = let z : ⊥ = omega arith in absurd z

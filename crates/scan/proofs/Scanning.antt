@@ -57,7 +57,7 @@ measured g w y h p e =
 -- Partitions, one after the other.
 
 module _ (b : ℕ) (ns : List ℕ) (p lo hi : ℕ) (ds : List Delivery) where
-  pub scan-none : _≡_ {A = Scan} (record { good = true; totals = noTotals; blocks = 0 }) (scanOf b ns p 0 lo hi ds)
+  scan-none : _≡_ {A = Scan} (record { good = true; totals = noTotals; blocks = 0 }) (scanOf b ns p 0 lo hi ds)
   unfolding scanOf every keep totalsOf sumOf flatten
   scan-none = refl
 
@@ -83,7 +83,7 @@ module _ (b : ℕ) (ns : List ℕ) (p lo hi : ℕ) (ds : List Delivery) where
       ∙ ap (λ (x : ℕ). sumOf (map (blocksOf b) (take n l)) + (blocksOf b x + 0)) e
       ∙ omega arith
 
-  pub scan-next : (n : ℕ) → p + n < length ns → sumOf ns ≤ length ds
+  scan-next : (n : ℕ) → p + n < length ns → sumOf ns ≤ length ds
       → scanOf b ns p (n + 1) lo hi ds ≡ scanMore b lo hi (scanOf b ns p n lo hi ds) (part (p + n) (parts ns ds))
   unfolding scanOf scanMore
   scan-next n h room =
@@ -104,7 +104,7 @@ blocks-sum b [] h = omega arith
 blocks-sum b (n ∷ l) h = omega (arith, blocks-most b n h, blocks-sum b l h)
 
 -- the counters stay small
-pub scan-light : (b : ℕ) (ns : List ℕ) (p n lo hi : ℕ) (ds : List Delivery) → 1 ≤ b → sumOf ns ≤ length ds → length ds ≤ mostSlots → length ns ≤ blockLimit → Light mostSlots blockLimit (scanOf b ns p n lo hi ds)
+scan-light : (b : ℕ) (ns : List ℕ) (p n lo hi : ℕ) (ds : List Delivery) → 1 ≤ b → sumOf ns ≤ length ds → length ds ≤ mostSlots → length ns ≤ blockLimit → Light mostSlots blockLimit (scanOf b ns p n lo hi ds)
 unfolding scanOf
 scan-light b ns p n lo hi ds h room few short = go (every inRange (recordsIn ns p n ds)) refl
   where
@@ -136,7 +136,7 @@ scanning-start b ns p q lo hi ds at h e =
 
 module _ (b : ℕ) (ns : List ℕ) (p q lo hi : ℕ) (g w y : List ℕ) (at i : ℕ) (s : Scan) (w₀ : Scanning b ns p q lo hi (rows g w y) at i s) where
   -- the part that is lent is the partition
-  pub lent-part : rows (take (at + getD ns i 0 - at) (drop at g)) (take (at + getD ns i 0 - at) (drop at w)) (take (at + getD ns i 0 - at) (drop at y)) ≡ part i (parts ns (rows g w y))
+  lent-part : rows (take (at + getD ns i 0 - at) (drop at g)) (take (at + getD ns i 0 - at) (drop at w)) (take (at + getD ns i 0 - at) (drop at y)) ≡ part i (parts ns (rows g w y))
   lent-part =
       let e : at + getD ns i 0 - at ≡ getD ns i 0 = omega arith in
       rw (rows-part, e, w₀ .here) (sym (part-parts i ns (rows g w y)))

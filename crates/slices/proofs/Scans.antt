@@ -19,7 +19,7 @@ use Rattle.model.proofs.Deliveries.{rowAt, rows-from}
 use Rattle.slices.specs.Slices.{allWithin, sameAt, Measured}
 
 -- a number of a slice whose numbers are all within m; past its end it is 0
-pub within-at : (m : ℕ) (s : List ℕ) → T (allWithin m s) → (i : ℕ) → getD s i 0 ≤ m
+within-at : (m : ℕ) (s : List ℕ) → T (allWithin m s) → (i : ℕ) → getD s i 0 ≤ m
 unfolding every
 within-at m [] t i = omega arith
 within-at m (x ∷ s) t zero = leb-true x m (is-true (leb x m) (and-fst (leb x m) (every (λ (n : ℕ). leb n m) s) t))
@@ -29,10 +29,10 @@ within-at m (x ∷ s) t (suc i) = within-at m s (and-snd (leb x m) (every (λ (n
 unfoldable pub rest : (Delivery → Bool) → List ℕ → List ℕ → List ℕ → ℕ → List Delivery
 rest f g w y i = keep f (rows (drop i g) (drop i w) (drop i y))
 
-abbrev pub weightOf : List Delivery → ℕ
+abbrev weightOf : List Delivery → ℕ
 weightOf l = sumOf (map (λ (d : Delivery). d .weight) l)
 
-abbrev pub oilOf : List Delivery → ℕ
+abbrev oilOf : List Delivery → ℕ
 oilOf l = sumOf (map (λ (d : Delivery). d .weight * d .«oil_yield») l)
 
 -- what a loop has when it stands at i: so far, and the rest, is the whole

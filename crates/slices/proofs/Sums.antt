@@ -67,7 +67,7 @@ totals-light lo hi m ds t h =
 
 -- Records that were counted.
 
-pub count-rows : (lo hi : ℕ) (g w y : List ℕ) → length w ≡ length g → length y ≡ length g → countBetween lo hi g ≡ length (keep (matches lo hi) (rows g w y))
+count-rows : (lo hi : ℕ) (g w y : List ℕ) → length w ≡ length g → length y ≡ length g → countBetween lo hi g ≡ length (keep (matches lo hi) (rows g w y))
 unfolding keep rows
 count-rows lo hi [] w y p q = refl
 count-rows lo hi (a ∷ g) [] y p q = let z : ⊥ = omega arith in absurd z

@@ -116,7 +116,7 @@ pub fn place_of(keys: &[u32], g: u32) -> usize
     t as usize
 }
 
-// What one pass over the lengths and fences of partitions finds: do the fences rise, how many slots are used, and of a grower its partition and where that starts.
+// What one pass over the lengths and fences of partitions finds: do the fences rise, how many slots are used, a grower's partition and where that starts.
 pub struct Survey {
     pub rising: bool,
     pub used: usize,
@@ -128,7 +128,8 @@ pub struct Survey {
 pub fn surveyed(lens: &[u32], fences: &[u32], g: u32) -> Survey
     requires { ⌜ (1 ≤ length (now lens)) × (length (now lens) ≤ blockLimit) × (length (now fences) ≡ length (now lens)) ⌝ }
     ensures { λ r. ⌜ (r .rising ≡ rising (now (fences .entry))) × (r .used ≡ sumOf (now (lens .entry)))
-        × (T (rising (now (fences .entry))) → (r .target ≡ place (now (fences .entry)) g) × (r .start ≡ startOf (now (lens .entry)) (place (now (fences .entry)) g))) ⌝ }
+        × (T (rising (now (fences .entry))) → (r .target ≡ place (now (fences .entry)) g)
+        × (r .start ≡ startOf (now (lens .entry)) (place (now (fences .entry)) g))) ⌝ }
 {
     let mut rising = true;
     let mut used: usize = 0;
