@@ -1,9 +1,9 @@
 -- The partition call: where a grower's partition lies, and the part that is handed back. Assumes nothing.
-use Prim.Native.Nat.{ℕ, zero, suc, _+_, _≤_}
+use Prim.Native.Nat.{ℕ, zero, suc, _+_, _-_, _*_, _≤_}
 use mathlib.Core.Path.{_≡_, refl, sym, ap, _∙_}
 use mathlib.Core.List.{List}
 use native.Mathlib.Omega.{arith}
-use lib.ListN.{length, getD}
+use lib.ListN.{length, getD, take, drop}
 use lib.Dec.{T, leb, leb→le}
 use borrow.Author.Tests.{ne-eqb}
 use Rattle.model.specs.declared.PartitionSlice.{PartitionSlice}
@@ -18,7 +18,7 @@ use Rattle.model.proofs.Tests.{and-snd, yes-first}
 use Rattle.model.proofs.Places.{placed}
 use Rattle.model.proofs.Parts.{stop-le}
 use Rattle.model.proofs.DirectoryLaws.{Shaped, shaped, shaped-passes}
-use Rattle.column.specs.Answers.{Held}
+use Rattle.column.specs.Answers.{InDirectory, Part, partOf}
 use Rattle.column.proofs.LentColumns.{dir-some, dir-count, dir-many}
 
 module _ (ns gs : List ℕ) (g : ℕ) where
@@ -48,13 +48,13 @@ module _ (ns gs : List ℕ) (g : ℕ) where
         let s = shape .0 in
         shaped-passes 64 262144 ns (record { size = s .size; some = s .some; few = s .few; unused = s .unused; rises = s .rises; room = omega (arith, s .room, shape .1) })
 
-    pub partition-held : Held ns t
+    pub partition-held : InDirectory ns t
     partition-held = record {
       shaped = partition-directory;
       there = omega (arith, placed (directoryOf 64 ns .fences) g (omega (arith, dir-count ns partition-directory, dir-some ns partition-directory)) .within, dir-count ns partition-directory);
     }
 
-    pub partition-inside : startOf (directoryOf 64 ns .lengths) t + getD (directoryOf 64 ns .lengths) t 0 ≤ length gs
+    partition-inside : startOf (directoryOf 64 ns .lengths) t + getD (directoryOf 64 ns .lengths) t 0 ≤ length gs
     partition-inside = omega (arith, stop-le (directoryOf 64 ns .lengths) t (omega (arith, partition-held .there, dir-many ns partition-directory)), shape .0 .room)
 
 -- what is handed back lies in the growers
@@ -68,3 +68,12 @@ handed-inside ns gs g p e = go (firstFailed (partitionChecks 64 ns gs)) refl
     go (suc n) f =
         let d = e ∙ sym (partition-refused ns gs g (suc n) (sym f) (λ z. omega arith)) in
         omega (arith, ap (λ (x : PartitionSlice). x .start) d, ap (λ (x : PartitionSlice). x .count) d)
+
+-- the part from its start to its end, and where it lies
+pub cut-out : (p : PartitionSlice) (o : ℕ × ℕ) (gs : List ℕ)
+    → _≡_ {A = Part} (record { place = (o .0, p .start * 4 + o .1); part = take (p .start + p .count - p .start) (drop (p .start) gs); refusal = p .refusal }) (partOf p o gs)
+unfolding partOf
+cut-out p o gs =
+    let count : p .start + p .count - p .start ≡ p .count = omega arith in
+    let byte : p .start * 4 + o .1 ≡ partOf p o gs .place .1 = omega arith in
+    rw (count) (ap (λ (n : ℕ). record { place = (o .0, n); part = take (p .count) (drop (p .start) gs); refusal = p .refusal }) byte)

@@ -13,21 +13,21 @@ use Rattle.model.specs.Checks.{firstFailed}
 use Rattle.model.specs.Blocks.{blockLengthOk, slotsOk, slicesOk}
 use Rattle.model.specs.Partitions.{startOf}
 use Rattle.model.specs.Directory.{directoryOf, directoryBlockOk, directoryOk}
+use Rattle.model.specs.Lent.{Even}
 use Rattle.model.specs.Column.{Column, lengthsOf, fencesOf}
 use Rattle.model.specs.Questions.{lentChecks}
 use Rattle.model.proofs.Tests.{and-fst, and-snd, yes-first}
 use Rattle.model.proofs.DirectoryLaws.{Shaped, shaped, shaped-passes, length-lengths, length-fences}
 use Rattle.model.proofs.ListLaws.{elem-le}
 use Rattle.model.proofs.Parts.{start-le}
-use Rattle.column.specs.Answers.{Held}
+use Rattle.column.specs.Answers.{InDirectory}
 use Rattle.checks.proofs.Judging.{lengths-part, fences-part}
 
 pub record LentColumn (c : Column) : Type 0 where
   pub shape : Shaped 64 (length (c .growers)) (c .directory)
   pub block : 1 ≤ getD (c .directory) 0 0
   pub most : length (c .growers) ≤ 262144
-  pub even-weights : length (c .weights) ≡ length (c .growers)
-  pub even-yields : length (c .yields) ≡ length (c .growers)
+  pub even : Even (c .growers) (c .weights) (c .yields)
 
 directory-block : (ns : List ℕ) → length ns ≡ 130 → T (directoryBlockOk 64 ns) → T (blockLengthOk (getD ns 0 0))
 unfolding directoryBlockOk
@@ -48,8 +48,10 @@ lent-column c h =
       shape = s;
       block = leb→le 1 (getD (c .directory) 0 0) (and-fst (leb 1 (getD (c .directory) 0 0)) (leb (getD (c .directory) 0 0) 4096) b);
       most = leb→le n 262144 (and-snd (leb 1 n) (leb n 262144) m);
-      even-weights = eqb→eq (length (c .weights)) n (and-fst (eqb (length (c .weights)) n) (eqb (length (c .yields)) n) e);
-      even-yields = eqb→eq (length (c .yields)) n (and-snd (eqb (length (c .weights)) n) (eqb (length (c .yields)) n) e);
+      even = record {
+        weights = eqb→eq (length (c .weights)) n (and-fst (eqb (length (c .weights)) n) (eqb (length (c .yields)) n) e);
+        yields = eqb→eq (length (c .yields)) n (and-snd (eqb (length (c .weights)) n) (eqb (length (c .yields)) n) e);
+      };
     }
 
 module _ (c : Column) (l : LentColumn c) where
@@ -59,9 +61,6 @@ module _ (c : Column) (l : LentColumn c) where
   -- the parts of the directory that are lent
   pub the-lengths : take (2 + k - 2) (drop 2 (c .directory)) ≡ lengthsOf 64 c
   the-lengths = lengths-part (c .directory) (l .shape .size) (l .shape .few)
-
-  pub the-fences : take (66 + k - 66) (drop 66 (c .directory)) ≡ fencesOf 64 c
-  the-fences = fences-part (c .directory) (l .shape .size) (l .shape .few)
 
   pub count-lengths : length (lengthsOf 64 c) ≡ k
   count-lengths = length-lengths 64 (length (c .growers)) (c .directory) (l .shape)
@@ -73,7 +72,7 @@ module _ (c : Column) (l : LentColumn c) where
   pub held-directory : T (directoryOk 64 262144 (c .directory))
   held-directory = shaped-passes 64 262144 (c .directory) (record { size = l .shape .size; some = l .shape .some; few = l .shape .few; unused = l .shape .unused; rises = l .shape .rises; room = omega (arith, l .shape .room, l .most) })
 
-  pub held : (t : ℕ) → t < length (lengthsOf 64 c) → Held (c .directory) t
+  pub held : (t : ℕ) → t < length (lengthsOf 64 c) → InDirectory (c .directory) t
   held t h = record { shaped = held-directory; there = omega (arith, count-lengths) }
 
 -- A directory alone.

@@ -17,6 +17,7 @@ use Rattle.model.specs.Deliveries.{inRange, totalsBetween}
 use Rattle.model.specs.Calls.{range}
 use Rattle.model.specs.Partitions.{startOf, between}
 use Rattle.model.specs.Directory.{directoryOf}
+use Rattle.model.specs.Lent.{Even}
 use Rattle.model.specs.Column.{Column, slots, lengthsOf, fencesOf, target, scannedOk}
 use Rattle.model.specs.Accesses.{noCounts, blocksOf, readsOf, scanCounts, blocksScanned, callCounts}
 use Rattle.model.specs.Questions.{lentChecks, callChecks}
@@ -28,13 +29,13 @@ use Rattle.checks.proofs.Answers.{Carried}
 use Rattle.scan.specs.declared.Scan.{Scan}
 use Rattle.scan.specs.Scans.{badScan, recordsIn, scanOf}
 use Rattle.scan.proofs.Blocks.{blocks-least}
-use Rattle.column.specs.Answers.{withoutTotals, Held}
+use Rattle.column.specs.Answers.{withoutTotals, InDirectory}
 use Rattle.column.proofs.LentColumns.{LentColumn, lent-column, count-lengths, count-fences, held}
 use Rattle.column.proofs.Answering.{lent-yes, refused-call, accepted-call}
 
 -- what a scan that came out good or bad says
 module _ (b : ℕ) (ns : List ℕ) (p n lo hi : ℕ) (ds : List Delivery) (s : Scan) (e : s ≡ scanOf b ns p n lo hi ds) where
-  pub bad-scan : s .good ≡ false → every inRange (recordsIn ns p n ds) ≡ false
+  bad-scan : s .good ≡ false → every inRange (recordsIn ns p n ds) ≡ false
   unfolding scanOf
   bad-scan f = go (every inRange (recordsIn ns p n ds)) (sym (ap (λ (r : Scan). r .good) e) ∙ f)
     where
@@ -109,11 +110,10 @@ pub record Near (c : Column) (g a n : ℕ) : Type 0 where
   pub count : n ≡ getD (lengthsOf 64 c) (target 64 c g) 0
   pub inside : a + n ≤ length (c .growers)
   pub most : length (c .growers) ≤ 262144
-  pub even-weights : length (c .weights) ≡ length (c .growers)
-  pub even-yields : length (c .yields) ≡ length (c .growers)
+  pub even : Even (c .growers) (c .weights) (c .yields)
 
 module _ (c : Column) (g : ℕ) (s : Shape) (w : Carried (lentChecks 64 c) (c .directory) g s) where
-  pub near-held : Held (c .directory) (s .target)
+  pub near-held : InDirectory (c .directory) (s .target)
   near-held = rw (w .target) (held c (lent-column c (w .passed)) (target 64 c g) (target-there c (w .passed) g))
 
   pub near : (n : ℕ) → n ≡ getD (lengthsOf 64 c) (s .target) 0 → Near c g (s .start) n
@@ -125,6 +125,5 @@ module _ (c : Column) (g : ℕ) (s : Shape) (w : Carried (lentChecks 64 c) (c .d
         count = k;
         inside = omega (arith, w .start, stop-le (lengthsOf 64 c) (target 64 c g) (target-there c (w .passed) g), l .shape .room);
         most = l .most;
-        even-weights = l .even-weights;
-        even-yields = l .even-yields;
+        even = l .even;
       }

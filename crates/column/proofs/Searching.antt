@@ -76,7 +76,7 @@ module _ (c : Column) (d : Delivery) where
     there = target-there c h (d .grower)
 
     long : sumOf (lengthsOf 64 c) ≤ length (slots c)
-    long = omega (arith, length-rows (c .growers) (c .weights) (c .yields) (l .even-weights) (l .even-yields), l .shape .room)
+    long = omega (arith, length-rows (c .growers) (c .weights) (c .yields) (l .even .weights) (l .even .yields), l .shape .room)
 
     pub near-length : length (recordsNear 64 c (d .grower)) ≡ getD (lengthsOf 64 c) (target 64 c (d .grower)) 0
     near-length = ap length (between-one (target 64 c (d .grower)) (lengthsOf 64 c) (slots c) there) ∙ length-part (target 64 c (d .grower)) (lengthsOf 64 c) (slots c) there long

@@ -24,10 +24,12 @@ use Rattle.model.specs.ColumnCalls.{Called, columnRefusal, columnAfter, columnC
 use Rattle.model.proofs.DirectoryLaws.{Shaped, Kept, with-lengths, shaped, shaped-passes, shaped-with, length-lengths}
 use Rattle.model.proofs.MovesLengths.{sum-oneFewer}
 use Rattle.model.proofs.AccessLaws.{reads-small}
-use Rattle.checks.specs.Lent.{columnOf}
+use Rattle.model.specs.Lent.{columnOf}
 use Rattle.column.specs.declared.Located.{Located}
-use Rattle.column.specs.declared.Opened.{Opened}
-use Rattle.column.specs.Answers.{withoutTotals, locatedOf, notOpened, openedOf, Held, Ready, putOf, takenOf, shiftedOf}
+use Rattle.checks.specs.declared.Shape.{Shape}
+use Rattle.checks.specs.Lent.{notShaped}
+use Rattle.checks.proofs.Answers.{Carried}
+use Rattle.column.specs.Answers.{withoutTotals, locatedOf, openedOf, InDirectory, Ready, putOf, takenOf, shiftedOf}
 use Rattle.column.proofs.LentColumns.{lent-column, held}
 use Rattle.column.proofs.Answering.{lent-yes, lent-refusal, refused-call, accepted-lent, accepted-call}
 use Rattle.column.proofs.Reading.{target-there}
@@ -49,7 +51,7 @@ set-length (b ∷ c ∷ r) t v e h k =
     ap (λ (m : ℕ). set (b ∷ c ∷ r) m v) q ∙ ap (λ (l : List ℕ). b ∷ c ∷ l) (set-in-front r c t v k (omega arith) ∙ ap (λ (m : ℕ). set (take c r) t v ++ drop m r) (sym n))
 
 -- two changes of the lengths are the last one
-pub with-with : (a b ns : List ℕ) → 2 ≤ length ns → length a ≡ length b → withLengths a (withLengths b ns) ≡ withLengths a ns
+with-with : (a b ns : List ℕ) → 2 ≤ length ns → length a ≡ length b → withLengths a (withLengths b ns) ≡ withLengths a ns
 unfolding withLengths
 with-with a b [] h e = let z : ⊥ = omega arith in absurd z
 with-with a b (x ∷ []) h e = let z : ⊥ = omega arith in absurd z
@@ -58,7 +60,7 @@ with-with a b (x ∷ y ∷ r) h e =
     ap (λ (l : List ℕ). x ∷ y ∷ (a ++ l)) q
 
 -- a directory after one length has fallen
-module _ (ns : List ℕ) (t u : ℕ) (h : Held ns t) (k : 1 ≤ getD (directoryOf 64 ns .lengths) t 0) where
+module _ (ns : List ℕ) (t u : ℕ) (h : InDirectory ns t) (k : 1 ≤ getD (directoryOf 64 ns .lengths) t 0) where
   s : Shaped 64 262144 ns
   s = shaped 64 262144 ns (h .shaped)
 
@@ -76,7 +78,7 @@ module _ (ns : List ℕ) (t u : ℕ) (h : Held ns t) (k : 1 ≤ getD (directoryO
   changed : Kept 64 (oneFewer t ls) ns
   changed = with-lengths 64 (oneFewer t ls) ns (s .size) (length-set ls t (getD ls t 0 - 1) ∙ count) (s .few)
 
-  pub held-after : u < partitionCount 64 ns → Held (withLengths (oneFewer t (directoryOf 64 ns .lengths)) ns) u
+  pub held-after : u < partitionCount 64 ns → InDirectory (withLengths (oneFewer t (directoryOf 64 ns .lengths)) ns) u
   unfolding ls
   held-after m = record {
     shaped = shaped-passes 64 262144 _ (shaped-with 64 262144 (oneFewer t ls) ns s (length-set ls t (getD ls t 0 - 1) ∙ count) (omega (arith, fewer, s .room)));
@@ -101,7 +103,7 @@ column-is f d ls c ns g w y en eg ew ey = rw (en, eg, ew, ey)
 -- insert.
 
 module _ (c : Column) (d : Delivery) where
-  pub opened-lent : (n : ℕ) → n ≡ firstFailed (lentChecks 64 c) → (n ≡ 0 → ⊥) → notOpened n ≡ openedOf c d
+  pub opened-lent : (n : ℕ) → n ≡ firstFailed (lentChecks 64 c) → (n ≡ 0 → ⊥) → notShaped n ≡ openedOf c d
   unfolding openedOf
   opened-lent n e h = rw (lent-refusal c (insert d) n e h .0, ne-eqb n 0 h)
 
@@ -110,18 +112,20 @@ module _ (c : Column) (d : Delivery) where
     unfolding callChecks firstFailed
     insert-refusal s t e f = lent-yes c (insert d) h ∙ rw (e, f)
 
-    pub opened-range : inRange d ≡ false → notOpened 8 ≡ openedOf c d
+    pub opened-range : inRange d ≡ false → notShaped 8 ≡ openedOf c d
     unfolding openedOf
     opened-range e = rw (insert-refusal false (hasFreeSlot 64 c) e refl)
 
-    pub opened-full : inRange d ≡ true → length (c .growers) ≤ sumOf (lengthsOf 64 c) → notOpened 12 ≡ openedOf c d
+    pub opened-full : inRange d ≡ true → length (c .growers) ≤ sumOf (lengthsOf 64 c) → notShaped 12 ≡ openedOf c d
     unfolding openedOf hasFreeSlot
     opened-full e k = rw (insert-refusal true false e (le-ltb (sumOf (lengthsOf 64 c)) (length (c .growers)) k))
 
-    pub opened-yes : inRange d ≡ true → sumOf (lengthsOf 64 c) < length (c .growers)
-        → _≡_ {A = Opened} (record { refusal = 0; target = target 64 c (d .grower); start = startOf (lengthsOf 64 c) (target 64 c (d .grower)); used = sumOf (lengthsOf 64 c) }) (openedOf c d)
+    pub opened-yes : inRange d ≡ true → sumOf (lengthsOf 64 c) < length (c .growers) → (s : Shape) → s .refusal ≡ 0 → Carried (lentChecks 64 c) (c .directory) (d .grower) s → s ≡ openedOf c d
     unfolding openedOf hasFreeSlot
-    opened-yes e k = rw (insert-refusal true true e (lt-ltb (sumOf (lengthsOf 64 c)) (length (c .growers)) k))
+    opened-yes e k s z w =
+        let whole : _≡_ {A = Shape} (record { refusal = s .refusal; used = s .used; target = s .target; start = s .start }) (openedOf c d)
+        = rw (insert-refusal true true e (lt-ltb (sumOf (lengthsOf 64 c)) (length (c .growers)) k), z, w .used, w .target, w .start) in
+        whole
 
 -- tests by their outcome
 by-test : (b : Bool) (P : Type 0) → (b ≡ true → P) → (b ≡ false → P) → P
@@ -136,7 +140,7 @@ by-number (suc n) P f g = g (λ e. omega arith)
 pub ready : (c : Column) (g : ℕ) → firstFailed (lentChecks 64 c) ≡ 0 → Ready c (target 64 c g) (startOf (lengthsOf 64 c) (target 64 c g))
 ready c g h =
     let l = lent-column c h in
-    record { here = held c l (target 64 c g) (target-there c h g); start = refl; room = l .shape .room; even-weights = l .even-weights; even-yields = l .even-yields }
+    record { here = held c l (target 64 c g) (target-there c h g); start = refl; room = l .shape .room; even = l .even }
 
 module _ (c : Column) (d : Delivery) where
   -- an insert is refused by 2, 3, 6, 8 or 12
@@ -151,12 +155,12 @@ module _ (c : Column) (d : Delivery) where
       lent-not : (firstFailed (lentChecks 64 c) ≡ 0 → ⊥) → ⊥
       lent-not h = let r = lent-refusal c (insert d) (firstFailed (lentChecks 64 c)) refl h in r .1 (sym (r .0) ∙ e)
 
-  module _ (o : Opened) (w : o ≡ openedOf c d) where
+  module _ (o : Shape) (w : o ≡ openedOf c d) where
     opened-refusal : o .refusal ≡ columnRefusal 64 c (insert d)
     unfolding openedOf
     opened-refusal = by-number (columnRefusal 64 c (insert d)) _
-        (λ e. ap (λ (x : Opened). x .refusal) (rw e at w) ∙ sym e)
-        (λ e. ap (λ (x : Opened). x .refusal) (rw (ne-eqb (columnRefusal 64 c (insert d)) 0 e) at w))
+        (λ e. ap (λ (x : Shape). x .refusal) (rw e at w) ∙ sym e)
+        (λ e. ap (λ (x : Shape). x .refusal) (rw (ne-eqb (columnRefusal 64 c (insert d)) 0 e) at w))
 
     pub insert-refused : (o .refusal ≡ 0 → ⊥) → _≡_ {A = Called} (record { answer = withoutTotals (o .refusal) noCounts; column = c }) (columnCall 64 c (insert d))
     insert-refused h = refused-call c (insert d) (o .refusal) (sym opened-refusal) h (λ e. never-missing (sym opened-refusal ∙ e))
@@ -178,9 +182,9 @@ module _ (c : Column) (d : Delivery) where
         record {
           accepted = e;
           lent = l;
-          target-is = ap (λ (v : Opened). v .target) x;
-          start-is = ap (λ (v : Opened). v .start) x;
-          used-is = ap (λ (v : Opened). v .used) x;
+          target-is = ap (λ (v : Shape). v .target) x;
+          start-is = ap (λ (v : Shape). v .start) x;
+          used-is = ap (λ (v : Shape). v .used) x;
           free = by-test (inRange d) _
               (λ p. by-test (ltb (sumOf (lengthsOf 64 c)) (length (c .growers))) _ (λ q. ltb-true (sumOf (lengthsOf 64 c)) (length (c .growers)) q) (λ q. absurd (omega (arith, e, insert-refusal c d l true false p q))))
               (λ p. absurd (omega (arith, e, insert-refusal c d l false (hasFreeSlot 64 c) p refl)));

@@ -1,5 +1,5 @@
 -- A refusal, and where a delivery lies that delete or move names.
-use Prim.Native.Nat.{ℕ, _≤_, _<_}
+use Prim.Native.Nat.{ℕ, _+_, _*_, _≤_, _<_}
 use mathlib.Core.Path.{_≡_}
 use mathlib.Core.Bool.{cond}
 use mathlib.Core.List.{List}
@@ -15,11 +15,13 @@ use Rattle.model.specs.Calls.{insert, delete}
 use Rattle.model.specs.Partitions.{startOf, oneMore, oneFewer}
 use Rattle.model.specs.Moves.{inserted, deleted, moved}
 use Rattle.model.specs.Directory.{partitionCount, directoryOf, directoryOk}
+use Rattle.model.specs.Lent.{Even}
 use Rattle.model.specs.Column.{Column, lengthsOf, target}
 use Rattle.model.specs.Accesses.{noCounts, blocksOf, readsOf, scanNear}
 use Rattle.model.specs.ColumnCalls.{columnRefusal, slotOf, freed, moveSlices}
+use Rattle.checks.specs.declared.Shape.{Shape}
+use Rattle.checks.specs.Lent.{notShaped}
 use Rattle.column.specs.declared.Located.{Located}
-use Rattle.column.specs.declared.Opened.{Opened}
 
 -- an answer that has no totals
 abbrev pub withoutTotals : ℕ → Counts → Answer
@@ -48,27 +50,23 @@ locatedOf c d =
     (notLocated n (cond (eqb n 13) k noCounts))
 
 -- partition t of a directory for at most 262,144 slots
-pub record Held (ns : List ℕ) (t : ℕ) : Type 0 where
+pub record InDirectory (ns : List ℕ) (t : ℕ) : Type 0 where
   pub shaped : T (directoryOk 64 262144 ns)
   pub there : t < partitionCount 64 ns
 
 -- a column of proper shape, and partition t of it, which starts at a
 pub record Ready (c : Column) (t a : ℕ) : Type 0 where
-  pub here : Held (c .directory) t
+  pub here : InDirectory (c .directory) t
   pub start : a ≡ startOf (lengthsOf 64 c) t
   pub room : sumOf (lengthsOf 64 c) ≤ length (c .growers)
-  pub even-weights : length (c .weights) ≡ length (c .growers)
-  pub even-yields : length (c .yields) ≡ length (c .growers)
+  pub even : Even (c .growers) (c .weights) (c .yields)
 
 -- where an insert goes, or its refusal
-abbrev pub notOpened : ℕ → Opened
-notOpened n = record { refusal = n; target = 0; start = 0; used = 0 }
-
-unfoldable pub openedOf : Column → Delivery → Opened
+unfoldable pub openedOf : Column → Delivery → Shape
 openedOf c d =
     let n : ℕ = columnRefusal 64 c (insert d) in
     let t : ℕ = target 64 c (d .grower) in
-    cond (eqb n 0) (record { refusal = 0; target = t; start = startOf (lengthsOf 64 c) t; used = sumOf (lengthsOf 64 c) }) (notOpened n)
+    cond (eqb n 0) (record { refusal = 0; used = sumOf (lengthsOf 64 c); target = t; start = startOf (lengthsOf 64 c) t }) (notShaped n)
 
 -- the column after the slots and lengths of an insert, a delete and a move have changed
 abbrev pub putOf : Column → ℕ → Delivery → Column
@@ -80,10 +78,12 @@ takenOf c t i = moveSlices (deleted (lengthsOf 64 c) t i) freed (oneFewer t (len
 abbrev pub shiftedOf : Column → ℕ → ℕ → ℕ → Delivery → Column
 shiftedOf c t i u d = moveSlices (moved (lengthsOf 64 c) t i u) d (oneMore u (oneFewer t (lengthsOf 64 c))) c
 
--- what the partition call hands back, and the number that it leaves
+-- what the partition call hands back: where it lies (its block and its byte there), its numbers, and the number that is left
 pub record Part : Type 0 where
+  pub place : ℕ × ℕ
   pub part : List ℕ
   pub refusal : ℕ
 
-unfoldable pub partOf : PartitionSlice → List ℕ → Part
-partOf p gs = record { part = take (p .count) (drop (p .start) gs); refusal = p .refusal }
+-- of growers that lie at o, four bytes each
+unfoldable pub partOf : PartitionSlice → ℕ × ℕ → List ℕ → Part
+partOf p o gs = record { place = (o .0, p .start * 4 + o .1); part = take (p .count) (drop (p .start) gs); refusal = p .refusal }

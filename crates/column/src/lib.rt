@@ -1,9 +1,10 @@
-// The laid column (01): find, range, insert, delete, move and the partition call, over three lent slices and the lent directory of 130 numbers.
+// The laid column (01): find, range, insert, delete, move and the partition call, over three lent slices and the lent directory.
 // No call trusts what it is lent: each puts its checks first, and a refused call writes to no slice.
 ghost use mathlib.Core.Path.{_≡_};
 ghost use Prim.Native.Nat.{_+_, _-_, _≤_, _<_};
 ghost use lib.ListN.{length, getD};
 ghost use lib.Dec.{T};
+ghost use Rattle.model.specs.Bounds.{blockLimit, mostSlots};
 ghost use Rattle.model.specs.Lists.{sumOf};
 ghost use Rattle.model.specs.Deliveries.{rows};
 ghost use Rattle.model.specs.Checks.{firstFailed};
@@ -15,85 +16,96 @@ ghost use Rattle.model.specs.Directory.{partitionCount, directoryOf, directoryO
 ghost use Rattle.model.specs.Accesses.{noCounts, andAlso, onward, apart};
 ghost use Rattle.model.specs.Questions.{lentChecks};
 ghost use Rattle.model.specs.ColumnCalls.{columnCall, partitionCall};
-ghost use Rattle.checks.specs.Lent.{columnOf};
-ghost use Rattle.column.specs.Answers.{withoutTotals, notLocated, searchedOf, locatedOf, notOpened, openedOf, Held, Ready, putOf, takenOf, shiftedOf, partOf};
+ghost use Rattle.model.specs.Lent.{columnOf, columnIn, columnOut, Even};
+ghost use Rattle.checks.specs.Lent.{notShaped};
+ghost use Rattle.column.specs.Answers.{withoutTotals, notLocated, searchedOf, locatedOf, openedOf, partOf};
+ghost use Rattle.column.specs.Answers.{InDirectory, Ready, putOf, takenOf, shiftedOf};
+use checks::Shape;
 use model::Answer;
+use model::BLOCK;
+use model::COUNT;
 use model::Counts;
 use model::Delivery;
+use model::FENCES;
+use model::LENGTHS;
 use model::PartitionSlice;
-
-fn no_counts() -> Counts
-    ensures { λ r. ⌜ r ≡ noCounts ⌝ }
-{
-    Counts {
-        rr: 0,
-        sr: 0,
-        rw: 0,
-    }
-}
+use model::Totals;
 
 // An answer that has no totals: an accepted insert, delete or move, and every refusal.
-fn without_totals(n: u32, counts: Counts) -> Answer
-    ensures { λ r. ⌜ r ≡ withoutTotals n counts ⌝ }
+fn without_totals(refusal: u32, counts: Counts) -> Answer
+    ensures { λ r. ⌜ r ≡ withoutTotals refusal counts ⌝ }
 {
-    let totals = slices::no_totals();
+    let totals = Totals::none();
     Answer {
-        refusal: n,
+        refusal,
         counts,
         totals,
     }
 }
 
 // A refusal: totals and counts 0.
-fn refused(n: u32) -> Answer
-    ensures { λ r. ⌜ r ≡ withoutTotals n noCounts ⌝ }
+fn refused(refusal: u32) -> Answer
+    ensures { λ r. ⌜ r ≡ withoutTotals refusal noCounts ⌝ }
 {
-    without_totals(n, no_counts())
+    without_totals(refusal, Counts::none())
 }
 
 // A grower's partition.
-fn partition_of(directory: &[u32], g: u32) -> usize
-    requires { ⌜ T (directoryOk 64 262144 (now directory)) ⌝ }
-    ensures { λ r. ⌜ r ≡ place (directoryOf 64 (now (directory .entry)) .fences) g ⌝ }
+fn partition_of(directory: &[u32], grower: u32) -> usize
+    requires { ⌜ T (directoryOk blockLimit mostSlots (now directory)) ⌝ }
+    ensures { λ r. ⌜ r ≡ place (directoryOf blockLimit (now (directory .entry)) .fences) grower ⌝ }
 {
-    let f = 66 + directory[1] as usize;
-    slices::place_of(&directory[66..f], g)
+    let f = FENCES + directory[COUNT] as usize;
+    slices::place_of(&directory[FENCES..f], grower)
 }
 
-// The slot at which partition t starts.
-fn start_of(directory: &[u32], t: usize) -> usize
-    requires { ⌜ Held (now directory) t ⌝ }
-    ensures { λ r. ⌜ r ≡ startOf (directoryOf 64 (now (directory .entry)) .lengths) t ⌝ }
+// The slot at which a partition starts.
+fn start_of(directory: &[u32], partition: usize) -> usize
+    requires { ⌜ InDirectory (now directory) partition ⌝ }
+    ensures { λ r. ⌜ r ≡ startOf (directoryOf blockLimit (now (directory .entry)) .lengths) partition ⌝ }
 {
-    let e = 2 + t;
-    slices::total(&directory[2..e]) as usize
+    let e = LENGTHS + partition;
+    slices::total(&directory[LENGTHS..e]) as usize
 }
 
-// How many records partition t has.
-fn length_of(directory: &[u32], t: usize) -> usize
-    requires { ⌜ Held (now directory) t ⌝ }
-    ensures { λ r. ⌜ r ≡ getD (directoryOf 64 (now (directory .entry)) .lengths) t 0 ⌝ }
+// How many records a partition has.
+fn length_of(directory: &[u32], partition: usize) -> usize
+    requires { ⌜ InDirectory (now directory) partition ⌝ }
+    ensures { λ r. ⌜ r ≡ getD (directoryOf blockLimit (now (directory .entry)) .lengths) partition 0 ⌝ }
 {
-    directory[2 + t] as usize
+    directory[LENGTHS + partition] as usize
 }
 
-// The partitions from p, which is lo's and starts at a, to hi's, once checks 2, 3, 6 and 7 are passed.
+// The partitions from lo's, which begins at start, to hi's, once checks 2, 3, 6 and 7 are passed.
 fn read(
     directory: &[u32],
     g: &[u32],
     w: &[u32],
     y: &[u32],
-    p: usize,
-    a: usize,
+    from: usize,
+    start: usize,
     lo: u32,
     hi: u32,
 ) -> Answer
-    requires { ⌜ (firstFailed (lentChecks 64 (columnOf (now directory) (now g) (now w) (now y))) ≡ 0) × (lo ≤ hi) × (p ≡ place (directoryOf 64 (now directory) .fences) lo) × (a ≡ startOf (directoryOf 64 (now directory) .lengths) p) ⌝ }
-    ensures { λ r. ⌜ r ≡ columnCall 64 (columnOf (now (directory .entry)) (now (g .entry)) (now (w .entry)) (now (y .entry))) (range lo hi) .answer ⌝ }
+    requires { ⌜ (firstFailed (lentChecks blockLimit (columnOf (now directory) (now g) (now w) (now y))) ≡ 0) × (lo ≤ hi)
+        × (from ≡ place (directoryOf blockLimit (now directory) .fences) lo)
+        × (start ≡ startOf (directoryOf blockLimit (now directory) .lengths) from) ⌝ }
+    ensures { λ r. ⌜ r ≡ columnCall blockLimit (columnIn directory g w y) (range lo hi) .answer ⌝ }
 {
-    let l = 2 + directory[1] as usize;
-    let q = partition_of(directory, hi);
-    let s = scan::scan_parts(g, w, y, &directory[2..l], p, q, a, directory[0], lo, hi);
+    let l = LENGTHS + directory[COUNT] as usize;
+    let to = partition_of(directory, hi);
+    let s = scan::scan_parts(
+        g,
+        w,
+        y,
+        &directory[LENGTHS..l],
+        from,
+        to,
+        start,
+        directory[BLOCK],
+        lo,
+        hi,
+    );
     if !s.good {
         return refused(8);
     }
@@ -115,7 +127,7 @@ pub fn range(
     lo: u32,
     hi: u32,
 ) -> Answer
-    ensures { λ r. ⌜ r ≡ columnCall 64 (columnOf (now (directory .entry)) (now (growers .entry)) (now (weights .entry)) (now (yields .entry))) (range lo hi) .answer ⌝ }
+    ensures { λ r. ⌜ r ≡ columnCall blockLimit (columnIn directory growers weights yields) (range lo hi) .answer ⌝ }
 {
     let shape = checks::lent(directory, growers, weights, yields, lo);
     let n = shape.refusal;
@@ -145,7 +157,7 @@ pub fn find(
     yields: &[u32],
     grower: u32,
 ) -> Answer
-    ensures { λ r. ⌜ r ≡ columnCall 64 (columnOf (now (directory .entry)) (now (growers .entry)) (now (weights .entry)) (now (yields .entry))) (find grower) .answer ⌝ }
+    ensures { λ r. ⌜ r ≡ columnCall blockLimit (columnIn directory growers weights yields) (find grower) .answer ⌝ }
 {
     range(directory, growers, weights, yields, grower, grower)
 }
@@ -160,11 +172,11 @@ struct Located {
 }
 
 // A refusal of delete or move, and what its scan cost.
-fn not_located_after(n: u32, scanned: Counts) -> Located
-    ensures { λ r. ⌜ r ≡ notLocated n scanned ⌝ }
+fn not_located_after(refusal: u32, scanned: Counts) -> Located
+    ensures { λ r. ⌜ r ≡ notLocated refusal scanned ⌝ }
 {
     Located {
-        refusal: n,
+        refusal,
         target: 0,
         start: 0,
         slot: 0,
@@ -173,27 +185,35 @@ fn not_located_after(n: u32, scanned: Counts) -> Located
 }
 
 // A refusal of delete or move ahead of its scan.
-fn not_located(n: u32) -> Located
-    ensures { λ r. ⌜ r ≡ notLocated n noCounts ⌝ }
+fn not_located(refusal: u32) -> Located
+    ensures { λ r. ⌜ r ≡ notLocated refusal noCounts ⌝ }
 {
-    not_located_after(n, no_counts())
+    not_located_after(refusal, Counts::none())
 }
 
-// Checks 8 and 13 in partition t, which starts at a, of which it is handed its part of each slice.
-fn search_part(g: &[u32], w: &[u32], y: &[u32], b: u32, t: usize, a: usize, d: Delivery) -> Located
-    requires { ⌜ (length (now g) ≤ 262144) × (length (now w) ≡ length (now g)) × (length (now y) ≡ length (now g)) × (1 ≤ b) ⌝ }
-    ensures { λ r. ⌜ r ≡ searchedOf b t a d (rows (now (g .entry)) (now (w .entry)) (now (y .entry))) ⌝ }
+// Checks 8 and 13 in a partition, which begins at start, of which it is handed its part of each slice.
+fn search_part(
+    g: &[u32],
+    w: &[u32],
+    y: &[u32],
+    block: u32,
+    partition: usize,
+    start: usize,
+    d: Delivery,
+) -> Located
+    requires { ⌜ (length (now g) ≤ mostSlots) × Even (now g) (now w) (now y) × (1 ≤ block) ⌝ }
+    ensures { λ r. ⌜ r ≡ searchedOf block partition start d (rows (now (g .entry)) (now (w .entry)) (now (y .entry))) ⌝ }
 {
     if !checks::values_ok(w, y) {
         return not_located(8);
     }
     let i = slices::first_match(g, w, y, d);
-    let counts = scan::reads_of(scan::blocks_of(g.len(), b));
+    let counts = scan::reads_of(scan::blocks_of(g.len(), block));
     if i < g.len() {
         return Located {
             refusal: 0,
-            target: t,
-            start: a,
+            target: partition,
+            start,
             slot: i,
             counts,
         };
@@ -203,7 +223,7 @@ fn search_part(g: &[u32], w: &[u32], y: &[u32], b: u32, t: usize, a: usize, d: D
 
 // Checks 2, 3, 6, 8 and 13 of delete and move.
 fn locate(directory: &[u32], g: &[u32], w: &[u32], y: &[u32], d: Delivery) -> Located
-    ensures { λ r. ⌜ r ≡ locatedOf (columnOf (now (directory .entry)) (now (g .entry)) (now (w .entry)) (now (y .entry))) d ⌝ }
+    ensures { λ r. ⌜ r ≡ locatedOf (columnIn directory g w y) d ⌝ }
 {
     let shape = checks::lent(directory, g, w, y, d.grower);
     let n = shape.refusal;
@@ -216,49 +236,44 @@ fn locate(directory: &[u32], g: &[u32], w: &[u32], y: &[u32], d: Delivery) -> Lo
     let t = shape.target;
     let a = shape.start;
     let e = a + length_of(directory, t);
-    search_part(&g[a..e], &w[a..e], &y[a..e], directory[0], t, a, d)
+    search_part(&g[a..e], &w[a..e], &y[a..e], directory[BLOCK], t, a, d)
 }
 
-// One more record in partition t.
-fn grow(directory: &mut [u32], t: usize)
-    requires { ⌜ Held (now directory) t ⌝ }
-    ensures { λ r. ⌜ now (directory .exit) ≡ withLengths (oneMore t (directoryOf 64 (now (directory .entry)) .lengths)) (now (directory .entry)) ⌝ }
+// One more record in a partition.
+fn grow(directory: &mut [u32], partition: usize)
+    requires { ⌜ InDirectory (now directory) partition ⌝ }
+    ensures { λ r. ⌜ now (directory .exit)
+        ≡ withLengths (oneMore partition (directoryOf blockLimit (now (directory .entry)) .lengths)) (now (directory .entry)) ⌝ }
 {
-    let i = 2 + t;
+    let i = LENGTHS + partition;
     directory[i] = directory[i] + 1;
 }
 
-// One record fewer in partition t.
-fn shrink(directory: &mut [u32], t: usize)
-    requires { ⌜ Held (now directory) t × (1 ≤ getD (directoryOf 64 (now directory) .lengths) t 0) ⌝ }
-    ensures { λ r. ⌜ now (directory .exit) ≡ withLengths (oneFewer t (directoryOf 64 (now (directory .entry)) .lengths)) (now (directory .entry)) ⌝ }
+// One record fewer in a partition.
+fn shrink(directory: &mut [u32], partition: usize)
+    requires { ⌜ InDirectory (now directory) partition × (1 ≤ getD (directoryOf blockLimit (now directory) .lengths) partition 0) ⌝ }
+    ensures { λ r. ⌜ now (directory .exit)
+        ≡ withLengths (oneFewer partition (directoryOf blockLimit (now (directory .entry)) .lengths)) (now (directory .entry)) ⌝ }
 {
-    let i = 2 + t;
+    let i = LENGTHS + partition;
     directory[i] = directory[i] - 1;
 }
 
-// Where an insert goes, or why it is refused: its partition, where that starts, and the slots in use.
-struct Opened {
-    refusal: u32,
-    target: usize,
-    start: usize,
-    used: usize,
-}
-
-fn not_opened(n: u32) -> Opened
-    ensures { λ r. ⌜ r ≡ notOpened n ⌝ }
+// Why an insert is refused.
+fn not_opened(refusal: u32) -> Shape
+    ensures { λ r. ⌜ r ≡ notShaped refusal ⌝ }
 {
-    Opened {
-        refusal: n,
+    Shape {
+        refusal,
         target: 0,
         start: 0,
         used: 0,
     }
 }
 
-// Checks 2, 3, 6, 8 and 12 of an insert.
-fn open(directory: &[u32], g: &[u32], w: &[u32], y: &[u32], d: Delivery) -> Opened
-    ensures { λ r. ⌜ r ≡ openedOf (columnOf (now (directory .entry)) (now (g .entry)) (now (w .entry)) (now (y .entry))) d ⌝ }
+// Checks 2, 3, 6, 8 and 12 of an insert: where it goes, or why it is refused.
+fn open(directory: &[u32], g: &[u32], w: &[u32], y: &[u32], d: Delivery) -> Shape
+    ensures { λ r. ⌜ r ≡ openedOf (columnIn directory g w y) d ⌝ }
 {
     let shape = checks::lent(directory, g, w, y, d.grower);
     let n = shape.refusal;
@@ -268,126 +283,157 @@ fn open(directory: &[u32], g: &[u32], w: &[u32], y: &[u32], d: Delivery) -> Open
     if !checks::in_range(d) {
         return not_opened(8);
     }
-    let used = shape.used;
-    if g.len() <= used {
+    if g.len() <= shape.used {
         return not_opened(12);
     }
-    Opened {
-        refusal: 0,
-        target: shape.target,
-        start: shape.start,
-        used,
-    }
+    shape
 }
 
-// How many partitions there are from t to the last.
-fn onward(directory: &[u32], t: usize) -> u64
-    requires { ⌜ Held (now directory) t ⌝ }
-    ensures { λ r. ⌜ r ≡ onward (directoryOf 64 (now (directory .entry))) t ⌝ }
+// How many partitions there are from one to the last.
+fn onward(directory: &[u32], partition: usize) -> u64
+    requires { ⌜ InDirectory (now directory) partition ⌝ }
+    ensures { λ r. ⌜ r ≡ onward (directoryOf blockLimit (now (directory .entry))) partition ⌝ }
 {
-    (directory[1] as usize - t) as u64
+    (directory[COUNT] as usize - partition) as u64
 }
 
-// The slots and the length of an insert into partition t, which starts at a.
+// The slots and the length of an insert into a partition, which begins at start.
 fn put(
     directory: &mut [u32],
     g: &mut [u32],
     w: &mut [u32],
     y: &mut [u32],
-    t: usize,
-    a: usize,
+    partition: usize,
+    start: usize,
     used: usize,
     d: Delivery,
 )
-    requires { ⌜ Ready (columnOf (now directory) (now g) (now w) (now y)) t a × (used ≡ sumOf (directoryOf 64 (now directory) .lengths)) × (used < length (now g)) ⌝ }
-    ensures { λ r. ⌜ columnOf (now (directory .exit)) (now (g .exit)) (now (w .exit)) (now (y .exit))
-        ≡ putOf (columnOf (now (directory .entry)) (now (g .entry)) (now (w .entry)) (now (y .entry))) t d ⌝ }
+    requires { ⌜ Ready (columnOf (now directory) (now g) (now w) (now y)) partition start
+        × (used ≡ sumOf (directoryOf blockLimit (now directory) .lengths))
+        × (used < length (now g)) ⌝ }
+    ensures { λ r. ⌜ columnOut directory g w y
+        ≡ putOf (columnIn directory g w y) partition d ⌝ }
 {
-    let l = 2 + directory[1] as usize;
-    ripple::insert_slots(g, w, y, &directory[2..l], t, a, used, d);
-    grow(directory, t);
+    let l = LENGTHS + directory[COUNT] as usize;
+    ripple::insert_slots(g, w, y, &directory[LENGTHS..l], partition, start, used, d);
+    grow(directory, partition);
 }
 
-// The slots and the length of a delete of slot i of partition t, which starts at a.
+// The slots and the length of a delete of a slot of a partition, which begins at start.
 fn take_out(
     directory: &mut [u32],
     g: &mut [u32],
     w: &mut [u32],
     y: &mut [u32],
-    t: usize,
-    a: usize,
-    i: usize,
+    partition: usize,
+    start: usize,
+    slot: usize,
 )
-    requires { ⌜ Ready (columnOf (now directory) (now g) (now w) (now y)) t a × (i < getD (directoryOf 64 (now directory) .lengths) t 0) ⌝ }
-    ensures { λ r. ⌜ columnOf (now (directory .exit)) (now (g .exit)) (now (w .exit)) (now (y .exit))
-        ≡ takenOf (columnOf (now (directory .entry)) (now (g .entry)) (now (w .entry)) (now (y .entry))) t i ⌝ }
+    requires { ⌜ Ready (columnOf (now directory) (now g) (now w) (now y)) partition start
+        × (slot < getD (directoryOf blockLimit (now directory) .lengths) partition 0) ⌝ }
+    ensures { λ r. ⌜ columnOut directory g w y
+        ≡ takenOf (columnIn directory g w y) partition slot ⌝ }
 {
-    let l = 2 + directory[1] as usize;
+    let l = LENGTHS + directory[COUNT] as usize;
     let freed = Delivery {
         grower: 0,
         weight: 0,
         oil_yield: 0,
     };
-    ripple::delete_slots(g, w, y, &directory[2..l], t, a, i, freed);
-    shrink(directory, t);
+    ripple::delete_slots(
+        g,
+        w,
+        y,
+        &directory[LENGTHS..l],
+        partition,
+        start,
+        slot,
+        freed,
+    );
+    shrink(directory, partition);
 }
 
-// The slots of a move of slot i of partition t, which starts at a, to partition u, as d.
+// The slots of a move: a slot's record goes from one partition to another, as d.
 fn shift_slots(
     directory: &[u32],
     g: &mut [u32],
     w: &mut [u32],
     y: &mut [u32],
-    t: usize,
-    a: usize,
-    i: usize,
-    u: usize,
+    from: usize,
+    from_start: usize,
+    slot: usize,
+    to: usize,
     d: Delivery,
 )
-    requires { ⌜ Ready (columnOf (now directory) (now g) (now w) (now y)) t a × (i < getD (directoryOf 64 (now directory) .lengths) t 0) × (u < partitionCount 64 (now directory)) ⌝ }
-    ensures { λ r. ⌜ (now (g .exit) ≡ moved (directoryOf 64 (now (directory .entry)) .lengths) t i u (d .grower) (now (g .entry)))
-        × (now (w .exit) ≡ moved (directoryOf 64 (now (directory .entry)) .lengths) t i u (d .weight) (now (w .entry)))
-        × (now (y .exit) ≡ moved (directoryOf 64 (now (directory .entry)) .lengths) t i u (d .«oil_yield») (now (y .entry))) ⌝ }
+    requires { ⌜ Ready (columnOf (now directory) (now g) (now w) (now y)) from «from_start»
+        × (slot < getD (directoryOf blockLimit (now directory) .lengths) from 0)
+        × (to < partitionCount blockLimit (now directory)) ⌝ }
+    ensures { λ r. ⌜ (now (g .exit) ≡ moved (directoryOf blockLimit (now (directory .entry)) .lengths) from slot to (d .grower) (now (g .entry)))
+        × (now (w .exit) ≡ moved (directoryOf blockLimit (now (directory .entry)) .lengths) from slot to (d .weight) (now (w .entry)))
+        × (now (y .exit) ≡ moved (directoryOf blockLimit (now (directory .entry)) .lengths) from slot to (d .«oil_yield») (now (y .entry))) ⌝ }
 {
-    let l = 2 + directory[1] as usize;
-    if t <= u {
-        ripple::forward_slots(g, w, y, &directory[2..l], t, a, i, u, d);
+    let l = LENGTHS + directory[COUNT] as usize;
+    if from <= to {
+        ripple::forward_slots(
+            g,
+            w,
+            y,
+            &directory[LENGTHS..l],
+            from,
+            from_start,
+            slot,
+            to,
+            d,
+        );
         return;
     }
-    let b = start_of(directory, u);
-    ripple::backward_slots(g, w, y, &directory[2..l], t, a, i, u, b, d);
+    let to_start = start_of(directory, to);
+    ripple::backward_slots(
+        g,
+        w,
+        y,
+        &directory[LENGTHS..l],
+        from,
+        from_start,
+        slot,
+        to,
+        to_start,
+        d,
+    );
 }
 
-// The slots and the lengths of a move of slot i of partition t, which starts at a, to partition u, as d.
+// The slots and the lengths of a move: a slot's record goes from one partition to another, as d.
 fn shift(
     directory: &mut [u32],
     g: &mut [u32],
     w: &mut [u32],
     y: &mut [u32],
-    t: usize,
-    a: usize,
-    i: usize,
-    u: usize,
+    from: usize,
+    from_start: usize,
+    slot: usize,
+    to: usize,
     d: Delivery,
 )
-    requires { ⌜ Ready (columnOf (now directory) (now g) (now w) (now y)) t a × (i < getD (directoryOf 64 (now directory) .lengths) t 0) × (u < partitionCount 64 (now directory)) ⌝ }
-    ensures { λ r. ⌜ columnOf (now (directory .exit)) (now (g .exit)) (now (w .exit)) (now (y .exit))
-        ≡ shiftedOf (columnOf (now (directory .entry)) (now (g .entry)) (now (w .entry)) (now (y .entry))) t i u d ⌝ }
+    requires { ⌜ Ready (columnOf (now directory) (now g) (now w) (now y)) from «from_start»
+        × (slot < getD (directoryOf blockLimit (now directory) .lengths) from 0)
+        × (to < partitionCount blockLimit (now directory)) ⌝ }
+    ensures { λ r. ⌜ columnOut directory g w y
+        ≡ shiftedOf (columnIn directory g w y) from slot to d ⌝ }
 {
-    shift_slots(directory, g, w, y, t, a, i, u, d);
-    shrink(directory, t);
-    grow(directory, u);
+    shift_slots(directory, g, w, y, from, from_start, slot, to, d);
+    shrink(directory, from);
+    grow(directory, to);
 }
 
-// A scan's counts, and x random reads and y random writes more.
-fn with_more(s: Counts, x: u64, y: u64) -> Counts
-    requires { ⌜ (s .rr ≤ 1) × (s .«rw» ≤ 0) × (x ≤ 100) × (y ≤ 100) ⌝ }
-    ensures { λ r. ⌜ r ≡ andAlso s x y ⌝ }
+// A scan's counts, and random reads and random writes more.
+fn with_more(scanned: Counts, reads: u64, writes: u64) -> Counts
+    requires { ⌜ (scanned .rr ≤ 1) × (scanned .«rw» ≤ 0) × (reads ≤ 100) × (writes ≤ 100) ⌝ }
+    ensures { λ r. ⌜ r ≡ andAlso scanned reads writes ⌝ }
 {
     Counts {
-        rr: s.rr + x,
-        sr: s.sr,
-        rw: s.rw + y,
+        rr: scanned.rr + reads,
+        sr: scanned.sr,
+        rw: scanned.rw + writes,
     }
 }
 
@@ -399,8 +445,8 @@ pub fn insert(
     yields: &mut [u32],
     d: Delivery,
 ) -> Answer
-    ensures { λ r. ⌜ record { answer = r; column = columnOf (now (directory .exit)) (now (growers .exit)) (now (weights .exit)) (now (yields .exit)) }
-        ≡ columnCall 64 (columnOf (now (directory .entry)) (now (growers .entry)) (now (weights .entry)) (now (yields .entry))) (insert d) ⌝ }
+    ensures { λ r. ⌜ record { answer = r; column = columnOut directory growers weights yields }
+        ≡ columnCall blockLimit (columnIn directory growers weights yields) (insert d) ⌝ }
 {
     let o = open(directory, growers, weights, yields, d);
     let n = o.refusal;
@@ -426,8 +472,8 @@ pub fn delete(
     yields: &mut [u32],
     d: Delivery,
 ) -> Answer
-    ensures { λ r. ⌜ record { answer = r; column = columnOf (now (directory .exit)) (now (growers .exit)) (now (weights .exit)) (now (yields .exit)) }
-        ≡ columnCall 64 (columnOf (now (directory .entry)) (now (growers .entry)) (now (weights .entry)) (now (yields .entry))) (delete d) ⌝ }
+    ensures { λ r. ⌜ record { answer = r; column = columnOut directory growers weights yields }
+        ≡ columnCall blockLimit (columnIn directory growers weights yields) (delete d) ⌝ }
 {
     let f = locate(directory, growers, weights, yields, d);
     let s = f.counts;
@@ -442,13 +488,13 @@ pub fn delete(
 }
 
 // The partitions from one to another, the first not counted.
-fn apart(t: usize, u: usize) -> u64
-    ensures { λ r. ⌜ r ≡ apart t u ⌝ }
+fn apart(from: usize, to: usize) -> u64
+    ensures { λ r. ⌜ r ≡ apart from to ⌝ }
 {
-    if t < u {
-        return (u - t) as u64;
+    if from < to {
+        return (to - from) as u64;
     }
-    (t - u) as u64
+    (from - to) as u64
 }
 
 // Moves the first equal delivery of its grower's partition to a new grower.
@@ -460,8 +506,8 @@ pub fn move_delivery(
     d: Delivery,
     new_grower: u32,
 ) -> Answer
-    ensures { λ r. ⌜ record { answer = r; column = columnOf (now (directory .exit)) (now (growers .exit)) (now (weights .exit)) (now (yields .exit)) }
-        ≡ columnCall 64 (columnOf (now (directory .entry)) (now (growers .entry)) (now (weights .entry)) (now (yields .entry))) (move d «new_grower») ⌝ }
+    ensures { λ r. ⌜ record { answer = r; column = columnOut directory growers weights yields }
+        ≡ columnCall blockLimit (columnIn directory growers weights yields) (move d «new_grower») ⌝ }
 {
     let f = locate(directory, growers, weights, yields, d);
     let s = f.counts;
@@ -491,11 +537,11 @@ pub fn move_delivery(
     without_totals(0, counts)
 }
 
-fn no_partition(n: u32) -> PartitionSlice
-    ensures { λ r. ⌜ r ≡ record { refusal = n; start = 0; count = 0 } ⌝ }
+fn no_partition(refusal: u32) -> PartitionSlice
+    ensures { λ r. ⌜ r ≡ record { refusal = refusal; start = 0; count = 0 } ⌝ }
 {
     PartitionSlice {
-        refusal: n,
+        refusal,
         start: 0,
         count: 0,
     }
@@ -503,7 +549,7 @@ fn no_partition(n: u32) -> PartitionSlice
 
 // Where a grower's partition lies in the growers (01: the run call, by value).
 pub fn partition(directory: &[u32], growers: &[u32], grower: u32) -> PartitionSlice
-    ensures { λ r. ⌜ r ≡ partitionCall 64 (now (directory .entry)) (now (growers .entry)) grower ⌝ }
+    ensures { λ r. ⌜ r ≡ partitionCall blockLimit (now (directory .entry)) (now (growers .entry)) grower ⌝ }
 {
     let shape = checks::lent_growers(directory, growers, grower);
     let n = shape.refusal;
@@ -526,7 +572,8 @@ pub fn partition_slice<'a>(
     grower: u32,
     refusal: &mut u32,
 ) -> &'a [u32]
-    ensures { λ r. ⌜ record { part = now r; refusal = now (refusal .exit) } ≡ partOf (partitionCall 64 (now (directory .entry)) (now (growers .entry)) grower) (now (growers .entry)) ⌝ }
+    ensures { λ r. ⌜ record { place = r .ptr; part = now r; refusal = now (refusal .exit) }
+        ≡ partOf (partitionCall blockLimit (now (directory .entry)) (now (growers .entry)) grower) (growers .entry .ptr) (now (growers .entry)) ⌝ }
 {
     let p = partition(directory, growers, grower);
     *refusal = p.refusal;

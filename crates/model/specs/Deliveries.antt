@@ -1,5 +1,5 @@
 -- Deliveries (01: deliveries and blocks).
-use Prim.Native.Nat.{ℕ, _+_, _*_}
+use Prim.Native.Nat.{ℕ, _+_, _*_, _≤_}
 use mathlib.Core.Bool.{Bool, false, cond, _&&_, _||_}
 use mathlib.Core.List.{List, [], _∷_, map}
 use lib.ListN.{length}
@@ -53,6 +53,16 @@ matches lo hi d = leb lo (d .grower) && leb (d .grower) hi
 
 abbrev pub noTotals : Totals
 noTotals = record { records = 0; weight = 0; oil = 0 }
+
+-- the totals of two lists of records together
+abbrev pub plusTotals : Totals → Totals → Totals
+plusTotals a b = record { records = a .records + b .records; weight = a .weight + b .weight; oil = a .oil + b .oil }
+
+-- totals of at most m records
+pub record LightTotals (m : ℕ) (t : Totals) : Type 0 where
+  pub few : t .records ≤ m
+  pub light : t .weight ≤ mostWeight * m
+  pub little : t .oil ≤ mostWeight * mostYield * m
 
 -- "the number of matching records, their total weight and their total oil (weight × yield)"
 unfoldable pub totalsOf : List Delivery → Totals

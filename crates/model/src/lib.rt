@@ -1,5 +1,8 @@
 // The terms of the store: what a call is given and what it answers. What they mean is in specs/.
 ghost use mathlib.Core.Path.{_≡_};
+ghost use Rattle.model.specs.Bounds.{mostSlots};
+ghost use Rattle.model.specs.Deliveries.{noTotals, LightTotals, plusTotals};
+ghost use Rattle.model.specs.Accesses.{noCounts};
 ghost use Rattle.model.specs.Prices.{factory};
 ghost use Rattle.model.specs.Tallies.{emptyTally};
 
@@ -102,12 +105,50 @@ pub struct Counts {
     pub rw: u64,
 }
 
+impl Counts {
+    // Nothing read or written.
+    pub fn none() -> Self
+        ensures { λ r. ⌜ r ≡ noCounts ⌝ }
+    {
+        Counts {
+            rr: 0,
+            sr: 0,
+            rw: 0,
+        }
+    }
+}
+
 // What find and range answer: matching records, their weight, their oil (weight times yield).
 #[repr(C)]
 pub struct Totals {
     pub records: u64,
     pub weight: u64,
     pub oil: u64,
+}
+
+impl Totals {
+    // No record.
+    pub fn none() -> Self
+        ensures { λ r. ⌜ r ≡ noTotals ⌝ }
+    {
+        Totals {
+            records: 0,
+            weight: 0,
+            oil: 0,
+        }
+    }
+
+    // The totals of two lists of records together.
+    pub fn plus(self, more: Totals) -> Self
+        requires { ⌜ LightTotals mostSlots self × LightTotals mostSlots more ⌝ }
+        ensures { λ r. ⌜ r ≡ plusTotals self more ⌝ }
+    {
+        Totals {
+            records: self.records + more.records,
+            weight: self.weight + more.weight,
+            oil: self.oil + more.oil,
+        }
+    }
 }
 
 // The counts of many calls, added up.

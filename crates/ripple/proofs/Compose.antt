@@ -110,7 +110,7 @@ module _ {A : Type 0} where
   drop-rest a n r h k = sym (drop-append-le a (take n r) (drop n r) (omega (arith, length-take-le n r k))) ∙ ap (drop a) (take-append-drop n r)
 
   -- a move backward is an insert into the column that ends before t, once t's first record has gone to slot i
-  pub backward-law : (d : A) (ns : List ℕ) (t i u : ℕ) (x : A) (s : List A) → u < t → t < length ns → i < getD ns t 0 → sumOf ns ≤ length s
+  backward-law : (d : A) (ns : List ℕ) (t i u : ℕ) (x : A) (s : List A) → u < t → t < length ns → i < getD ns t 0 → sumOf ns ≤ length s
       → moved ns t i u x s ≡ inserted (take t ns) u x (set s (sumOf (take t ns) + i) (getD s (sumOf (take t ns)) d))
   unfolding moved moveBackward inserted fillFromFront free startOf
   backward-law d ns t i u x s j h k l =

@@ -19,7 +19,7 @@ module _ {A : Type 0} where
       rw (e, drop-append-seam, take-append-seam)
 
   -- slot p takes the last of the n records after it
-  pub carry-down : (d : A) (s : List A) (p n : ℕ) → p + n < length s → take (p + n) (set s p (getD s (p + n) d)) ≡ take p s ++ rotateRight (take n (drop (p + 1) s))
+  carry-down : (d : A) (s : List A) (p n : ℕ) → p + n < length s → take (p + n) (set s p (getD s (p + n) d)) ≡ take p s ++ rotateRight (take n (drop (p + 1) s))
   unfolding rotateRight
   carry-down d s p zero h =
       let e : p + 0 ≡ p = omega arith in

@@ -2,6 +2,7 @@
 ghost use mathlib.Core.Path.{_≡_};
 ghost use Prim.Native.Nat.{_+_, _≤_, _<_};
 ghost use lib.ListN.{length, getD, set};
+ghost use Rattle.model.specs.Lent.{Even};
 ghost use Rattle.model.specs.Lists.{sumOf};
 ghost use Rattle.model.specs.Partitions.{startOf};
 ghost use Rattle.model.specs.Moves.{inserted, deleted, moved};
@@ -9,7 +10,7 @@ use model::Delivery;
 
 // Slot p takes the record of slot q.
 fn carry(g: &mut [u32], w: &mut [u32], y: &mut [u32], q: usize, p: usize)
-    requires { ⌜ (q < length (now g)) × (p < length (now g)) × (length (now w) ≡ length (now g)) × (length (now y) ≡ length (now g)) ⌝ }
+    requires { ⌜ (q < length (now g)) × (p < length (now g)) × Even (now g) (now w) (now y) ⌝ }
     ensures { λ r. ⌜ (now (g .exit) ≡ set (now (g .entry)) p (getD (now (g .entry)) q 0))
         × (now (w .exit) ≡ set (now (w .entry)) p (getD (now (w .entry)) q 0))
         × (now (y .exit) ≡ set (now (y .entry)) p (getD (now (y .entry)) q 0)) ⌝ }
@@ -21,7 +22,7 @@ fn carry(g: &mut [u32], w: &mut [u32], y: &mut [u32], q: usize, p: usize)
 
 // Slot p takes the delivery.
 fn store(g: &mut [u32], w: &mut [u32], y: &mut [u32], p: usize, d: Delivery)
-    requires { ⌜ (p < length (now g)) × (length (now w) ≡ length (now g)) × (length (now y) ≡ length (now g)) ⌝ }
+    requires { ⌜ (p < length (now g)) × Even (now g) (now w) (now y) ⌝ }
     ensures { λ r. ⌜ (now (g .exit) ≡ set (now (g .entry)) p (d .grower))
         × (now (w .exit) ≡ set (now (w .entry)) p (d .weight))
         × (now (y .exit) ≡ set (now (y .entry)) p (d .«oil_yield»)) ⌝ }
@@ -33,7 +34,7 @@ fn store(g: &mut [u32], w: &mut [u32], y: &mut [u32], p: usize, d: Delivery)
 
 // From the target's start on: d goes past the end of the first partition of lens; end is where the last one ends.
 fn insert_ripple(g: &mut [u32], w: &mut [u32], y: &mut [u32], lens: &[u32], end: usize, d: Delivery)
-    requires { ⌜ (1 ≤ length (now lens)) × (sumOf (now lens) ≡ «end») × («end» < length (now g)) × (length (now w) ≡ length (now g)) × (length (now y) ≡ length (now g)) ⌝ }
+    requires { ⌜ (1 ≤ length (now lens)) × (sumOf (now lens) ≡ «end») × («end» < length (now g)) × Even (now g) (now w) (now y) ⌝ }
     ensures { λ r. ⌜ (now (g .exit) ≡ inserted (now (lens .entry)) 0 (d .grower) (now (g .entry)))
         × (now (w .exit) ≡ inserted (now (lens .entry)) 0 (d .weight) (now (w .entry)))
         × (now (y .exit) ≡ inserted (now (lens .entry)) 0 (d .«oil_yield») (now (y .entry))) ⌝ }
@@ -49,15 +50,22 @@ fn insert_ripple(g: &mut [u32], w: &mut [u32], y: &mut [u32], lens: &[u32], end:
     store(g, w, y, p, d);
 }
 
-// From a partition's start on: its slot i goes, and d fills the slot that is freed at the end of the last of lens.
-fn delete_ripple(g: &mut [u32], w: &mut [u32], y: &mut [u32], lens: &[u32], i: usize, d: Delivery)
-    requires { ⌜ (1 ≤ length (now lens)) × (i < getD (now lens) 0 0) × (sumOf (now lens) ≤ length (now g)) × (length (now w) ≡ length (now g)) × (length (now y) ≡ length (now g)) ⌝ }
-    ensures { λ r. ⌜ (now (g .exit) ≡ deleted (now (lens .entry)) 0 i (d .grower) (now (g .entry)))
-        × (now (w .exit) ≡ deleted (now (lens .entry)) 0 i (d .weight) (now (w .entry)))
-        × (now (y .exit) ≡ deleted (now (lens .entry)) 0 i (d .«oil_yield») (now (y .entry))) ⌝ }
+// From a partition's start on: its slot goes, and d fills the slot that is freed at the end of the last of lens.
+fn delete_ripple(
+    g: &mut [u32],
+    w: &mut [u32],
+    y: &mut [u32],
+    lens: &[u32],
+    slot: usize,
+    d: Delivery,
+)
+    requires { ⌜ (1 ≤ length (now lens)) × (slot < getD (now lens) 0 0) × (sumOf (now lens) ≤ length (now g)) × Even (now g) (now w) (now y) ⌝ }
+    ensures { λ r. ⌜ (now (g .exit) ≡ deleted (now (lens .entry)) 0 slot (d .grower) (now (g .entry)))
+        × (now (w .exit) ≡ deleted (now (lens .entry)) 0 slot (d .weight) (now (w .entry)))
+        × (now (y .exit) ≡ deleted (now (lens .entry)) 0 slot (d .«oil_yield») (now (y .entry))) ⌝ }
 {
     let mut p = lens[0] as usize - 1;
-    carry(g, w, y, p, i);
+    carry(g, w, y, p, slot);
     let mut j = 1;
     while j < lens.len() {
         let q = p + lens[j] as usize;
@@ -68,108 +76,134 @@ fn delete_ripple(g: &mut [u32], w: &mut [u32], y: &mut [u32], lens: &[u32], i: u
     store(g, w, y, p, d);
 }
 
-// From the new partition's start on: the old one, which starts at end, fills its slot i from its front, and d goes past the end of the first of lens.
+// From the new partition's start on: the old one, which starts at end, fills its slot from its front, and d goes past the end of the first of lens.
 fn backward_ripple(
     g: &mut [u32],
     w: &mut [u32],
     y: &mut [u32],
     lens: &[u32],
     end: usize,
-    i: usize,
+    slot: usize,
     d: Delivery,
 )
-    requires { ⌜ (1 ≤ length (now lens)) × (sumOf (now lens) ≡ «end») × («end» + i < length (now g)) × (length (now w) ≡ length (now g)) × (length (now y) ≡ length (now g)) ⌝ }
-    ensures { λ r. ⌜ (now (g .exit) ≡ inserted (now (lens .entry)) 0 (d .grower) (set (now (g .entry)) («end» + i) (getD (now (g .entry)) «end» 0)))
-        × (now (w .exit) ≡ inserted (now (lens .entry)) 0 (d .weight) (set (now (w .entry)) («end» + i) (getD (now (w .entry)) «end» 0)))
-        × (now (y .exit) ≡ inserted (now (lens .entry)) 0 (d .«oil_yield») (set (now (y .entry)) («end» + i) (getD (now (y .entry)) «end» 0))) ⌝ }
+    requires { ⌜ (1 ≤ length (now lens)) × (sumOf (now lens) ≡ «end») × («end» + slot < length (now g)) × Even (now g) (now w) (now y) ⌝ }
+    ensures { λ r. ⌜ (now (g .exit) ≡ inserted (now (lens .entry)) 0 (d .grower) (set (now (g .entry)) («end» + slot) (getD (now (g .entry)) «end» 0)))
+        × (now (w .exit) ≡ inserted (now (lens .entry)) 0 (d .weight) (set (now (w .entry)) («end» + slot) (getD (now (w .entry)) «end» 0)))
+        × (now (y .exit) ≡ inserted (now (lens .entry)) 0 (d .«oil_yield») (set (now (y .entry)) («end» + slot) (getD (now (y .entry)) «end» 0))) ⌝ }
 {
-    let f = end + i;
+    let f = end + slot;
     carry(g, w, y, end, f);
     insert_ripple(g, w, y, lens, end, d);
 }
 
-// Three slices: the delivery goes into partition t, which starts at a; used is where the last partition ends.
+// The delivery goes into a partition, which begins at start; used is where the last one ends.
 pub fn insert_slots(
     g: &mut [u32],
     w: &mut [u32],
     y: &mut [u32],
     lens: &[u32],
-    t: usize,
-    a: usize,
+    partition: usize,
+    start: usize,
     used: usize,
     d: Delivery,
 )
-    requires { ⌜ (t < length (now lens)) × (a ≡ startOf (now lens) t) × (used ≡ sumOf (now lens)) × (used < length (now g)) × (length (now w) ≡ length (now g)) × (length (now y) ≡ length (now g)) ⌝ }
-    ensures { λ r. ⌜ (now (g .exit) ≡ inserted (now (lens .entry)) t (d .grower) (now (g .entry)))
-        × (now (w .exit) ≡ inserted (now (lens .entry)) t (d .weight) (now (w .entry)))
-        × (now (y .exit) ≡ inserted (now (lens .entry)) t (d .«oil_yield») (now (y .entry))) ⌝ }
+    requires { ⌜ (partition < length (now lens)) × (start ≡ startOf (now lens) partition) × (used ≡ sumOf (now lens)) × (used < length (now g))
+        × Even (now g) (now w) (now y) ⌝ }
+    ensures { λ r. ⌜ (now (g .exit) ≡ inserted (now (lens .entry)) partition (d .grower) (now (g .entry)))
+        × (now (w .exit) ≡ inserted (now (lens .entry)) partition (d .weight) (now (w .entry)))
+        × (now (y .exit) ≡ inserted (now (lens .entry)) partition (d .«oil_yield») (now (y .entry))) ⌝ }
 {
-    let n = used - a;
-    insert_ripple(&mut g[a..], &mut w[a..], &mut y[a..], &lens[t..], n, d);
+    let n = used - start;
+    insert_ripple(
+        &mut g[start..],
+        &mut w[start..],
+        &mut y[start..],
+        &lens[partition..],
+        n,
+        d,
+    );
 }
 
-// Three slices: slot i of partition t, which starts at a, goes, and the freed slot gets the numbers of d.
+// A slot of a partition, which begins at start, goes, and the freed slot gets the numbers of d.
 pub fn delete_slots(
     g: &mut [u32],
     w: &mut [u32],
     y: &mut [u32],
     lens: &[u32],
-    t: usize,
-    a: usize,
-    i: usize,
+    partition: usize,
+    start: usize,
+    slot: usize,
     d: Delivery,
 )
-    requires { ⌜ (t < length (now lens)) × (a ≡ startOf (now lens) t) × (i < getD (now lens) t 0) × (sumOf (now lens) ≤ length (now g)) × (length (now w) ≡ length (now g)) × (length (now y) ≡ length (now g)) ⌝ }
-    ensures { λ r. ⌜ (now (g .exit) ≡ deleted (now (lens .entry)) t i (d .grower) (now (g .entry)))
-        × (now (w .exit) ≡ deleted (now (lens .entry)) t i (d .weight) (now (w .entry)))
-        × (now (y .exit) ≡ deleted (now (lens .entry)) t i (d .«oil_yield») (now (y .entry))) ⌝ }
+    requires { ⌜ (partition < length (now lens)) × (start ≡ startOf (now lens) partition) × (slot < getD (now lens) partition 0)
+        × (sumOf (now lens) ≤ length (now g)) × Even (now g) (now w) (now y) ⌝ }
+    ensures { λ r. ⌜ (now (g .exit) ≡ deleted (now (lens .entry)) partition slot (d .grower) (now (g .entry)))
+        × (now (w .exit) ≡ deleted (now (lens .entry)) partition slot (d .weight) (now (w .entry)))
+        × (now (y .exit) ≡ deleted (now (lens .entry)) partition slot (d .«oil_yield») (now (y .entry))) ⌝ }
 {
-    delete_ripple(&mut g[a..], &mut w[a..], &mut y[a..], &lens[t..], i, d);
+    delete_ripple(
+        &mut g[start..],
+        &mut w[start..],
+        &mut y[start..],
+        &lens[partition..],
+        slot,
+        d,
+    );
 }
 
-// Three slices: slot i of partition t, which starts at a, goes, and goes to partition u, no earlier, as d.
+// A slot's record goes from one partition to another, no earlier one, as d.
 pub fn forward_slots(
     g: &mut [u32],
     w: &mut [u32],
     y: &mut [u32],
     lens: &[u32],
-    t: usize,
-    a: usize,
-    i: usize,
-    u: usize,
+    from: usize,
+    from_start: usize,
+    slot: usize,
+    to: usize,
     d: Delivery,
 )
-    requires { ⌜ (t ≤ u) × (u < length (now lens)) × (a ≡ startOf (now lens) t) × (i < getD (now lens) t 0) × (sumOf (now lens) ≤ length (now g)) × (length (now w) ≡ length (now g)) × (length (now y) ≡ length (now g)) ⌝ }
-    ensures { λ r. ⌜ (now (g .exit) ≡ moved (now (lens .entry)) t i u (d .grower) (now (g .entry)))
-        × (now (w .exit) ≡ moved (now (lens .entry)) t i u (d .weight) (now (w .entry)))
-        × (now (y .exit) ≡ moved (now (lens .entry)) t i u (d .«oil_yield») (now (y .entry))) ⌝ }
+    requires { ⌜ (from ≤ to) × (to < length (now lens)) × («from_start» ≡ startOf (now lens) from) × (slot < getD (now lens) from 0)
+        × (sumOf (now lens) ≤ length (now g)) × Even (now g) (now w) (now y) ⌝ }
+    ensures { λ r. ⌜ (now (g .exit) ≡ moved (now (lens .entry)) from slot to (d .grower) (now (g .entry)))
+        × (now (w .exit) ≡ moved (now (lens .entry)) from slot to (d .weight) (now (w .entry)))
+        × (now (y .exit) ≡ moved (now (lens .entry)) from slot to (d .«oil_yield») (now (y .entry))) ⌝ }
 {
-    if t < u {
-        delete_slots(g, w, y, &lens[..u], t, a, i, d);
+    if from < to {
+        delete_slots(g, w, y, &lens[..to], from, from_start, slot, d);
         return;
     }
-    let v = t + 1;
-    delete_slots(g, w, y, &lens[..v], t, a, i, d);
+    let v = from + 1;
+    delete_slots(g, w, y, &lens[..v], from, from_start, slot, d);
 }
 
-// Three slices: slot i of partition t, which starts at b, goes, and goes to the earlier partition u, which starts at a, as d.
+// A slot's record goes from one partition to an earlier one, as d.
 pub fn backward_slots(
     g: &mut [u32],
     w: &mut [u32],
     y: &mut [u32],
     lens: &[u32],
-    t: usize,
-    b: usize,
-    i: usize,
-    u: usize,
-    a: usize,
+    from: usize,
+    from_start: usize,
+    slot: usize,
+    to: usize,
+    to_start: usize,
     d: Delivery,
 )
-    requires { ⌜ (u < t) × (t < length (now lens)) × (b ≡ startOf (now lens) t) × (a ≡ startOf (now lens) u) × (i < getD (now lens) t 0) × (sumOf (now lens) ≤ length (now g)) × (length (now w) ≡ length (now g)) × (length (now y) ≡ length (now g)) ⌝ }
-    ensures { λ r. ⌜ (now (g .exit) ≡ moved (now (lens .entry)) t i u (d .grower) (now (g .entry)))
-        × (now (w .exit) ≡ moved (now (lens .entry)) t i u (d .weight) (now (w .entry)))
-        × (now (y .exit) ≡ moved (now (lens .entry)) t i u (d .«oil_yield») (now (y .entry))) ⌝ }
+    requires { ⌜ (to < from) × (from < length (now lens)) × («from_start» ≡ startOf (now lens) from) × («to_start» ≡ startOf (now lens) to)
+        × (slot < getD (now lens) from 0) × (sumOf (now lens) ≤ length (now g)) × Even (now g) (now w) (now y) ⌝ }
+    ensures { λ r. ⌜ (now (g .exit) ≡ moved (now (lens .entry)) from slot to (d .grower) (now (g .entry)))
+        × (now (w .exit) ≡ moved (now (lens .entry)) from slot to (d .weight) (now (w .entry)))
+        × (now (y .exit) ≡ moved (now (lens .entry)) from slot to (d .«oil_yield») (now (y .entry))) ⌝ }
 {
-    let n = b - a;
-    backward_ripple(&mut g[a..], &mut w[a..], &mut y[a..], &lens[u..t], n, i, d);
+    let n = from_start - to_start;
+    backward_ripple(
+        &mut g[to_start..],
+        &mut w[to_start..],
+        &mut y[to_start..],
+        &lens[to..from],
+        n,
+        slot,
+        d,
+    );
 }

@@ -10,8 +10,10 @@ use lib.ListN.{length, getD, take, drop, length-take, length-drop}
 use lib.Seq.{take-suc, getD-drop}
 use Rattle.model.specs.declared.Delivery.{Delivery}
 use Rattle.model.specs.declared.Totals.{Totals}
+use Rattle.model.specs.Bounds.{blockLimit, mostSlots}
+use Rattle.model.specs.Lent.{Even}
 use Rattle.model.specs.Lists.{sumOf, every, keep}
-use Rattle.model.specs.Deliveries.{inRange, noTotals, totalsOf, totalsBetween, rows}
+use Rattle.model.specs.Deliveries.{plusTotals, inRange, noTotals, totalsOf, totalsBetween, rows}
 use Rattle.model.specs.Partitions.{parts, part, startOf}
 use Rattle.model.specs.Accesses.{blocksOf}
 use Rattle.model.proofs.Tests.{and-fst, and-snd, of-true}
@@ -20,7 +22,7 @@ use Rattle.model.proofs.Parts.{flatten-parts, take-parts, drop-parts, part-part
 use Rattle.model.proofs.Deliveries.{values-rows, rows-part}
 use Rattle.checks.specs.Lent.{allValuesOk}
 use Rattle.scan.specs.declared.Scan.{Scan}
-use Rattle.slices.specs.Slices.{Measured, plusTotals}
+use Rattle.slices.specs.Slices.{Measured}
 use Rattle.slices.proofs.Sums.{totals-joined, totals-light}
 use Rattle.scan.specs.Scans.{badScan, scanMore, recordsIn, scanOf, Light}
 use Rattle.scan.proofs.Blocks.{blocks-most}
@@ -42,27 +44,20 @@ module _ (b lo hi : ℕ) (s : Scan) (g w y : List ℕ) (p : length w ≡ length 
   more-good t k e f h i = rw (e, values-rows g w y p q, f, h, i)
 
 -- slices that pass check 8 may be totalled
-pub measured : (g w y : List ℕ) → length g ≤ 262144 → length w ≡ length g → length y ≡ length g → allValuesOk w y ≡ true → Measured g w y
-measured g w y h p q e =
+pub measured : (g w y : List ℕ) → length g ≤ mostSlots → Even g w y → allValuesOk w y ≡ true → Measured g w y
+measured g w y h p e =
     let t : T (allValuesOk w y) = of-true (allValuesOk w y) e in
     record {
       few = h;
-      even-weights = p;
-      even-yields = q;
+      even = p;
       good-weights = and-fst (every (λ (n : ℕ). leb n 100000) w) (every (λ (n : ℕ). leb n 10000) y) t;
       good-yields = and-snd (every (λ (n : ℕ). leb n 100000) w) (every (λ (n : ℕ). leb n 10000) y) t;
     }
 
--- parts of even slices are even
-pub even-parts : (n at : ℕ) (g w y : List ℕ) → length g ≤ 262144 → length w ≡ length g → length y ≡ length g
-    → (length (take n (drop at g)) ≤ 262144) × (length (take n (drop at w)) ≡ length (take n (drop at g))) × (length (take n (drop at y)) ≡ length (take n (drop at g)))
-even-parts n at g w y h p q =
-    (simp (length-take, length-drop) (omega arith), simp (length-take, length-drop) (omega arith), simp (length-take, length-drop) (omega arith))
-
 -- Partitions, one after the other.
 
 module _ (b : ℕ) (ns : List ℕ) (p lo hi : ℕ) (ds : List Delivery) where
-  pub scan-none : _≡_ {A = Scan} (record { good = true; totals = noTotals; blocks = 0 }) (scanOf b ns p 0 lo hi ds)
+  scan-none : _≡_ {A = Scan} (record { good = true; totals = noTotals; blocks = 0 }) (scanOf b ns p 0 lo hi ds)
   unfolding scanOf every keep totalsOf sumOf flatten
   scan-none = refl
 
@@ -88,7 +83,7 @@ module _ (b : ℕ) (ns : List ℕ) (p lo hi : ℕ) (ds : List Delivery) where
       ∙ ap (λ (x : ℕ). sumOf (map (blocksOf b) (take n l)) + (blocksOf b x + 0)) e
       ∙ omega arith
 
-  pub scan-next : (n : ℕ) → p + n < length ns → sumOf ns ≤ length ds
+  scan-next : (n : ℕ) → p + n < length ns → sumOf ns ≤ length ds
       → scanOf b ns p (n + 1) lo hi ds ≡ scanMore b lo hi (scanOf b ns p n lo hi ds) (part (p + n) (parts ns ds))
   unfolding scanOf scanMore
   scan-next n h room =
@@ -109,20 +104,20 @@ blocks-sum b [] h = omega arith
 blocks-sum b (n ∷ l) h = omega (arith, blocks-most b n h, blocks-sum b l h)
 
 -- the counters stay small
-pub scan-light : (b : ℕ) (ns : List ℕ) (p n lo hi : ℕ) (ds : List Delivery) → 1 ≤ b → sumOf ns ≤ length ds → length ds ≤ 262144 → length ns ≤ 64 → Light 262144 64 (scanOf b ns p n lo hi ds)
+scan-light : (b : ℕ) (ns : List ℕ) (p n lo hi : ℕ) (ds : List Delivery) → 1 ≤ b → sumOf ns ≤ length ds → length ds ≤ mostSlots → length ns ≤ blockLimit → Light mostSlots blockLimit (scanOf b ns p n lo hi ds)
 unfolding scanOf
 scan-light b ns p n lo hi ds h room few short = go (every inRange (recordsIn ns p n ds)) refl
   where
     len : length (recordsIn ns p n ds) ≤ length ds
     len = rw (drop-parts, take-parts, flatten-parts, length-take, length-drop) (omega arith)
 
-    sum : sumOf (take n (drop p ns)) + length (take n (drop p ns)) ≤ 262144 + 64
+    sum : sumOf (take n (drop p ns)) + length (take n (drop p ns)) ≤ mostSlots + blockLimit
     sum = omega (arith, sum-take-le (drop p ns) n, sum-cut p ns, length-take n (drop p ns), length-drop p ns)
 
     go : (t : Bool) → every inRange (recordsIn ns p n ds) ≡ t
-        → Light 262144 64 (cond t (record { good = true; totals = totalsBetween lo hi (recordsIn ns p n ds); blocks = sumOf (map (blocksOf b) (take n (drop p ns))) }) badScan)
+        → Light mostSlots blockLimit (cond t (record { good = true; totals = totalsBetween lo hi (recordsIn ns p n ds); blocks = sumOf (map (blocksOf b) (take n (drop p ns))) }) badScan)
     go true e =
-        record { light = totals-light lo hi 262144 (recordsIn ns p n ds) (of-true _ e) (omega (arith, len)); short = omega (arith, sum, blocks-sum b (take n (drop p ns)) h) }
+        record { light = totals-light lo hi mostSlots (recordsIn ns p n ds) (of-true _ e) (omega (arith, len)); short = omega (arith, sum, blocks-sum b (take n (drop p ns)) h) }
     go false e = record { light = record { few = omega arith; light = omega arith; little = omega arith }; short = omega arith }
 
 -- The loop.
@@ -141,7 +136,7 @@ scanning-start b ns p q lo hi ds at h e =
 
 module _ (b : ℕ) (ns : List ℕ) (p q lo hi : ℕ) (g w y : List ℕ) (at i : ℕ) (s : Scan) (w₀ : Scanning b ns p q lo hi (rows g w y) at i s) where
   -- the part that is lent is the partition
-  pub lent-part : rows (take (at + getD ns i 0 - at) (drop at g)) (take (at + getD ns i 0 - at) (drop at w)) (take (at + getD ns i 0 - at) (drop at y)) ≡ part i (parts ns (rows g w y))
+  lent-part : rows (take (at + getD ns i 0 - at) (drop at g)) (take (at + getD ns i 0 - at) (drop at w)) (take (at + getD ns i 0 - at) (drop at y)) ≡ part i (parts ns (rows g w y))
   lent-part =
       let e : at + getD ns i 0 - at ≡ getD ns i 0 = omega arith in
       rw (rows-part, e, w₀ .here) (sym (part-parts i ns (rows g w y)))
@@ -161,8 +156,8 @@ module _ (b : ℕ) (ns : List ℕ) (p q lo hi : ℕ) (g w y : List ℕ) (at i : 
         so-far = e ∙ ap (scanMore b lo hi s) lent-part ∙ ap (λ (z : Scan). scanMore b lo hi z (part i (parts ns (rows g w y)))) (w₀ .so-far) ∙ sym x ∙ ap (λ (n : ℕ). scanOf b ns p n lo hi (rows g w y)) (sym v);
       }
 
-  pub scanning-light : 1 ≤ b → sumOf ns ≤ length (rows g w y) → length (rows g w y) ≤ 262144 → length ns ≤ 64 → Light 262144 64 s
-  scanning-light h room few short = subst (Light 262144 64) (sym (w₀ .so-far)) (scan-light b ns p (i - p) lo hi (rows g w y) h room few short)
+  pub scanning-light : 1 ≤ b → sumOf ns ≤ length (rows g w y) → length (rows g w y) ≤ mostSlots → length ns ≤ blockLimit → Light mostSlots blockLimit s
+  scanning-light h room few short = subst (Light mostSlots blockLimit) (sym (w₀ .so-far)) (scan-light b ns p (i - p) lo hi (rows g w y) h room few short)
 
   pub scanning-end : q < i → s ≡ scanOf b ns p (q + 1 - p) lo hi (rows g w y)
   scanning-end h = w₀ .so-far ∙ ap (λ (n : ℕ). scanOf b ns p n lo hi (rows g w y)) (omega (arith, w₀ .till))

@@ -5,10 +5,9 @@ use mathlib.Core.List.{List, map, flatten}
 use lib.ListN.{length, take, drop}
 use Rattle.model.specs.declared.Delivery.{Delivery}
 use Rattle.model.specs.Lists.{sumOf, every}
-use Rattle.model.specs.Deliveries.{inRange, noTotals, totalsBetween}
+use Rattle.model.specs.Deliveries.{LightTotals, plusTotals, inRange, noTotals, totalsBetween}
 use Rattle.model.specs.Partitions.{parts}
 use Rattle.model.specs.Accesses.{blocksOf}
-use Rattle.slices.specs.Slices.{LightTotals, plusTotals}
 use Rattle.scan.specs.declared.Scan.{Scan}
 
 -- a scan that met a value out of range

@@ -2,6 +2,8 @@
 ghost use mathlib.Core.Path.{_≡_};
 ghost use Prim.Native.Nat.{_+_, _-_, _≤_, _<_};
 ghost use lib.ListN.{length};
+ghost use Rattle.model.specs.Bounds.{blockLimit, mostSlots};
+ghost use Rattle.model.specs.Lent.{Even};
 ghost use Rattle.model.specs.Lists.{sumOf};
 ghost use Rattle.model.specs.Deliveries.{rows};
 ghost use Rattle.model.specs.Partitions.{startOf};
@@ -10,26 +12,26 @@ ghost use Rattle.scan.specs.Scans.{badScan, scanMore, scanOf, Light};
 use model::Counts;
 use model::Totals;
 
-// How many blocks a partition of n records counts as.
-pub fn blocks_of(n: usize, b: u32) -> u64
-    requires { ⌜ (1 ≤ b) × (n ≤ 262144) ⌝ }
-    ensures { λ r. ⌜ r ≡ blocksOf b n ⌝ }
+// How many blocks a partition of this many records counts as.
+pub fn blocks_of(records: usize, block: u32) -> u64
+    requires { ⌜ (1 ≤ block) × (records ≤ mostSlots) ⌝ }
+    ensures { λ r. ⌜ r ≡ blocksOf block records ⌝ }
 {
-    if n == 0 {
+    if records == 0 {
         return 1;
     }
-    let c = b as u64;
-    (n as u64 + (c - 1)) / c
+    let b = block as u64;
+    (records as u64 + (b - 1)) / b
 }
 
-// Of n blocks scanned the first is a random read, each other a sequential one.
-pub fn reads_of(n: u64) -> Counts
-    requires { ⌜ 1 ≤ n ⌝ }
-    ensures { λ r. ⌜ r ≡ readsOf n ⌝ }
+// Of the blocks scanned the first is a random read, each other a sequential one.
+pub fn reads_of(blocks: u64) -> Counts
+    requires { ⌜ 1 ≤ blocks ⌝ }
+    ensures { λ r. ⌜ r ≡ readsOf blocks ⌝ }
 {
     Counts {
         rr: 1,
-        sr: n - 1,
+        sr: blocks - 1,
         rw: 0,
     }
 }
@@ -44,7 +46,7 @@ pub struct Scan {
 fn bad_scan() -> Scan
     ensures { λ r. ⌜ r ≡ badScan ⌝ }
 {
-    let totals = slices::no_totals();
+    let totals = Totals::none();
     Scan {
         good: false,
         totals,
@@ -53,9 +55,9 @@ fn bad_scan() -> Scan
 }
 
 // A scan goes on to one more partition, of which it is handed its part of each slice.
-fn scan_more(s: Scan, g: &[u32], w: &[u32], y: &[u32], b: u32, lo: u32, hi: u32) -> Scan
-    requires { ⌜ (length (now g) ≤ 262144) × (length (now w) ≡ length (now g)) × (length (now y) ≡ length (now g)) × (1 ≤ b) × Light 262144 64 s ⌝ }
-    ensures { λ r. ⌜ r ≡ scanMore b lo hi s (rows (now (g .entry)) (now (w .entry)) (now (y .entry))) ⌝ }
+fn scan_more(s: Scan, g: &[u32], w: &[u32], y: &[u32], block: u32, lo: u32, hi: u32) -> Scan
+    requires { ⌜ (length (now g) ≤ mostSlots) × Even (now g) (now w) (now y) × (1 ≤ block) × Light mostSlots blockLimit s ⌝ }
+    ensures { λ r. ⌜ r ≡ scanMore block lo hi s (rows (now (g .entry)) (now (w .entry)) (now (y .entry))) ⌝ }
 {
     if !s.good {
         return bad_scan();
@@ -64,8 +66,8 @@ fn scan_more(s: Scan, g: &[u32], w: &[u32], y: &[u32], b: u32, lo: u32, hi: u32)
         return bad_scan();
     }
     let more = slices::totals(g, w, y, lo, hi);
-    let totals = slices::plus(s.totals, more);
-    let blocks = s.blocks + blocks_of(g.len(), b);
+    let totals = s.totals.plus(more);
+    let blocks = s.blocks + blocks_of(g.len(), block);
     Scan {
         good: true,
         totals,
@@ -73,34 +75,35 @@ fn scan_more(s: Scan, g: &[u32], w: &[u32], y: &[u32], b: u32, lo: u32, hi: u32)
     }
 }
 
-// Partitions p to q, one after the other; p starts at start.
+// The partitions from one to another, one after the other; the first begins at start.
 pub fn scan_parts(
     g: &[u32],
     w: &[u32],
     y: &[u32],
     lens: &[u32],
-    p: usize,
-    q: usize,
+    from: usize,
+    to: usize,
     start: usize,
-    b: u32,
+    block: u32,
     lo: u32,
     hi: u32,
 ) -> Scan
-    requires { ⌜ (p ≤ q) × (q < length (now lens)) × (length (now lens) ≤ 64) × (sumOf (now lens) ≤ length (now g)) × (1 ≤ b) × (start ≡ startOf (now lens) p) ⌝ }
-    requires { ⌜ (length (now g) ≤ 262144) × (length (now w) ≡ length (now g)) × (length (now y) ≡ length (now g)) ⌝ }
-    ensures { λ r. ⌜ r ≡ scanOf b (now (lens .entry)) p (q + 1 - p) lo hi (rows (now (g .entry)) (now (w .entry)) (now (y .entry))) ⌝ }
+    requires { ⌜ (from ≤ to) × (to < length (now lens)) × (length (now lens) ≤ blockLimit) × (sumOf (now lens) ≤ length (now g)) × (1 ≤ block)
+        × (start ≡ startOf (now lens) from) ⌝ }
+    requires { ⌜ (length (now g) ≤ mostSlots) × Even (now g) (now w) (now y) ⌝ }
+    ensures { λ r. ⌜ r ≡ scanOf block (now (lens .entry)) from (to + 1 - from) lo hi (rows (now (g .entry)) (now (w .entry)) (now (y .entry))) ⌝ }
 {
     let mut at = start;
-    let mut i = p;
-    let none = slices::no_totals();
+    let mut i = from;
+    let none = Totals::none();
     let mut s = Scan {
         good: true,
         totals: none,
         blocks: 0,
     };
-    while i <= q {
+    while i <= to {
         let e = at + lens[i] as usize;
-        s = scan_more(s, &g[at..e], &w[at..e], &y[at..e], b, lo, hi);
+        s = scan_more(s, &g[at..e], &w[at..e], &y[at..e], block, lo, hi);
         at = e;
         i += 1;
     }

@@ -107,10 +107,10 @@ pub chain-end : (r : ℕ → ℕ → Bool) (s : List ℕ) (good : Bool) (i : ℕ
 chain-end r s good i h w = sym (and-true good) ∙ ap (λ (b : Bool). good && b) (sym (short r s i h)) ∙ w .so-far
 
 -- the test for 0
-pub zero-test : (n : ℕ) → n ≤ 0 → eqb 0 n ≡ true
+zero-test : (n : ℕ) → n ≤ 0 → eqb 0 n ≡ true
 zero-test n h = eq-eqb 0 n (omega arith)
 
-pub positive-test : (n : ℕ) → 0 < n → eqb 0 n ≡ false
+positive-test : (n : ℕ) → 0 < n → eqb 0 n ≡ false
 positive-test n h = ne-eqb 0 n (λ e. omega arith)
 
 -- two slices at once

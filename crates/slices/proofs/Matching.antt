@@ -14,7 +14,7 @@ use Rattle.model.proofs.Tests.{and-mk, of-true}
 use Rattle.model.proofs.Deliveries.{rows-part, length-rows}
 use Rattle.slices.specs.Slices.{countBetween}
 
-pub first-most : (d : Delivery) (l : List Delivery) → firstMatch d l ≤ length l
+first-most : (d : Delivery) (l : List Delivery) → firstMatch d l ≤ length l
 unfolding firstMatch
 first-most d [] = omega arith
 first-most d (r ∷ l) = go (same d r) (first-most d l)

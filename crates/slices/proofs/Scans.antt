@@ -19,7 +19,7 @@ use Rattle.model.proofs.Deliveries.{rowAt, rows-from}
 use Rattle.slices.specs.Slices.{allWithin, sameAt, Measured}
 
 -- a number of a slice whose numbers are all within m; past its end it is 0
-pub within-at : (m : ℕ) (s : List ℕ) → T (allWithin m s) → (i : ℕ) → getD s i 0 ≤ m
+within-at : (m : ℕ) (s : List ℕ) → T (allWithin m s) → (i : ℕ) → getD s i 0 ≤ m
 unfolding every
 within-at m [] t i = omega arith
 within-at m (x ∷ s) t zero = leb-true x m (is-true (leb x m) (and-fst (leb x m) (every (λ (n : ℕ). leb n m) s) t))
@@ -29,10 +29,10 @@ within-at m (x ∷ s) t (suc i) = within-at m s (and-snd (leb x m) (every (λ (n
 unfoldable pub rest : (Delivery → Bool) → List ℕ → List ℕ → List ℕ → ℕ → List Delivery
 rest f g w y i = keep f (rows (drop i g) (drop i w) (drop i y))
 
-abbrev pub weightOf : List Delivery → ℕ
+abbrev weightOf : List Delivery → ℕ
 weightOf l = sumOf (map (λ (d : Delivery). d .weight) l)
 
-abbrev pub oilOf : List Delivery → ℕ
+abbrev oilOf : List Delivery → ℕ
 oilOf l = sumOf (map (λ (d : Delivery). d .weight * d .«oil_yield») l)
 
 -- what a loop has when it stands at i: so far, and the rest, is the whole
@@ -62,7 +62,7 @@ running-start f g w y = omega arith
 module _ (f : Delivery → Bool) (g w y : List ℕ) (m : Measured g w y) (records weight oil i : ℕ) (h : i < length g) (t : Running f g w y records weight oil i) where
   step : (b : Bool) → f (rowAt g w y i) ≡ b → rest f g w y i ≡ cond b (rowAt g w y i ∷ rest f g w y (i + 1)) (rest f g w y (i + 1))
   unfolding rest keep
-  step b e = rw (rows-from g w y i h (m .even-weights) (m .even-yields), e)
+  step b e = rw (rows-from g w y i h (m .even .weights) (m .even .yields), e)
 
   pub running-take : f (rowAt g w y i) ≡ true → Running f g w y (records + 1) (weight + getD w i 0) (oil + getD w i 0 * getD y i 0) (i + 1)
   unfolding sumOf

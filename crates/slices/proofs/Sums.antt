@@ -10,12 +10,14 @@ use lib.ListN.{length, take, drop, length-append, length-take, length-drop}
 use lib.Seq.{take-add, take-all}
 use Rattle.model.specs.declared.Delivery.{Delivery}
 use Rattle.model.specs.declared.Totals.{Totals}
+use Rattle.model.specs.Bounds.{mostSlots}
+use Rattle.model.specs.Lent.{Even}
 use Rattle.model.specs.Lists.{sumOf, every, keep}
-use Rattle.model.specs.Deliveries.{inRange, matches, rows, noTotals, totalsOf, totalsBetween}
+use Rattle.model.specs.Deliveries.{LightTotals, plusTotals, inRange, matches, rows, noTotals, totalsOf, totalsBetween}
 use Rattle.model.proofs.Tests.{and-fst, and-snd, and-mk, is-true}
 use Rattle.model.proofs.ListLaws.{sum-append, keep-append, every-part, keep-fewer}
 use Rattle.model.proofs.Deliveries.{values-rows, rows-part, length-rows}
-use Rattle.slices.specs.Slices.{allWithin, countBetween, Measured, LightTotals, plusTotals}
+use Rattle.slices.specs.Slices.{allWithin, countBetween, Measured}
 
 -- Totals of records that were joined.
 
@@ -65,7 +67,7 @@ totals-light lo hi m ds t h =
 
 -- Records that were counted.
 
-pub count-rows : (lo hi : ℕ) (g w y : List ℕ) → length w ≡ length g → length y ≡ length g → countBetween lo hi g ≡ length (keep (matches lo hi) (rows g w y))
+count-rows : (lo hi : ℕ) (g w y : List ℕ) → length w ≡ length g → length y ≡ length g → countBetween lo hi g ≡ length (keep (matches lo hi) (rows g w y))
 unfolding keep rows
 count-rows lo hi [] w y p q = refl
 count-rows lo hi (a ∷ g) [] y p q = let z : ⊥ = omega arith in absurd z
@@ -96,7 +98,7 @@ keep-full f (d ∷ l) e = go (f d) (keep-full f l) (keep-fewer f l) e
 
 module _ (lo hi : ℕ) (g w y : List ℕ) (m : Measured g w y) where
   counted : countBetween lo hi g ≡ length (keep (matches lo hi) (rows g w y))
-  counted = count-rows lo hi g w y (m .even-weights) (m .even-yields)
+  counted = count-rows lo hi g w y (m .even .weights) (m .even .yields)
 
   pub none-between : countBetween lo hi g < 1 → noTotals ≡ totalsBetween lo hi (rows g w y)
   unfolding totalsOf sumOf
@@ -104,28 +106,30 @@ module _ (lo hi : ℕ) (g w y : List ℕ) (m : Measured g w y) where
 
   pub all-between : countBetween lo hi g ≡ length g → totalsOf (rows g w y) ≡ totalsBetween lo hi (rows g w y)
   all-between h =
-      rw (keep-full (matches lo hi) (rows g w y) (omega (arith, counted, length-rows g w y (m .even-weights) (m .even-yields))))
+      rw (keep-full (matches lo hi) (rows g w y) (omega (arith, counted, length-rows g w y (m .even .weights) (m .even .yields))))
 
   values : T (every inRange (rows g w y))
-  values = subst T (sym (values-rows g w y (m .even-weights) (m .even-yields))) (and-mk (allWithin 100000 w) (allWithin 10000 y) (m .good-weights) (m .good-yields))
+  values = subst T (sym (values-rows g w y (m .even .weights) (m .even .yields))) (and-mk (allWithin 100000 w) (allWithin 10000 y) (m .good-weights) (m .good-yields))
 
   -- the totals of measured slices are small
-  pub measured-light : (t : Totals) → t ≡ totalsBetween lo hi (rows g w y) → LightTotals 262144 t
+  pub measured-light : (t : Totals) → t ≡ totalsBetween lo hi (rows g w y) → LightTotals mostSlots t
   measured-light t e =
-      subst (LightTotals 262144) (sym e) (totals-light lo hi 262144 (rows g w y) values (omega (arith, m .few, length-rows g w y (m .even-weights) (m .even-yields))))
+      subst (LightTotals mostSlots) (sym e) (totals-light lo hi mostSlots (rows g w y) values (omega (arith, m .few, length-rows g w y (m .even .weights) (m .even .yields))))
 
 within-part : (m a n : ℕ) (s : List ℕ) → a + n ≤ length s → T (allWithin m s) → T (allWithin m (take n (drop a s)))
 within-part m a n s h t = every-part (λ (x : ℕ). leb x m) a n (length s) s h (rw (take-all (length s) s (omega arith)) t)
 
--- parts of measured slices
+-- parts of even slices, and of measured ones
+pub even-part : (g w y : List ℕ) (n a : ℕ) → Even g w y → Even (take n (drop a g)) (take n (drop a w)) (take n (drop a y))
+even-part g w y n a e = record { weights = simp (length-take, length-drop) (omega (arith, e .weights)); yields = simp (length-take, length-drop) (omega (arith, e .yields)) }
+
 pub measured-part : (g w y : List ℕ) (n a : ℕ) → a + n ≤ length g → Measured g w y → Measured (take n (drop a g)) (take n (drop a w)) (take n (drop a y))
 measured-part g w y n a h m =
     record {
       few = simp (length-take, length-drop) (omega (arith, m .few));
-      even-weights = simp (length-take, length-drop) (omega (arith, m .even-weights));
-      even-yields = simp (length-take, length-drop) (omega (arith, m .even-yields));
-      good-weights = within-part 100000 a n w (omega (arith, m .even-weights)) (m .good-weights);
-      good-yields = within-part 10000 a n y (omega (arith, m .even-yields)) (m .good-yields);
+      even = even-part g w y n a (m .even);
+      good-weights = within-part 100000 a n w (omega (arith, m .even .weights)) (m .good-weights);
+      good-yields = within-part 10000 a n y (omega (arith, m .even .yields)) (m .good-yields);
     }
 
 -- The loop over strides.
@@ -139,7 +143,7 @@ unfolding totalsOf sumOf keep
 adding-start lo hi g w y t e = record { at = omega arith; so-far = e }
 
 module _ (lo hi : ℕ) (g w y : List ℕ) (m : Measured g w y) (t : Totals) (i : ℕ) (k : Adding lo hi g w y t i) where
-  pub adding-light : LightTotals 262144 t
+  pub adding-light : LightTotals mostSlots t
   adding-light =
       let e : rows (take i (drop 0 g)) (take i (drop 0 w)) (take i (drop 0 y)) ≡ take i (rows g w y) = rows-part i 0 g w y in
       measured-light lo hi (take i (drop 0 g)) (take i (drop 0 w)) (take i (drop 0 y)) (measured-part g w y i 0 (omega (arith, k .at)) m) t (k .so-far ∙ ap (totalsBetween lo hi) (sym e))
@@ -153,4 +157,4 @@ module _ (lo hi : ℕ) (g w y : List ℕ) (m : Measured g w y) (t : Totals) (i :
       record { at = h; so-far = f ∙ ap (λ (x : Totals). plusTotals x u) (k .so-far) ∙ ap (plusTotals (totalsBetween lo hi (take i (rows g w y)))) r ∙ sym j }
 
 pub adding-end : (lo hi : ℕ) (g w y : List ℕ) (m : Measured g w y) (t : Totals) (i : ℕ) → length g ≤ i → Adding lo hi g w y t i → t ≡ totalsBetween lo hi (rows g w y)
-adding-end lo hi g w y m t i h k = k .so-far ∙ ap (totalsBetween lo hi) (take-all i (rows g w y) (omega (arith, length-rows g w y (m .even-weights) (m .even-yields))))
+adding-end lo hi g w y m t i h k = k .so-far ∙ ap (totalsBetween lo hi) (take-all i (rows g w y) (omega (arith, length-rows g w y (m .even .weights) (m .even .yields))))

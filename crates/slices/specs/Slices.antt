@@ -1,14 +1,13 @@
--- Tests of all numbers of a slice and of one record, and totals.
-use Prim.Native.Nat.{ℕ, _+_, _*_, _≤_}
-use mathlib.Core.Path.{_≡_}
+-- Tests of all numbers of a slice and of one record.
+use Prim.Native.Nat.{ℕ, _≤_}
 use mathlib.Core.Bool.{Bool, _&&_}
 use mathlib.Core.List.{List}
 use lib.ListN.{length, getD}
 use lib.Dec.{T, leb, eqb}
 use Rattle.model.specs.declared.Delivery.{Delivery}
-use Rattle.model.specs.declared.Totals.{Totals}
-use Rattle.model.specs.Bounds.{mostWeight, mostYield}
+use Rattle.model.specs.Bounds.{mostWeight, mostYield, mostSlots}
 use Rattle.model.specs.Lists.{every, keep}
+use Rattle.model.specs.Lent.{Even}
 use Rattle.model.specs.Deliveries.{delivery, same}
 
 -- none is above m
@@ -29,18 +28,7 @@ countBetween lo hi s = length (keep (λ (n : ℕ). leb lo n && leb n hi) s)
 
 -- three slices of one length, every weight and yield in range
 pub record Measured (g w y : List ℕ) : Type 0 where
-  pub few : length g ≤ 262144
-  pub even-weights : length w ≡ length g
-  pub even-yields : length y ≡ length g
+  pub few : length g ≤ mostSlots
+  pub even : Even g w y
   pub good-weights : T (allWithin mostWeight w)
   pub good-yields : T (allWithin mostYield y)
-
--- totals of at most m records
-pub record LightTotals (m : ℕ) (t : Totals) : Type 0 where
-  pub few : t .records ≤ m
-  pub light : t .weight ≤ 100000 * m
-  pub little : t .oil ≤ 1000000000 * m
-
--- the totals of two lists of records together
-abbrev pub plusTotals : Totals → Totals → Totals
-plusTotals a b = record { records = a .records + b .records; weight = a .weight + b .weight; oil = a .oil + b .oil }

@@ -4,13 +4,18 @@ ghost use mathlib.Core.Bool.{_&&_};
 ghost use Prim.Native.Nat.{_+_, _≤_, _<_};
 ghost use lib.ListN.{length};
 ghost use lib.Dec.{T};
+ghost use Rattle.model.specs.Bounds.{blockLimit, mostSlots};
 ghost use Rattle.model.specs.Lists.{sumOf, rising, neverFalls};
+ghost use Rattle.model.specs.Lent.{Even};
 ghost use Rattle.model.specs.Place.{place};
 ghost use Rattle.model.specs.Partitions.{startOf};
-ghost use Rattle.model.specs.Deliveries.{rows, noTotals, totalsOf, totalsBetween, firstMatch};
-ghost use Rattle.slices.specs.Slices.{allWithin, allZero, sameAt, countBetween, Measured, LightTotals, plusTotals};
+ghost use Rattle.model.specs.Deliveries.{rows, totalsOf, totalsBetween, firstMatch};
+ghost use Rattle.slices.specs.Slices.{allWithin, allZero, sameAt, countBetween, Measured};
 use model::Delivery;
 use model::Totals;
+
+// How many records are counted at a time before any is tested.
+const STRIDE: usize = 64;
 
 // Whether none of s is above most.
 pub fn within(s: &[u32], most: u32) -> bool
@@ -81,7 +86,7 @@ pub fn never_falling(s: &[u32]) -> bool
 
 // The sum of s, of which there are few enough that it fits.
 pub fn total(s: &[u32]) -> u64
-    requires { ⌜ length (now s) ≤ 262144 ⌝ }
+    requires { ⌜ length (now s) ≤ mostSlots ⌝ }
     ensures { λ r. ⌜ r ≡ sumOf (now (s .entry)) ⌝ }
 {
     let mut sum: u64 = 0;
@@ -95,7 +100,7 @@ pub fn total(s: &[u32]) -> u64
 
 // The place of g among rising keys: how many of all but the last are less.
 pub fn place_of(keys: &[u32], g: u32) -> usize
-    requires { ⌜ (1 ≤ length (now keys)) × (length (now keys) ≤ 64) × T (rising (now keys)) ⌝ }
+    requires { ⌜ (1 ≤ length (now keys)) × (length (now keys) ≤ blockLimit) × T (rising (now keys)) ⌝ }
     ensures { λ r. ⌜ r ≡ place (now (keys .entry)) g ⌝ }
 {
     let last = keys.len() - 1;
@@ -111,7 +116,7 @@ pub fn place_of(keys: &[u32], g: u32) -> usize
     t as usize
 }
 
-// What one pass over the lengths and fences of partitions finds: do the fences rise, how many slots are used, and of a grower its partition and where that starts.
+// What one pass over the lengths and fences of partitions finds: do the fences rise, how many slots are used, a grower's partition and where that starts.
 pub struct Survey {
     pub rising: bool,
     pub used: usize,
@@ -121,9 +126,10 @@ pub struct Survey {
 
 // Each sum has its own test, so that the pass is vectorised.
 pub fn surveyed(lens: &[u32], fences: &[u32], g: u32) -> Survey
-    requires { ⌜ (1 ≤ length (now lens)) × (length (now lens) ≤ 64) × (length (now fences) ≡ length (now lens)) ⌝ }
+    requires { ⌜ (1 ≤ length (now lens)) × (length (now lens) ≤ blockLimit) × (length (now fences) ≡ length (now lens)) ⌝ }
     ensures { λ r. ⌜ (r .rising ≡ rising (now (fences .entry))) × (r .used ≡ sumOf (now (lens .entry)))
-        × (T (rising (now (fences .entry))) → (r .target ≡ place (now (fences .entry)) g) × (r .start ≡ startOf (now (lens .entry)) (place (now (fences .entry)) g))) ⌝ }
+        × (T (rising (now (fences .entry))) → (r .target ≡ place (now (fences .entry)) g)
+        × (r .start ≡ startOf (now (lens .entry)) (place (now (fences .entry)) g))) ⌝ }
 {
     let mut rising = true;
     let mut used: usize = 0;
@@ -152,31 +158,9 @@ pub fn surveyed(lens: &[u32], fences: &[u32], g: u32) -> Survey
     }
 }
 
-pub fn no_totals() -> Totals
-    ensures { λ r. ⌜ r ≡ noTotals ⌝ }
-{
-    Totals {
-        records: 0,
-        weight: 0,
-        oil: 0,
-    }
-}
-
-// The totals of two lists of records.
-pub fn plus(a: Totals, b: Totals) -> Totals
-    requires { ⌜ LightTotals 262144 a × LightTotals 262144 b ⌝ }
-    ensures { λ r. ⌜ r ≡ plusTotals a b ⌝ }
-{
-    Totals {
-        records: a.records + b.records,
-        weight: a.weight + b.weight,
-        oil: a.oil + b.oil,
-    }
-}
-
 // How many growers are lo to hi.
 fn count_between(g: &[u32], lo: u32, hi: u32) -> usize
-    requires { ⌜ length (now g) ≤ 262144 ⌝ }
+    requires { ⌜ length (now g) ≤ mostSlots ⌝ }
     ensures { λ r. ⌜ r ≡ countBetween lo hi (now (g .entry)) ⌝ }
 {
     let mut n: u32 = 0;
@@ -253,7 +237,7 @@ fn total_stride(g: &[u32], w: &[u32], y: &[u32], lo: u32, hi: u32) -> Totals
 {
     let n = count_between(g, lo, hi);
     if n < 1 {
-        return no_totals();
+        return Totals::none();
     }
     if n == g.len() {
         return total_all(g, w, y);
@@ -261,27 +245,27 @@ fn total_stride(g: &[u32], w: &[u32], y: &[u32], lo: u32, hi: u32) -> Totals
     total_tested(g, w, y, lo, hi)
 }
 
-// The records whose grower is lo to hi: how many, their weight and their oil; 64 at a time.
+// The records whose grower is lo to hi: how many, their weight and their oil; a stride at a time.
 pub fn totals(g: &[u32], w: &[u32], y: &[u32], lo: u32, hi: u32) -> Totals
     requires { ⌜ Measured (now g) (now w) (now y) ⌝ }
     ensures { λ r. ⌜ r ≡ totalsBetween lo hi (rows (now (g .entry)) (now (w .entry)) (now (y .entry))) ⌝ }
 {
-    let mut t = no_totals();
+    let mut t = Totals::none();
     let mut i = 0;
-    while 64 <= g.len() - i {
-        let e = i + 64;
+    while STRIDE <= g.len() - i {
+        let e = i + STRIDE;
         let u = total_stride(&g[i..e], &w[i..e], &y[i..e], lo, hi);
-        t = plus(t, u);
+        t = t.plus(u);
         i = e;
     }
     let e = g.len();
     let u = total_tested(&g[i..e], &w[i..e], &y[i..e], lo, hi);
-    plus(t, u)
+    t.plus(u)
 }
 
 // Whether record i is the delivery.
 fn is_same(g: &[u32], w: &[u32], y: &[u32], i: usize, d: Delivery) -> bool
-    requires { ⌜ (i < length (now g)) × (length (now w) ≡ length (now g)) × (length (now y) ≡ length (now g)) ⌝ }
+    requires { ⌜ (i < length (now g)) × Even (now g) (now w) (now y) ⌝ }
     ensures { λ r. ⌜ r ≡ sameAt d (now (g .entry)) (now (w .entry)) (now (y .entry)) i ⌝ }
 {
     if d.grower != g[i] {
@@ -295,7 +279,7 @@ fn is_same(g: &[u32], w: &[u32], y: &[u32], i: usize, d: Delivery) -> bool
 
 // The first record that is the delivery, or how many there are; each tested.
 fn first_tested(g: &[u32], w: &[u32], y: &[u32], d: Delivery) -> usize
-    requires { ⌜ (length (now w) ≡ length (now g)) × (length (now y) ≡ length (now g)) ⌝ }
+    requires { ⌜ Even (now g) (now w) (now y) ⌝ }
     ensures { λ r. ⌜ r ≡ firstMatch d (rows (now (g .entry)) (now (w .entry)) (now (y .entry))) ⌝ }
 {
     let mut i = 0;
@@ -310,7 +294,7 @@ fn first_tested(g: &[u32], w: &[u32], y: &[u32], d: Delivery) -> usize
 
 // The first record that is the delivery, or how many there are. Only where the delivery's grower is among them are the records tested.
 fn first_in_stride(g: &[u32], w: &[u32], y: &[u32], d: Delivery) -> usize
-    requires { ⌜ (length (now g) ≤ 262144) × (length (now w) ≡ length (now g)) × (length (now y) ≡ length (now g)) ⌝ }
+    requires { ⌜ (length (now g) ≤ mostSlots) × Even (now g) (now w) (now y) ⌝ }
     ensures { λ r. ⌜ r ≡ firstMatch d (rows (now (g .entry)) (now (w .entry)) (now (y .entry))) ⌝ }
 {
     if count_between(g, d.grower, d.grower) < 1 {
@@ -319,16 +303,16 @@ fn first_in_stride(g: &[u32], w: &[u32], y: &[u32], d: Delivery) -> usize
     first_tested(g, w, y, d)
 }
 
-// The first record that is the delivery, or how many there are; 64 at a time.
+// The first record that is the delivery, or how many there are; a stride at a time.
 pub fn first_match(g: &[u32], w: &[u32], y: &[u32], d: Delivery) -> usize
-    requires { ⌜ (length (now w) ≡ length (now g)) × (length (now y) ≡ length (now g)) ⌝ }
+    requires { ⌜ Even (now g) (now w) (now y) ⌝ }
     ensures { λ r. ⌜ r ≡ firstMatch d (rows (now (g .entry)) (now (w .entry)) (now (y .entry))) ⌝ }
 {
     let mut i = 0;
-    while 64 <= g.len() - i {
-        let e = i + 64;
+    while STRIDE <= g.len() - i {
+        let e = i + STRIDE;
         let k = first_in_stride(&g[i..e], &w[i..e], &y[i..e], d);
-        if k < 64 {
+        if k < STRIDE {
             return i + k;
         }
         i = e;

@@ -1,7 +1,7 @@
 -- `column::find` meets its contract. Assumes nothing.
 use mathlib.Core.Path.{_∙_}
 use borrow.Author.Needs.{needs}
-use Rattle.checks.specs.Lent.{columnOf}
+use Rattle.model.specs.Lent.{columnOf}
 use Rattle.column.proofs.Answering.{find-is-range}
 use Rattle.model.specs.Calls.{range}
 use Rattle.column.proofs.find.Statement.{statement}

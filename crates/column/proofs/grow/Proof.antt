@@ -20,7 +20,7 @@ slice-read-directory : tie.Need-slice-read-directory
 slice-read-directory c = let g = (c .before .args) in omega (arith, ((c .before .pre)) .there, dir-size (g .directory .now) (((c .before .pre)) .shaped), dir-few (g .directory .now) (((c .before .pre)) .shaped))
 
 add-directory : tie.Need-add-directory
-add-directory c = let g = (c .before .args) in omega (arith, dir-length (g .directory .now) (((c .before .pre)) .shaped) (g .t) (((c .before .pre)) .there), dir-fits (g .directory .now) (((c .before .pre)) .shaped) (g .t))
+add-directory c = let g = (c .before .args) in omega (arith, dir-length (g .directory .now) (((c .before .pre)) .shaped) (g .partition) (((c .before .pre)) .there), dir-fits (g .directory .now) (((c .before .pre)) .shaped) (g .partition))
 
 mul-directory-2 : tie.Need-mul-directory-2
 mul-directory-2 c = let g = (c .before .args) in omega (arith, ((c .before .pre)) .there, dir-size (g .directory .now) (((c .before .pre)) .shaped), dir-few (g .directory .now) (((c .before .pre)) .shaped))
@@ -32,7 +32,7 @@ same-length : tie.Need-same-length
 same-length c = search needs
 
 returns : tie.Need-returns
-returns c = let g = (c .before .args) in set-length (g .directory .now) (g .t) _ (dir-size (g .directory .now) (((c .before .pre)) .shaped)) (dir-few (g .directory .now) (((c .before .pre)) .shaped)) (((c .before .pre)) .there) ∙ ap (λ (n : ℕ). withLengths (set (directoryOf 64 (g .directory .now) .lengths) (g .t) (n + 1)) (g .directory .now)) (dir-length (g .directory .now) (((c .before .pre)) .shaped) (g .t) (((c .before .pre)) .there))
+returns c = let g = (c .before .args) in set-length (g .directory .now) (g .partition) _ (dir-size (g .directory .now) (((c .before .pre)) .shaped)) (dir-few (g .directory .now) (((c .before .pre)) .shaped)) (((c .before .pre)) .there) ∙ ap (λ (n : ℕ). withLengths (set (directoryOf 64 (g .directory .now) .lengths) (g .partition) (n + 1)) (g .directory .now)) (dir-length (g .directory .now) (((c .before .pre)) .shaped) (g .partition) (((c .before .pre)) .there))
 
 pub grow-spec : {M : Type 1} → statement M
 grow-spec =

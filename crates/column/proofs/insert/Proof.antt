@@ -5,7 +5,7 @@ use native.Mathlib.Omega.{arith}
 use borrow.Author.Needs.{needs}
 use Rattle.model.specs.Column.{target}
 use Rattle.model.specs.Directory.{directoryOf}
-use Rattle.checks.specs.Lent.{columnOf}
+use Rattle.model.specs.Lent.{columnOf}
 use Rattle.column.proofs.LentColumns.{lent-column, count-fences, held}
 use Rattle.column.proofs.Writing.{ready, insert-refused, insert-open, insert-done}
 use Rattle.column.proofs.Reading.{target-there}

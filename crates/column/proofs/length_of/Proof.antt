@@ -15,10 +15,10 @@ shared-slice-read-result : tie.Need-shared-slice-read-result
 shared-slice-read-result c = let g = c .before .args in let p = c .before .pre in omega (arith, p .there, dir-size (g .directory .now) (p .shaped), dir-few (g .directory .now) (p .shaped))
 
 cast-result : tie.Need-cast-result
-cast-result c = let g = c .before .args in omega (arith, c .shared-slice-known .given (2 + g .t))
+cast-result c = let g = c .before .args in omega (arith, c .shared-slice-known .given (2 + g .partition))
 
 returns : tie.Need-returns
-returns c = let g = c .before .args in let p = c .before .pre in dir-length (g .directory .now) (p .shaped) (g .t) (p .there)
+returns c = let g = c .before .args in let p = c .before .pre in dir-length (g .directory .now) (p .shaped) (g .partition) (p .there)
 
 pub length-of-spec : {M : Type 1} → statement M
 length-of-spec =

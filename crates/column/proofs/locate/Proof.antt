@@ -4,10 +4,11 @@ use mathlib.Core.Path.{sym, _∙_}
 use native.Mathlib.Omega.{arith}
 use borrow.Author.Needs.{needs}
 use borrow.Author.Tests.{not-true, not-false}
+use lib.ListN.{length-take, length-drop}
 use Rattle.model.specs.Questions.{lentChecks}
-use Rattle.checks.specs.Lent.{columnOf}
+use Rattle.model.specs.Lent.{columnOf}
 use Rattle.checks.proofs.Answers.{shape-refusal, carried}
-use Rattle.scan.proofs.Scanning.{even-parts}
+use Rattle.slices.proofs.Sums.{even-part}
 use Rattle.column.proofs.LentColumns.{lent-column}
 use Rattle.column.proofs.Reading.{near, near-held}
 use Rattle.column.proofs.Searching.{located-lent, located-range, located-searched, near-part}
@@ -36,10 +37,10 @@ length-of-requires : tie.Need-length-of-requires
 length-of-requires c κs = let g = c .before .before .before .before .before .before .before .before .args in let col = columnOf (g .directory .now) (g .g .now) (g .w .now) (g .y .now) in let w = carried (lentChecks 64 col) (g .directory .now) (g .d .grower) _ (c .before .before .before .lent .ensures) (c .before .before .if1 .left) in near-held col (g .d .grower) _ w
 
 add-e : tie.Need-add-e
-add-e c = let g = c .before .before .before .before .before .before .before .before .before .args in let col = columnOf (g .directory .now) (g .g .now) (g .w .now) (g .y .now) in let w = carried (lentChecks 64 col) (g .directory .now) (g .d .grower) _ (c .before .before .before .before .lent .ensures) (c .before .before .before .if1 .left) in let k = near col (g .d .grower) _ w _ (c .length-of .ensures) in omega (arith, k .inside, k .most, k .even-weights, k .even-yields)
+add-e c = let g = c .before .before .before .before .before .before .before .before .before .args in let col = columnOf (g .directory .now) (g .g .now) (g .w .now) (g .y .now) in let w = carried (lentChecks 64 col) (g .directory .now) (g .d .grower) _ (c .before .before .before .before .lent .ensures) (c .before .before .before .if1 .left) in let k = near col (g .d .grower) _ w _ (c .length-of .ensures) in omega (arith, k .inside, k .most, k .even .weights, k .even .yields)
 
 mul-search-part : tie.Need-mul-search-part
-mul-search-part c = let g = c .before .before .before .before .before .before .before .before .before .args in let col = columnOf (g .directory .now) (g .g .now) (g .w .now) (g .y .now) in let w = carried (lentChecks 64 col) (g .directory .now) (g .d .grower) _ (c .before .before .before .before .lent .ensures) (c .before .before .before .if1 .left) in let k = near col (g .d .grower) _ w _ (c .length-of .ensures) in omega (arith, k .inside, k .most, k .even-weights, k .even-yields)
+mul-search-part c = let g = c .before .before .before .before .before .before .before .before .before .args in let col = columnOf (g .directory .now) (g .g .now) (g .w .now) (g .y .now) in let w = carried (lentChecks 64 col) (g .directory .now) (g .d .grower) _ (c .before .before .before .before .lent .ensures) (c .before .before .before .if1 .left) in let k = near col (g .d .grower) _ w _ (c .length-of .ensures) in omega (arith, k .inside, k .most, k .even .weights, k .even .yields)
 
 sub-search-part : tie.Need-sub-search-part
 sub-search-part c = search needs
@@ -48,10 +49,10 @@ part-search-part-start : tie.Need-part-search-part-start
 part-search-part-start c = search needs
 
 part-search-part-end : tie.Need-part-search-part-end
-part-search-part-end c = let g = c .before .before .before .before .before .before .before .before .before .args in let col = columnOf (g .directory .now) (g .g .now) (g .w .now) (g .y .now) in let w = carried (lentChecks 64 col) (g .directory .now) (g .d .grower) _ (c .before .before .before .before .lent .ensures) (c .before .before .before .if1 .left) in let k = near col (g .d .grower) _ w _ (c .length-of .ensures) in omega (arith, k .inside, k .most, k .even-weights, k .even-yields)
+part-search-part-end c = let g = c .before .before .before .before .before .before .before .before .before .args in let col = columnOf (g .directory .now) (g .g .now) (g .w .now) (g .y .now) in let w = carried (lentChecks 64 col) (g .directory .now) (g .d .grower) _ (c .before .before .before .before .lent .ensures) (c .before .before .before .if1 .left) in let k = near col (g .d .grower) _ w _ (c .length-of .ensures) in omega (arith, k .inside, k .most, k .even .weights, k .even .yields)
 
 mul-search-part-2 : tie.Need-mul-search-part-2
-mul-search-part-2 c = let g = c .before .before .before .before .before .before .before .before .before .before .args in let col = columnOf (g .directory .now) (g .g .now) (g .w .now) (g .y .now) in let w = carried (lentChecks 64 col) (g .directory .now) (g .d .grower) _ (c .before .before .before .before .before .lent .ensures) (c .before .before .before .before .if1 .left) in let k = near col (g .d .grower) _ w _ (c .before .length-of .ensures) in omega (arith, k .inside, k .most, k .even-weights, k .even-yields)
+mul-search-part-2 c = let g = c .before .before .before .before .before .before .before .before .before .before .args in let col = columnOf (g .directory .now) (g .g .now) (g .w .now) (g .y .now) in let w = carried (lentChecks 64 col) (g .directory .now) (g .d .grower) _ (c .before .before .before .before .before .lent .ensures) (c .before .before .before .before .if1 .left) in let k = near col (g .d .grower) _ w _ (c .before .length-of .ensures) in omega (arith, k .inside, k .most, k .even .weights, k .even .yields)
 
 sub-search-part-2 : tie.Need-sub-search-part-2
 sub-search-part-2 c = search needs
@@ -60,10 +61,10 @@ part-search-part-start-2 : tie.Need-part-search-part-start-2
 part-search-part-start-2 c = search needs
 
 part-search-part-end-2 : tie.Need-part-search-part-end-2
-part-search-part-end-2 c = let g = c .before .before .before .before .before .before .before .before .before .before .args in let col = columnOf (g .directory .now) (g .g .now) (g .w .now) (g .y .now) in let w = carried (lentChecks 64 col) (g .directory .now) (g .d .grower) _ (c .before .before .before .before .before .lent .ensures) (c .before .before .before .before .if1 .left) in let k = near col (g .d .grower) _ w _ (c .before .length-of .ensures) in omega (arith, k .inside, k .most, k .even-weights, k .even-yields)
+part-search-part-end-2 c = let g = c .before .before .before .before .before .before .before .before .before .before .args in let col = columnOf (g .directory .now) (g .g .now) (g .w .now) (g .y .now) in let w = carried (lentChecks 64 col) (g .directory .now) (g .d .grower) _ (c .before .before .before .before .before .lent .ensures) (c .before .before .before .before .if1 .left) in let k = near col (g .d .grower) _ w _ (c .before .length-of .ensures) in omega (arith, k .inside, k .most, k .even .weights, k .even .yields)
 
 mul-search-part-3 : tie.Need-mul-search-part-3
-mul-search-part-3 c = let g = c .before .before .before .before .before .before .before .before .before .before .before .args in let col = columnOf (g .directory .now) (g .g .now) (g .w .now) (g .y .now) in let w = carried (lentChecks 64 col) (g .directory .now) (g .d .grower) _ (c .before .before .before .before .before .before .lent .ensures) (c .before .before .before .before .before .if1 .left) in let k = near col (g .d .grower) _ w _ (c .before .before .length-of .ensures) in omega (arith, k .inside, k .most, k .even-weights, k .even-yields)
+mul-search-part-3 c = let g = c .before .before .before .before .before .before .before .before .before .before .before .args in let col = columnOf (g .directory .now) (g .g .now) (g .w .now) (g .y .now) in let w = carried (lentChecks 64 col) (g .directory .now) (g .d .grower) _ (c .before .before .before .before .before .before .lent .ensures) (c .before .before .before .before .before .if1 .left) in let k = near col (g .d .grower) _ w _ (c .before .before .length-of .ensures) in omega (arith, k .inside, k .most, k .even .weights, k .even .yields)
 
 sub-search-part-3 : tie.Need-sub-search-part-3
 sub-search-part-3 c = search needs
@@ -72,13 +73,13 @@ part-search-part-start-3 : tie.Need-part-search-part-start-3
 part-search-part-start-3 c = search needs
 
 part-search-part-end-3 : tie.Need-part-search-part-end-3
-part-search-part-end-3 c = let g = c .before .before .before .before .before .before .before .before .before .before .before .args in let col = columnOf (g .directory .now) (g .g .now) (g .w .now) (g .y .now) in let w = carried (lentChecks 64 col) (g .directory .now) (g .d .grower) _ (c .before .before .before .before .before .before .lent .ensures) (c .before .before .before .before .before .if1 .left) in let k = near col (g .d .grower) _ w _ (c .before .before .length-of .ensures) in omega (arith, k .inside, k .most, k .even-weights, k .even-yields)
+part-search-part-end-3 c = let g = c .before .before .before .before .before .before .before .before .before .before .before .args in let col = columnOf (g .directory .now) (g .g .now) (g .w .now) (g .y .now) in let w = carried (lentChecks 64 col) (g .directory .now) (g .d .grower) _ (c .before .before .before .before .before .before .lent .ensures) (c .before .before .before .before .before .if1 .left) in let k = near col (g .d .grower) _ w _ (c .before .before .length-of .ensures) in omega (arith, k .inside, k .most, k .even .weights, k .even .yields)
 
 shared-slice-read-search-part : tie.Need-shared-slice-read-search-part
 shared-slice-read-search-part c = let g = c .before .before .before .before .before .before .before .before .before .before .before .before .before .args in let col = columnOf (g .directory .now) (g .g .now) (g .w .now) (g .y .now) in let w = carried (lentChecks 64 col) (g .directory .now) (g .d .grower) _ (c .before .before .before .before .before .before .before .before .lent .ensures) (c .before .before .before .before .before .before .before .if1 .left) in omega (arith, lent-column col (w .passed) .shape .size)
 
 search-part-requires : tie.Need-search-part-requires
-search-part-requires c κs = let g = c .before .before .before .before .before .before .before .before .before .before .before .before .before .args in let col = columnOf (g .directory .now) (g .g .now) (g .w .now) (g .y .now) in let w = carried (lentChecks 64 col) (g .directory .now) (g .d .grower) _ (c .before .before .before .before .before .before .before .before .lent .ensures) (c .before .before .before .before .before .before .before .if1 .left) in let k = near col (g .d .grower) _ w _ (c .before .before .before .before .length-of .ensures) in let a = c .before .before .before .before .before .before .before .before .lent .result .start in let e = even-parts (a + c .before .before .before .before .length-of .result - a) a (g .g .now) (g .w .now) (g .y .now) (k .most) (k .even-weights) (k .even-yields) in (e .0, e .1, e .2, lent-column col (w .passed) .block)
+search-part-requires c κs = let g = c .before .before .before .before .before .before .before .before .before .before .before .before .before .args in let col = columnOf (g .directory .now) (g .g .now) (g .w .now) (g .y .now) in let w = carried (lentChecks 64 col) (g .directory .now) (g .d .grower) _ (c .before .before .before .before .before .before .before .before .lent .ensures) (c .before .before .before .before .before .before .before .if1 .left) in let k = near col (g .d .grower) _ w _ (c .before .before .before .before .length-of .ensures) in let a = c .before .before .before .before .before .before .before .before .lent .result .start in let e = even-part (g .g .now) (g .w .now) (g .y .now) (a + c .before .before .before .before .length-of .result - a) a (k .even) in (simp (length-take, length-drop) (omega (arith, k .most)), e, lent-column col (w .passed) .block)
 
 returns-3 : tie.Need-returns-3
 returns-3 c = let g = c .before .before .before .before .before .before .before .before .before .before .before .before .before .before .args in let col = columnOf (g .directory .now) (g .g .now) (g .w .now) (g .y .now) in let w = carried (lentChecks 64 col) (g .directory .now) (g .d .grower) _ (c .before .before .before .before .before .before .before .before .before .lent .ensures) (c .before .before .before .before .before .before .before .before .if1 .left) in let k = near col (g .d .grower) _ w _ (c .before .before .before .before .before .length-of .ensures) in c .search-part .ensures ∙ rw (w .target, near-part col (g .d) (w .passed) _ _ (k .start) (k .count), k .start) (located-searched col (g .d) (w .passed) (sym (c .before .before .before .before .before .before .before .in-range .ensures) ∙ not-false _ (c .before .before .before .before .before .before .if2 .left)))

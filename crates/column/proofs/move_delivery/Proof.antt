@@ -4,7 +4,7 @@ use mathlib.Core.Path.{ap, ap₂, _∙_}
 use native.Mathlib.Omega.{arith}
 use borrow.Author.Needs.{needs}
 use Rattle.model.specs.Column.{target}
-use Rattle.checks.specs.Lent.{columnOf}
+use Rattle.model.specs.Lent.{columnOf}
 use Rattle.column.proofs.LentColumns.{lent-column, count-lengths, held-directory, held}
 use Rattle.column.proofs.Writing.{ready, move-refused, found, scan-small, move-done}
 use Rattle.column.proofs.Reading.{target-there}

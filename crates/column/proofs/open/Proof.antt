@@ -4,7 +4,7 @@ use native.Mathlib.Omega.{arith}
 use borrow.Author.Needs.{needs}
 use borrow.Author.Tests.{not-true, not-false}
 use Rattle.model.specs.Questions.{lentChecks}
-use Rattle.checks.specs.Lent.{columnOf}
+use Rattle.model.specs.Lent.{columnOf}
 use Rattle.checks.proofs.Answers.{shape-refusal, carried}
 use Rattle.column.proofs.Writing.{opened-lent, opened-range, opened-full, opened-yes}
 use Rattle.column.proofs.open.Statement.{statement}
@@ -32,10 +32,23 @@ not-opened-requires-3 : tie.Need-not-opened-requires-3
 not-opened-requires-3 c κs = search needs
 
 returns-3 : tie.Need-returns-3
-returns-3 c = let g = c .before .before .before .before .before .before .before .before .before .before .args in let col = columnOf (g .directory .now) (g .g .now) (g .w .now) (g .y .now) in let w = carried (lentChecks 64 col) (g .directory .now) (g .d .grower) _ (c .before .before .before .before .before .lent .ensures) (c .before .before .before .before .if1 .left) in c .not-opened3 .ensures ∙ opened-full col (g .d) (w .passed) (sym (c .before .before .before .in-range .ensures) ∙ not-false _ (c .before .before .if2 .left)) (omega (arith, w .used))
+returns-3 c =
+    let b = c .before .before .before in
+    let l = b .before .before .before in
+    let g = l .before .before .before .before .before .args in
+    let col = columnOf (g .directory .now) (g .g .now) (g .w .now) (g .y .now) in
+    let w = carried (lentChecks 64 col) (g .directory .now) (g .d .grower) _ (l .lent .ensures) (b .before .before .if1 .left) in
+    c .not-opened3 .ensures ∙ opened-full col (g .d) (w .passed) (sym (b .before .in-range .ensures) ∙ not-false _ (b .if2 .left)) (omega (arith, w .used))
 
 returns-4 : tie.Need-returns-4
-returns-4 c = let g = c .before .before .before .before .before .before .before .before .before .args in let col = columnOf (g .directory .now) (g .g .now) (g .w .now) (g .y .now) in let w = carried (lentChecks 64 col) (g .directory .now) (g .d .grower) _ (c .before .before .before .before .lent .ensures) (c .before .before .before .if1 .left) in rw (w .target, w .start, w .used) (opened-yes col (g .d) (w .passed) (sym (c .before .before .in-range .ensures) ∙ not-false _ (c .before .if2 .left)) (omega (arith, w .used)))
+returns-4 c =
+    let b = c .before .before in
+    let l = b .before .before .before in
+    let z = b .before .before .if1 .left in
+    let g = l .before .before .before .before .before .args in
+    let col = columnOf (g .directory .now) (g .g .now) (g .w .now) (g .y .now) in
+    let w = carried (lentChecks 64 col) (g .directory .now) (g .d .grower) _ (l .lent .ensures) z in
+    opened-yes col (g .d) (w .passed) (sym (b .before .in-range .ensures) ∙ not-false _ (b .if2 .left)) (omega (arith, w .used)) _ z w
 
 pub open-spec : {M : Type 1} → statement M
 open-spec =

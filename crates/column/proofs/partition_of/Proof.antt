@@ -31,7 +31,7 @@ place-of-requires : tie.Need-place-of-requires
 place-of-requires c κs = let g = c .before .before .before .args in let ns = g .directory .now in rw (dir-fences ns (c .before .before .before .pre)) (omega (arith, dir-count ns (c .before .before .before .pre), dir-some ns (c .before .before .before .pre)), omega (arith, dir-count ns (c .before .before .before .pre), dir-few ns (c .before .before .before .pre)), dir-rises ns (c .before .before .before .pre))
 
 returns : tie.Need-returns
-returns c = let g = c .before .before .before .before .args in c .place-of .ensures ∙ ap (λ (l : List ℕ). place l (g .g)) (dir-fences (g .directory .now) (c .before .before .before .before .pre))
+returns c = let g = c .before .before .before .before .args in c .place-of .ensures ∙ ap (λ (l : List ℕ). place l (g .grower)) (dir-fences (g .directory .now) (c .before .before .before .before .pre))
 
 pub partition-of-spec : {M : Type 1} → statement M
 partition-of-spec =

@@ -1,9 +1,8 @@
 -- `column::partition_slice` meets its contract. Assumes nothing.
-use Prim.Native.Nat.{_+_, _-_}
-use mathlib.Core.Path.{_≡_, ap}
+use mathlib.Core.Path.{ap, _∙_}
 use native.Mathlib.Omega.{arith}
 use borrow.Author.Needs.{needs}
-use Rattle.column.proofs.Handing.{handed-inside}
+use Rattle.column.proofs.Handing.{handed-inside, cut-out}
 use Rattle.column.specs.Answers.{partOf}
 use Rattle.model.specs.declared.PartitionSlice.{PartitionSlice}
 use Rattle.column.proofs.partition_slice.Statement.{statement}
@@ -34,8 +33,10 @@ part-result-end : tie.Need-part-result-end
 part-result-end c = let g = (c .before .before .before .before .before .args) in omega (arith, handed-inside (g .directory .now) (g .growers .now) (g .grower) ((c .before .before .partition) .result) ((c .before .before .partition) .ensures))
 
 returns : tie.Need-returns
-unfolding partOf
-returns c = let g = (c .before .before .before .before .before .before .args) in let q = (c .before .before .before .partition) .result in let e : q .start + q .count - q .start ≡ q .count = omega arith in rw (e) (ap (λ (x : PartitionSlice). partOf x (g .growers .now)) ((c .before .before .before .partition) .ensures))
+returns c =
+    let g = (c .before .before .before .before .before .before .args) in
+    let p = (c .before .before .before .partition) in
+    cut-out (p .result) (g .growers .ptr) (g .growers .now) ∙ ap (λ (x : PartitionSlice). partOf x (g .growers .ptr) (g .growers .now)) (p .ensures)
 
 pub partition-slice-spec : {M : Type 1} → statement M
 partition-slice-spec =

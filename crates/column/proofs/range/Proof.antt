@@ -2,7 +2,7 @@
 use mathlib.Core.Path.{sym, ap, _∙_}
 use borrow.Author.Needs.{needs}
 use Rattle.model.specs.Questions.{lentChecks}
-use Rattle.checks.specs.Lent.{columnOf}
+use Rattle.model.specs.Lent.{columnOf}
 use Rattle.checks.proofs.Answers.{shape-refusal, carried}
 use Rattle.model.specs.Calls.{range}
 use Rattle.model.specs.Partitions.{startOf}

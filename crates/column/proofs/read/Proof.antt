@@ -6,7 +6,7 @@ use borrow.Author.Needs.{needs}
 use borrow.Author.Tests.{not-true, not-false}
 use lib.ListN.{getD}
 use Rattle.model.specs.Column.{slots, lengthsOf, target}
-use Rattle.checks.specs.Lent.{columnOf}
+use Rattle.model.specs.Lent.{columnOf}
 use Rattle.scan.specs.Scans.{scanOf}
 use Rattle.column.proofs.LentColumns.{lent-column, the-lengths, count-lengths, held-directory}
 use Rattle.column.proofs.Reading.{good-scan, blocks-some, target-there, targets-ordered, range-bad, range-good}
@@ -38,7 +38,7 @@ shared-slice-read-scan-parts : tie.Need-shared-slice-read-scan-parts
 shared-slice-read-scan-parts c = let g = c .before .before .before .before .before .before .before .before .args in let col = columnOf (g .directory .now) (g .g .now) (g .w .now) (g .y .now) in let p = c .before .before .before .before .before .before .before .before .pre in let l = lent-column col (p .0) in omega (arith, l .shape .size, l .shape .few)
 
 scan-parts-requires : tie.Need-scan-parts-requires
-scan-parts-requires c κs = let g = c .before .before .before .before .before .before .before .before .args in let col = columnOf (g .directory .now) (g .g .now) (g .w .now) (g .y .now) in let p = c .before .before .before .before .before .before .before .before .pre in let l = lent-column col (p .0) in rw (the-lengths col l, c .before .before .partition-of .ensures) ((rw (p .2) (targets-ordered col (p .0) (g .lo) (g .hi) (p .1)), target-there col (p .0) (g .hi), omega (arith, count-lengths col l, l .shape .few), l .shape .room, l .block, p .3), (l .most, l .even-weights, l .even-yields))
+scan-parts-requires c κs = let g = c .before .before .before .before .before .before .before .before .args in let col = columnOf (g .directory .now) (g .g .now) (g .w .now) (g .y .now) in let p = c .before .before .before .before .before .before .before .before .pre in let l = lent-column col (p .0) in rw (the-lengths col l, c .before .before .partition-of .ensures) ((rw (p .2) (targets-ordered col (p .0) (g .lo) (g .hi) (p .1)), target-there col (p .0) (g .hi), omega (arith, count-lengths col l, l .shape .few), l .shape .room, l .block, p .3), (l .most, l .even))
 
 refused-requires : tie.Need-refused-requires
 refused-requires c κs = search needs

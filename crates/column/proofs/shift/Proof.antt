@@ -3,7 +3,7 @@ use native.Mathlib.Omega.{arith}
 use borrow.Author.Needs.{needs}
 use Rattle.model.specs.Column.{lengthsOf}
 use Rattle.model.specs.Partitions.{oneMore, oneFewer}
-use Rattle.checks.specs.Lent.{columnOf}
+use Rattle.model.specs.Lent.{columnOf}
 use Rattle.column.proofs.Writing.{held-after, twice, column-is}
 use Rattle.model.specs.Moves.{moved}
 use Rattle.column.proofs.shift.Statement.{statement}
@@ -16,7 +16,7 @@ shrink-requires : tie.Need-shrink-requires
 shrink-requires c κs = (((c .before .before .before .before .before .before .before .before .before .before .before .before .before .before .before .before .pre) .0 .here), omega (arith, (c .before .before .before .before .before .before .before .before .before .before .before .before .before .before .before .before .pre) .1))
 
 grow-requires : tie.Need-grow-requires
-grow-requires c κs = let g = (c .before .before .before .before .before .before .before .before .before .before .before .before .before .before .before .before .before .before .before .before .args) in rw ((c .before .before .before .shrink) .ensures) (held-after (g .directory .now) (g .t) (g .u) ((c .before .before .before .before .before .before .before .before .before .before .before .before .before .before .before .before .before .before .before .before .pre) .0 .here) (omega (arith, (c .before .before .before .before .before .before .before .before .before .before .before .before .before .before .before .before .before .before .before .before .pre) .1)) ((c .before .before .before .before .before .before .before .before .before .before .before .before .before .before .before .before .before .before .before .before .pre) .2))
+grow-requires c κs = let g = (c .before .before .before .before .before .before .before .before .before .before .before .before .before .before .before .before .before .before .before .before .args) in rw ((c .before .before .before .shrink) .ensures) (held-after (g .directory .now) (g .from) (g .to) ((c .before .before .before .before .before .before .before .before .before .before .before .before .before .before .before .before .before .before .before .before .pre) .0 .here) (omega (arith, (c .before .before .before .before .before .before .before .before .before .before .before .before .before .before .before .before .before .before .before .before .pre) .1)) ((c .before .before .before .before .before .before .before .before .before .before .before .before .before .before .before .before .before .before .before .before .pre) .2))
 
 same-length : tie.Need-same-length
 same-length c = search needs
@@ -31,7 +31,7 @@ same-length-4 : tie.Need-same-length-4
 same-length-4 c = search needs
 
 returns : tie.Need-returns
-returns c = let g = (c .before .before .before .before .before .before .before .before .before .before .before .before .before .before .before .before .before .before .before .before .before .before .before .args) in let col = columnOf (g .directory .now) (g .g .now) (g .w .now) (g .y .now) in let e = (c .before .before .before .before .before .before .before .before .before .before .before .before .before .before .shift-slots) .ensures in column-is (moved (lengthsOf 64 col) (g .t) (g .i) (g .u)) (g .d) (oneMore (g .u) (oneFewer (g .t) (lengthsOf 64 col))) col _ _ _ _ (twice (g .directory .now) (g .t) (g .u) ((c .before .before .before .before .before .before .before .before .before .before .before .before .before .before .before .before .before .before .before .before .before .before .before .pre) .0 .here) (omega (arith, (c .before .before .before .before .before .before .before .before .before .before .before .before .before .before .before .before .before .before .before .before .before .before .before .pre) .1)) _ _ ((c .before .before .before .before .before .before .shrink) .ensures) ((c .before .before .grow) .ensures)) (e .0) (e .1) (e .2)
+returns c = let g = (c .before .before .before .before .before .before .before .before .before .before .before .before .before .before .before .before .before .before .before .before .before .before .before .args) in let col = columnOf (g .directory .now) (g .g .now) (g .w .now) (g .y .now) in let e = (c .before .before .before .before .before .before .before .before .before .before .before .before .before .before .shift-slots) .ensures in column-is (moved (lengthsOf 64 col) (g .from) (g .slot) (g .to)) (g .d) (oneMore (g .to) (oneFewer (g .from) (lengthsOf 64 col))) col _ _ _ _ (twice (g .directory .now) (g .from) (g .to) ((c .before .before .before .before .before .before .before .before .before .before .before .before .before .before .before .before .before .before .before .before .before .before .before .pre) .0 .here) (omega (arith, (c .before .before .before .before .before .before .before .before .before .before .before .before .before .before .before .before .before .before .before .before .before .before .before .pre) .1)) _ _ ((c .before .before .before .before .before .before .shrink) .ensures) ((c .before .before .grow) .ensures)) (e .0) (e .1) (e .2)
 
 pub shift-spec : {M : Type 1} → statement M
 shift-spec =

@@ -25,7 +25,7 @@ part-forward-slots-end : tie.Need-part-forward-slots-end
 part-forward-slots-end c = let g = (c .before .before .before .before .before .before .before .before .before .args) in omega (arith, dir-size (g .directory .now) (((c .before .before .before .before .before .before .before .before .before .pre) .0 .here) .shaped), dir-few (g .directory .now) (((c .before .before .before .before .before .before .before .before .before .pre) .0 .here) .shaped))
 
 forward-slots-requires : tie.Need-forward-slots-requires
-forward-slots-requires c κs = let g = (c .before .before .before .before .before .before .before .before .before .before .args) in let m = dir-many (g .directory .now) (((c .before .before .before .before .before .before .before .before .before .before .pre) .0 .here) .shaped) in rw (dir-lengths (g .directory .now) (((c .before .before .before .before .before .before .before .before .before .before .pre) .0 .here) .shaped)) ((c .before .before .before .before .if1) .taken, omega (arith, m, (c .before .before .before .before .before .before .before .before .before .before .pre) .2), (c .before .before .before .before .before .before .before .before .before .before .pre) .0 .start, (c .before .before .before .before .before .before .before .before .before .before .pre) .1, (c .before .before .before .before .before .before .before .before .before .before .pre) .0 .room, (c .before .before .before .before .before .before .before .before .before .before .pre) .0 .even-weights, (c .before .before .before .before .before .before .before .before .before .before .pre) .0 .even-yields)
+forward-slots-requires c κs = let g = (c .before .before .before .before .before .before .before .before .before .before .args) in let m = dir-many (g .directory .now) (((c .before .before .before .before .before .before .before .before .before .before .pre) .0 .here) .shaped) in rw (dir-lengths (g .directory .now) (((c .before .before .before .before .before .before .before .before .before .before .pre) .0 .here) .shaped)) ((c .before .before .before .before .if1) .taken, omega (arith, m, (c .before .before .before .before .before .before .before .before .before .before .pre) .2), (c .before .before .before .before .before .before .before .before .before .before .pre) .0 .start, (c .before .before .before .before .before .before .before .before .before .before .pre) .1, (c .before .before .before .before .before .before .before .before .before .before .pre) .0 .room, (c .before .before .before .before .before .before .before .before .before .before .pre) .0 .even)
 
 same-length : tie.Need-same-length
 same-length c = search needs
@@ -52,7 +52,7 @@ part-backward-slots-end : tie.Need-part-backward-slots-end
 part-backward-slots-end c = let g = (c .before .before .before .before .before .before .before .before .before .before .args) in omega (arith, dir-size (g .directory .now) (((c .before .before .before .before .before .before .before .before .before .before .pre) .0 .here) .shaped), dir-few (g .directory .now) (((c .before .before .before .before .before .before .before .before .before .before .pre) .0 .here) .shaped))
 
 backward-slots-requires : tie.Need-backward-slots-requires
-backward-slots-requires c κs = let g = (c .before .before .before .before .before .before .before .before .before .before .before .args) in let m = dir-many (g .directory .now) (((c .before .before .before .before .before .before .before .before .before .before .before .pre) .0 .here) .shaped) in rw (dir-lengths (g .directory .now) (((c .before .before .before .before .before .before .before .before .before .before .before .pre) .0 .here) .shaped)) ((c .before .before .before .before .before .if1) .left, omega (arith, m, ((c .before .before .before .before .before .before .before .before .before .before .before .pre) .0 .here) .there), (c .before .before .before .before .before .before .before .before .before .before .before .pre) .0 .start, (c .before .before .before .before .start-of) .ensures, (c .before .before .before .before .before .before .before .before .before .before .before .pre) .1, (c .before .before .before .before .before .before .before .before .before .before .before .pre) .0 .room, (c .before .before .before .before .before .before .before .before .before .before .before .pre) .0 .even-weights, (c .before .before .before .before .before .before .before .before .before .before .before .pre) .0 .even-yields)
+backward-slots-requires c κs = let g = (c .before .before .before .before .before .before .before .before .before .before .before .args) in let m = dir-many (g .directory .now) (((c .before .before .before .before .before .before .before .before .before .before .before .pre) .0 .here) .shaped) in rw (dir-lengths (g .directory .now) (((c .before .before .before .before .before .before .before .before .before .before .before .pre) .0 .here) .shaped)) ((c .before .before .before .before .before .if1) .left, omega (arith, m, ((c .before .before .before .before .before .before .before .before .before .before .before .pre) .0 .here) .there), (c .before .before .before .before .before .before .before .before .before .before .before .pre) .0 .start, (c .before .before .before .before .start-of) .ensures, (c .before .before .before .before .before .before .before .before .before .before .before .pre) .1, (c .before .before .before .before .before .before .before .before .before .before .before .pre) .0 .room, (c .before .before .before .before .before .before .before .before .before .before .before .pre) .0 .even)
 
 same-length-4 : tie.Need-same-length-4
 same-length-4 c = search needs

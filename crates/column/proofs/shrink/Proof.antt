@@ -20,7 +20,7 @@ slice-read-directory : tie.Need-slice-read-directory
 slice-read-directory c = let g = (c .before .args) in omega (arith, ((c .before .pre) .0) .there, dir-size (g .directory .now) (((c .before .pre) .0) .shaped), dir-few (g .directory .now) (((c .before .pre) .0) .shaped))
 
 sub-directory : tie.Need-sub-directory
-sub-directory c = let g = (c .before .args) in omega (arith, dir-length (g .directory .now) (((c .before .pre) .0) .shaped) (g .t) (((c .before .pre) .0) .there), (c .before .pre) .1)
+sub-directory c = let g = (c .before .args) in omega (arith, dir-length (g .directory .now) (((c .before .pre) .0) .shaped) (g .partition) (((c .before .pre) .0) .there), (c .before .pre) .1)
 
 mul-directory-2 : tie.Need-mul-directory-2
 mul-directory-2 c = let g = (c .before .args) in omega (arith, ((c .before .pre) .0) .there, dir-size (g .directory .now) (((c .before .pre) .0) .shaped), dir-few (g .directory .now) (((c .before .pre) .0) .shaped))
@@ -32,7 +32,7 @@ same-length : tie.Need-same-length
 same-length c = search needs
 
 returns : tie.Need-returns
-returns c = let g = (c .before .args) in set-length (g .directory .now) (g .t) _ (dir-size (g .directory .now) (((c .before .pre) .0) .shaped)) (dir-few (g .directory .now) (((c .before .pre) .0) .shaped)) (((c .before .pre) .0) .there) ∙ ap (λ (n : ℕ). withLengths (set (directoryOf 64 (g .directory .now) .lengths) (g .t) (n - 1)) (g .directory .now)) (dir-length (g .directory .now) (((c .before .pre) .0) .shaped) (g .t) (((c .before .pre) .0) .there))
+returns c = let g = (c .before .args) in set-length (g .directory .now) (g .partition) _ (dir-size (g .directory .now) (((c .before .pre) .0) .shaped)) (dir-few (g .directory .now) (((c .before .pre) .0) .shaped)) (((c .before .pre) .0) .there) ∙ ap (λ (n : ℕ). withLengths (set (directoryOf 64 (g .directory .now) .lengths) (g .partition) (n - 1)) (g .directory .now)) (dir-length (g .directory .now) (((c .before .pre) .0) .shaped) (g .partition) (((c .before .pre) .0) .there))
 
 pub shrink-spec : {M : Type 1} → statement M
 shrink-spec =

@@ -23,7 +23,7 @@ total-requires : tie.Need-total-requires
 total-requires c κs = let g = c .before .before .args in let p = c .before .before .pre in simp length-take (omega (arith, p .there, dir-size (g .directory .now) (p .shaped), dir-few (g .directory .now) (p .shaped)))
 
 returns : tie.Need-returns
-returns c = let g = c .before .before .before .args in let p = c .before .before .before .pre in c .total .ensures ∙ dir-ahead (g .directory .now) (p .shaped) (g .t) (omega (arith, p .there))
+returns c = let g = c .before .before .before .args in let p = c .before .before .before .pre in c .total .ensures ∙ dir-ahead (g .directory .now) (p .shaped) (g .partition) (omega (arith, p .there))
 
 pub start-of-spec : {M : Type 1} → statement M
 start-of-spec =

@@ -5,11 +5,11 @@ use Rattle.model.specs.declared.Totals.{Totals}
 use Rattle.column.proofs.without_totals.Statement.{statement}
 use Rattle.column.proofs.without_totals.Tie as tie
 
-no-totals-requires : tie.Need-no-totals-requires
-no-totals-requires c κs = search needs
+none-requires : tie.Need-none-requires
+none-requires c κs = search needs
 
 returns : tie.Need-returns
-returns c = ap (λ (t : Totals). record { refusal = c .before .args .n; counts = c .before .args .counts; totals = t }) (c .no-totals .ensures)
+returns c = ap (λ (t : Totals). record { refusal = c .before .args .refusal; counts = c .before .args .counts; totals = t }) (c .none .ensures)
 
 pub without-totals-spec : {M : Type 1} → statement M
-without-totals-spec = tie.close (tie.spec no-totals-requires returns)
+without-totals-spec = tie.close (tie.spec none-requires returns)

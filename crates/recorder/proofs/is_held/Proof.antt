@@ -1,7 +1,7 @@
 -- `recorder::is_held` meets its contract: the first match lies before the end just if there is one. Assumes nothing.
-use lib.Seq.{length-take-le}
 use native.Mathlib.Omega.{arith}
 use mathlib.Core.Path.{sym, _∙_}
+use lib.Seq.{length-take-le}
 use Rattle.recorder.proofs.Recording.{held-law}
 use Rattle.recorder.proofs.is_held.Statement.{statement}
 use Rattle.recorder.proofs.is_held.Tie as tie
@@ -20,7 +20,7 @@ first-match-requires c κs =
     let s = c .before .before .before .before .before .before in
     let g = s .args in
     let n = length-take-le (g .used) (g .g .now) (s .pre .0) in
-    (length-take-le (g .used) (g .w .now) (omega (arith, s .pre .0, s .pre .1 .weights)) ∙ sym n, length-take-le (g .used) (g .y .now) (omega (arith, s .pre .0, s .pre .1 .yields)) ∙ sym n)
+    record { weights = length-take-le (g .used) (g .w .now) (omega (arith, s .pre .0, s .pre .1 .weights)) ∙ sym n; yields = length-take-le (g .used) (g .y .now) (omega (arith, s .pre .0, s .pre .1 .yields)) ∙ sym n }
 
 returns : tie.Need-returns
 returns c = let p = c .before .before .before .before .before .before .before .pre in held-law _ _ _ _ _ _ (p .0) (p .1) (c .first-match .ensures)

@@ -8,8 +8,8 @@ use Rattle.ripple.proofs.Compose.{ahead, back-law}
 use Rattle.ripple.proofs.backward_slots.Statement.{statement}
 use Rattle.ripple.proofs.backward_slots.Tie as tie
 
-inside : (s : tie.Start) → (s .args .a ≤ length (s .args .g .now)) × (s .args .a ≤ length (s .args .w .now)) × (s .args .a ≤ length (s .args .y .now)) × (s .args .a ≤ s .args .b)
-inside s = omega (arith, start-le (s .args .lens .now) (s .args .t), start-mono (s .args .lens .now) (s .args .u) (s .args .t) (omega arith))
+inside : (s : tie.Start) → (s .args .to-start ≤ length (s .args .g .now)) × (s .args .to-start ≤ length (s .args .w .now)) × (s .args .to-start ≤ length (s .args .y .now)) × (s .args .to-start ≤ s .args .from-start)
+inside s = omega (arith, start-le (s .args .lens .now) (s .args .from), start-mono (s .args .lens .now) (s .args .to) (s .args .from) (omega arith))
 
 sub-n : tie.Need-sub-n
 sub-n c = inside (c .before .before .before .before) .3
@@ -67,8 +67,12 @@ backward-ripple-requires c κs =
     let s = c .before .before .before .before .before .before .before .before in
     let a = s .args in
     let p = s .pre in
-    let r = ahead (a .lens .now) (a .u) (a .t) (a .b) (a .a) (a .i) (length (a .g .now)) (p .0) (p .1) (p .2) (p .3) (p .4) (p .5) in
-    (r .0, r .1, simp (length-take, length-drop) (omega arith), simp (length-take, length-drop) (omega arith), simp (length-take, length-drop) (omega arith))
+    let r = ahead (a .lens .now) (a .to) (a .from) (a .from-start) (a .to-start) (a .slot) (length (a .g .now)) (p .0) (p .1) (p .2) (p .3) (p .4) (p .5) in (
+      r .0,
+      r .1,
+      simp (length-take, length-drop) (omega arith),
+      record { weights = simp (length-take, length-drop) (omega arith); yields = simp (length-take, length-drop) (omega arith) },
+    )
 
 same-length : tie.Need-same-length
 same-length c = c .before .before .before .before .before .g .given .1
@@ -86,7 +90,7 @@ returns c =
     let l = b .backward-ripple .last in
     let s = b .before .before .before .before .before .before .before .before .before in
     let a = s .args in
-    let law = back-law {A = ℕ} 0 (a .lens .now) (a .t) (a .b) (a .i) (a .u) (a .a) in
+    let law = back-law {A = ℕ} 0 (a .lens .now) (a .from) (a .from-start) (a .slot) (a .to) (a .to-start) in
     let p = s .pre in (
       law (a .d .grower) (a .g .now) (l .0) (p .0) (p .1) (p .4) (omega arith) (p .2) (p .3) (e .0),
       law (a .d .weight) (a .w .now) (l .1 .0) (p .0) (p .1) (p .4) (omega arith) (p .2) (p .3) (e .1),

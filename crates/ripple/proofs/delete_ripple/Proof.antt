@@ -1,9 +1,10 @@
 -- `ripple::delete_ripple` meets its contract. Assumes nothing.
 use Prim.Native.Nat.{_+_, _-_, _≤_}
-use mathlib.Core.Path.{_≡_, _∙_}
+use mathlib.Core.Path.{_∙_}
 use native.Mathlib.Omega.{arith}
 use lib.ListN.{length}
 use borrow.Author.Needs.{needs}
+use Rattle.model.specs.Lent.{Even}
 use Rattle.model.specs.Lists.{sumOf}
 use Rattle.model.proofs.ListLaws.{elem-le}
 use Rattle.ripple.proofs.Loops.{Spot, Lowered, spot-first, spot-up, spot-in, spot-room, lowered-start, lowered-turn, lowered-end}
@@ -11,17 +12,16 @@ use Rattle.ripple.proofs.delete_ripple.Statement.{statement}
 use Rattle.ripple.proofs.delete_ripple.Tie as tie
 
 abbrev Inv-loop : tie.InvT-loop
-Inv-loop g₀ w₀ y₀ lens i d p₀ j₀ g w y p j
+Inv-loop g₀ w₀ y₀ lens slot d p₀ j₀ g w y p j
     = Spot lens (p + 1) j
     × (sumOf lens ≤ length g₀)
-    × (length w₀ ≡ length g₀)
-    × (length y₀ ≡ length g₀)
+    × Even g₀ w₀ y₀
     × Lowered lens (d .grower) g₀ p₀ j₀ g p j
     × Lowered lens (d .weight) w₀ p₀ j₀ w p j
     × Lowered lens (d .«oil_yield») y₀ p₀ j₀ y p j
 
 abbrev μ-loop : tie.MeasureT-loop
-μ-loop g₀ w₀ y₀ lens i d p₀ j₀ g w y p j = length lens - j
+μ-loop g₀ w₀ y₀ lens slot d p₀ j₀ g w y p j = length lens - j
 
 shared-slice-read-p : tie.Need-shared-slice-read-p Inv-loop μ-loop
 shared-slice-read-p c = omega arith
@@ -38,7 +38,6 @@ carry-requires c κs = omega (arith, elem-le (c .before .before .before .before 
 loop-holds : tie.Need-loop-holds Inv-loop μ-loop
 loop-holds c = (
   spot-first _ _ (omega arith) (omega arith),
-  omega arith,
   omega arith,
   omega arith,
   lowered-start _ _ _ _ _,
@@ -79,10 +78,9 @@ loop-again c =
       spot-up _ _ _ t (i .0),
       i .1,
       i .2,
-      i .3,
+      lowered-turn 0 _ _ _ _ _ _ _ _ t (omega arith) (i .0) (i .3),
       lowered-turn 0 _ _ _ _ _ _ _ _ t (omega arith) (i .0) (i .4),
       lowered-turn 0 _ _ _ _ _ _ _ _ t (omega arith) (i .0) (i .5),
-      lowered-turn 0 _ _ _ _ _ _ _ _ t (omega arith) (i .0) (i .6),
     )
 
 store-requires : tie.Need-store-requires Inv-loop μ-loop
@@ -107,9 +105,9 @@ returns c =
     let a = l .before .before .before .before .before .before .before in
     let f = a .carry .ensures in
     let r = a .before .before .before .before .before .before .before .before .before .pre in (
-      e .0 ∙ lowered-end 0 _ _ _ _ _ _ _ _ t (r .1) (r .2) (i .0) (f .0) (i .4),
-      e .1 ∙ lowered-end 0 _ _ _ _ _ _ _ _ t (r .1) (omega arith) (i .0) (f .1) (i .5),
-      e .2 ∙ lowered-end 0 _ _ _ _ _ _ _ _ t (r .1) (omega arith) (i .0) (f .2) (i .6),
+      e .0 ∙ lowered-end 0 _ _ _ _ _ _ _ _ t (r .1) (r .2) (i .0) (f .0) (i .3),
+      e .1 ∙ lowered-end 0 _ _ _ _ _ _ _ _ t (r .1) (omega arith) (i .0) (f .1) (i .4),
+      e .2 ∙ lowered-end 0 _ _ _ _ _ _ _ _ t (r .1) (omega arith) (i .0) (f .2) (i .5),
     )
 
 pub delete-ripple-spec : {M : Type 1} → statement M

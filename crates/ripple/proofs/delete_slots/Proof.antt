@@ -8,8 +8,8 @@ use Rattle.ripple.proofs.Compose.{tail-part, first-left, pull-law}
 use Rattle.ripple.proofs.delete_slots.Statement.{statement}
 use Rattle.ripple.proofs.delete_slots.Tie as tie
 
-inside : (s : tie.Start) → (s .args .a ≤ length (s .args .g .now)) × (s .args .a ≤ length (s .args .w .now)) × (s .args .a ≤ length (s .args .y .now))
-inside s = omega (arith, start-le (s .args .lens .now) (s .args .t))
+inside : (s : tie.Start) → (s .args .start ≤ length (s .args .g .now)) × (s .args .start ≤ length (s .args .w .now)) × (s .args .start ≤ length (s .args .y .now))
+inside s = omega (arith, start-le (s .args .lens .now) (s .args .partition))
 
 mul-delete-ripple : tie.Need-mul-delete-ripple
 mul-delete-ripple c = omega (arith, inside (c .before .before .before .before))
@@ -62,7 +62,7 @@ part-delete-ripple-end-4 c = search needs
 delete-ripple-requires : tie.Need-delete-ripple-requires
 delete-ripple-requires c κs =
     let s = c .before .before .before .before .before .before .before .before in
-    let h = start-rest (s .args .lens .now) (s .args .t) in
+    let h = start-rest (s .args .lens .now) (s .args .partition) in
     rw (tail-part, first-left) (simp (length-take, length-drop) (omega arith))
 
 same-length : tie.Need-same-length
@@ -81,7 +81,7 @@ returns c =
     let l = b .delete-ripple .last in
     let s = b .before .before .before .before .before .before .before .before .before in
     let a = s .args in
-    let law = pull-law {A = ℕ} (a .lens .now) (a .t) (a .a) (a .i) in
+    let law = pull-law {A = ℕ} (a .lens .now) (a .partition) (a .start) (a .slot) in
     let h = s .pre .1 in (
       law (a .d .grower) (a .g .now) (l .0) h (e .0),
       law (a .d .weight) (a .w .now) (l .1 .0) h (e .1),

@@ -8,8 +8,8 @@ use Rattle.ripple.proofs.Compose.{tail-part, put-law}
 use Rattle.ripple.proofs.insert_slots.Statement.{statement}
 use Rattle.ripple.proofs.insert_slots.Tie as tie
 
-inside : (s : tie.Start) → (s .args .a ≤ length (s .args .g .now)) × (s .args .a ≤ length (s .args .w .now)) × (s .args .a ≤ length (s .args .y .now)) × (s .args .a ≤ s .args .used)
-inside s = omega (arith, start-le (s .args .lens .now) (s .args .t))
+inside : (s : tie.Start) → (s .args .start ≤ length (s .args .g .now)) × (s .args .start ≤ length (s .args .w .now)) × (s .args .start ≤ length (s .args .y .now)) × (s .args .start ≤ s .args .used)
+inside s = omega (arith, start-le (s .args .lens .now) (s .args .partition))
 
 sub-n : tie.Need-sub-n
 sub-n c = inside (c .before .before .before .before) .3
@@ -65,7 +65,7 @@ part-insert-ripple-end-4 c = search needs
 insert-ripple-requires : tie.Need-insert-ripple-requires
 insert-ripple-requires c κs =
     let s = c .before .before .before .before .before .before .before .before in
-    let h = start-rest (s .args .lens .now) (s .args .t) in
+    let h = start-rest (s .args .lens .now) (s .args .partition) in
     rw tail-part (simp (length-take, length-drop) (omega arith))
 
 same-length : tie.Need-same-length
@@ -84,7 +84,7 @@ returns c =
     let l = b .insert-ripple .last in
     let s = b .before .before .before .before .before .before .before .before .before in
     let a = s .args in
-    let law = put-law {A = ℕ} (a .lens .now) (a .t) (a .a) in
+    let law = put-law {A = ℕ} (a .lens .now) (a .partition) (a .start) in
     let h = s .pre .1 in (
       law (a .d .grower) (a .g .now) (l .0) h (e .0),
       law (a .d .weight) (a .w .now) (l .1 .0) h (e .1),

@@ -6,11 +6,11 @@ use Rattle.model.specs.declared.Totals.{Totals}
 use Rattle.scan.proofs.bad_scan.Statement.{statement}
 use Rattle.scan.proofs.bad_scan.Tie as tie
 
-no-totals-requires : tie.Need-no-totals-requires
-no-totals-requires c κs = search needs
+none-requires : tie.Need-none-requires
+none-requires c κs = search needs
 
 returns : tie.Need-returns
-returns c = ap (λ (t : Totals). record { good = false; totals = t; blocks = 0 }) (c .no-totals .ensures)
+returns c = ap (λ (t : Totals). record { good = false; totals = t; blocks = 0 }) (c .none .ensures)
 
 pub bad-scan-spec : {M : Type 1} → statement M
-bad-scan-spec = tie.close (tie.spec no-totals-requires returns)
+bad-scan-spec = tie.close (tie.spec none-requires returns)

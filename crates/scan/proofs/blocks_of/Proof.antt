@@ -20,7 +20,7 @@ div-result c = search needs
 
 returns-2 : tie.Need-returns-2
 unfolding ceilDiv
-returns-2 c = let g = c .before .args in blocks-some (g .b) (g .n) (c .before .pre .0) (omega arith)
+returns-2 c = let g = c .before .args in blocks-some (g .block) (g .records) (c .before .pre .0) (omega arith)
 
 pub blocks-of-spec : {M : Type 1} → statement M
 blocks-of-spec = tie.close (tie.spec returns sub-result add-result div-result returns-2)

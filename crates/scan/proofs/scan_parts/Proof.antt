@@ -2,25 +2,26 @@
 use Prim.Native.Nat.{_+_, _-_}
 use native.Mathlib.Omega.{arith}
 use borrow.Author.Needs.{needs}
-use lib.ListN.{getD}
+use lib.ListN.{getD, length-take, length-drop}
 use Rattle.model.specs.Deliveries.{rows}
 use Rattle.model.proofs.Parts.{stop-le}
 use Rattle.model.proofs.Deliveries.{length-rows}
-use Rattle.scan.proofs.Scanning.{Scanning, even-parts, scanning-start, scanning-next, scanning-light, scanning-end}
+use Rattle.slices.proofs.Sums.{even-part}
+use Rattle.scan.proofs.Scanning.{Scanning, scanning-start, scanning-next, scanning-light, scanning-end}
 use Rattle.scan.proofs.scan_parts.Statement.{statement}
 use Rattle.scan.proofs.scan_parts.Tie as tie
 
 abbrev Inv-loop : tie.InvT-loop
-Inv-loop g w y lens p q start b lo hi at₀ i₀ s₀ at i s = Scanning b lens p q lo hi (rows g w y) at i s
+Inv-loop g w y lens from to start block lo hi at₀ i₀ s₀ at i s = Scanning block lens from to lo hi (rows g w y) at i s
 
 abbrev μ-loop : tie.MeasureT-loop
-μ-loop g w y lens p q start b lo hi at₀ i₀ s₀ at i s = q + 1 - i
+μ-loop g w y lens from to start block lo hi at₀ i₀ s₀ at i s = to + 1 - i
 
-no-totals-requires : tie.Need-no-totals-requires Inv-loop μ-loop
-no-totals-requires c κs = search needs
+none-requires : tie.Need-none-requires Inv-loop μ-loop
+none-requires c κs = search needs
 
 loop-holds : tie.Need-loop-holds Inv-loop μ-loop
-loop-holds c = let g = c .before .before .before .before .before .args in rw (c .no-totals .ensures) (scanning-start (g .b) (g .lens .now) (g .p) (g .q) (g .lo) (g .hi) (rows (g .g .now) (g .w .now) (g .y .now)) (g .start) (omega arith) (c .before .before .before .before .before .pre .0 .5))
+loop-holds c = let g = c .before .before .before .before .before .args in rw (c .none .ensures) (scanning-start (g .block) (g .lens .now) (g .from) (g .to) (g .lo) (g .hi) (rows (g .g .now) (g .w .now) (g .y .now)) (g .start) (omega arith) (c .before .before .before .before .before .pre .0 .5))
 
 mul-e : tie.Need-mul-e Inv-loop μ-loop
 mul-e c = search needs
@@ -74,10 +75,10 @@ scan-more-requires : tie.Need-scan-more-requires Inv-loop μ-loop
 scan-more-requires c κs =
     let g = c .before .before .before .before .before .before .before .before .before .before .before .args in
     let w = c .before .before .before .before .before .loop in
-    let r = length-rows (g .g .now) (g .w .now) (g .y .now) (c .before .before .before .before .before .before .before .before .before .before .before .pre .1 .1) (c .before .before .before .before .before .before .before .before .before .before .before .pre .1 .2) in
-    let e = even-parts (w .at + getD (g .lens .now) (w .i) 0 - w .at) (w .at) (g .g .now) (g .w .now) (g .y .now) (omega arith) (omega arith) (omega arith) in
-    let l = scanning-light (g .b) (g .lens .now) (g .p) (g .q) (g .lo) (g .hi) (g .g .now) (g .w .now) (g .y .now) (w .at) (w .i) (w .s) (w .inv) (omega arith) (omega arith) (omega arith) (omega arith) in
-    (e .0, e .1, e .2, omega arith, l)
+    let r = length-rows (g .g .now) (g .w .now) (g .y .now) (c .before .before .before .before .before .before .before .before .before .before .before .pre .1 .1 .weights) (c .before .before .before .before .before .before .before .before .before .before .before .pre .1 .1 .yields) in
+    let e = even-part (g .g .now) (g .w .now) (g .y .now) (w .at + getD (g .lens .now) (w .i) 0 - w .at) (w .at) (c .before .before .before .before .before .before .before .before .before .before .before .pre .1 .1) in
+    let l = scanning-light (g .block) (g .lens .now) (g .from) (g .to) (g .lo) (g .hi) (g .g .now) (g .w .now) (g .y .now) (w .at) (w .i) (w .s) (w .inv) (omega arith) (omega arith) (omega arith) (omega arith) in
+    (simp (length-take, length-drop) (omega arith), e, omega arith, l)
 
 add-i : tie.Need-add-i Inv-loop μ-loop
 add-i c = let w = c .before .before .before .before .before .before .loop in omega (arith, w .inv .till)
@@ -89,11 +90,11 @@ loop-again : tie.Need-loop-again Inv-loop μ-loop
 loop-again c =
     let g = c .before .before .before .before .before .before .before .before .before .before .before .before .args in
     let w = c .before .before .before .before .before .before .loop in
-    let r = length-rows (g .g .now) (g .w .now) (g .y .now) (c .before .before .before .before .before .before .before .before .before .before .before .before .pre .1 .1) (c .before .before .before .before .before .before .before .before .before .before .before .before .pre .1 .2) in
-    scanning-next (g .b) (g .lens .now) (g .p) (g .q) (g .lo) (g .hi) (g .g .now) (g .w .now) (g .y .now) (w .at) (w .i) (w .s) (w .inv) (omega arith) (omega arith) (omega arith) _ (c .scan-more .ensures)
+    let r = length-rows (g .g .now) (g .w .now) (g .y .now) (c .before .before .before .before .before .before .before .before .before .before .before .before .pre .1 .1 .weights) (c .before .before .before .before .before .before .before .before .before .before .before .before .pre .1 .1 .yields) in
+    scanning-next (g .block) (g .lens .now) (g .from) (g .to) (g .lo) (g .hi) (g .g .now) (g .w .now) (g .y .now) (w .at) (w .i) (w .s) (w .inv) (omega arith) (omega arith) (omega arith) _ (c .scan-more .ensures)
 
 returns : tie.Need-returns Inv-loop μ-loop
-returns c = let g = c .before .before .before .before .before .before .before .args in scanning-end (g .b) (g .lens .now) (g .p) (g .q) (g .lo) (g .hi) (g .g .now) (g .w .now) (g .y .now) _ _ _ (c .before .loop .inv) (c .loop-test .left)
+returns c = let g = c .before .before .before .before .before .before .before .args in scanning-end (g .block) (g .lens .now) (g .from) (g .to) (g .lo) (g .hi) (g .g .now) (g .w .now) (g .y .now) _ _ _ (c .before .loop .inv) (c .loop-test .left)
 
 pub scan-parts-spec : {M : Type 1} → statement M
 scan-parts-spec =
@@ -101,7 +102,7 @@ scan-parts-spec =
     (tie.spec
     Inv-loop
     μ-loop
-    no-totals-requires
+    none-requires
     loop-holds
     mul-e
     shared-slice-read-e

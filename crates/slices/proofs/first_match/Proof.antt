@@ -3,6 +3,7 @@ use Prim.Native.Nat.{_+_, _-_}
 use mathlib.Core.Path.{_≡_}
 use native.Mathlib.Omega.{arith}
 use lib.ListN.{length, length-take, length-drop}
+use Rattle.slices.proofs.Sums.{even-part}
 use Rattle.slices.proofs.Matching.{Passing, passing-start, passing-found, passing-next, passing-most, passing-end}
 use Rattle.slices.proofs.first_match.Statement.{statement}
 use Rattle.slices.proofs.first_match.Tie as tie
@@ -23,100 +24,106 @@ add-e : tie.Need-add-e Inv-loop μ-loop
 add-e c = omega (arith, c .before .loop .inv .at)
 
 mul-first-in-stride : tie.Need-mul-first-in-stride Inv-loop μ-loop
-mul-first-in-stride c = omega (arith, c .before .before .before .before .before .pre .0, c .before .before .before .before .before .pre .1, c .before .loop .inv .at)
+mul-first-in-stride c = omega (arith, c .before .before .before .before .before .pre .weights, c .before .before .before .before .before .pre .yields, c .before .loop .inv .at)
 
 sub-first-in-stride : tie.Need-sub-first-in-stride Inv-loop μ-loop
-sub-first-in-stride c = omega (arith, c .before .before .before .before .before .pre .0, c .before .before .before .before .before .pre .1, c .before .loop .inv .at)
+sub-first-in-stride c = omega (arith, c .before .before .before .before .before .pre .weights, c .before .before .before .before .before .pre .yields, c .before .loop .inv .at)
 
 part-first-in-stride-start : tie.Need-part-first-in-stride-start Inv-loop μ-loop
-part-first-in-stride-start c = omega (arith, c .before .before .before .before .before .pre .0, c .before .before .before .before .before .pre .1, c .before .loop .inv .at)
+part-first-in-stride-start c = omega (arith, c .before .before .before .before .before .pre .weights, c .before .before .before .before .before .pre .yields, c .before .loop .inv .at)
 
 part-first-in-stride-end : tie.Need-part-first-in-stride-end Inv-loop μ-loop
-part-first-in-stride-end c = omega (arith, c .before .before .before .before .before .pre .0, c .before .before .before .before .before .pre .1, c .before .loop .inv .at)
+part-first-in-stride-end c = omega (arith, c .before .before .before .before .before .pre .weights, c .before .before .before .before .before .pre .yields, c .before .loop .inv .at)
 
 mul-first-in-stride-2 : tie.Need-mul-first-in-stride-2 Inv-loop μ-loop
-mul-first-in-stride-2 c = omega (arith, c .before .before .before .before .before .before .pre .0, c .before .before .before .before .before .before .pre .1, c .before .before .loop .inv .at)
+mul-first-in-stride-2 c = omega (arith, c .before .before .before .before .before .before .pre .weights, c .before .before .before .before .before .before .pre .yields, c .before .before .loop .inv .at)
 
 sub-first-in-stride-2 : tie.Need-sub-first-in-stride-2 Inv-loop μ-loop
-sub-first-in-stride-2 c = omega (arith, c .before .before .before .before .before .before .pre .0, c .before .before .before .before .before .before .pre .1, c .before .before .loop .inv .at)
+sub-first-in-stride-2 c = omega (arith, c .before .before .before .before .before .before .pre .weights, c .before .before .before .before .before .before .pre .yields, c .before .before .loop .inv .at)
 
 part-first-in-stride-start-2 : tie.Need-part-first-in-stride-start-2 Inv-loop μ-loop
-part-first-in-stride-start-2 c = omega (arith, c .before .before .before .before .before .before .pre .0, c .before .before .before .before .before .before .pre .1, c .before .before .loop .inv .at)
+part-first-in-stride-start-2 c = omega (arith, c .before .before .before .before .before .before .pre .weights, c .before .before .before .before .before .before .pre .yields, c .before .before .loop .inv .at)
 
 part-first-in-stride-end-2 : tie.Need-part-first-in-stride-end-2 Inv-loop μ-loop
-part-first-in-stride-end-2 c = omega (arith, c .before .before .before .before .before .before .pre .0, c .before .before .before .before .before .before .pre .1, c .before .before .loop .inv .at)
+part-first-in-stride-end-2 c = omega (arith, c .before .before .before .before .before .before .pre .weights, c .before .before .before .before .before .before .pre .yields, c .before .before .loop .inv .at)
 
 mul-first-in-stride-3 : tie.Need-mul-first-in-stride-3 Inv-loop μ-loop
-mul-first-in-stride-3 c = omega (arith, c .before .before .before .before .before .before .before .pre .0, c .before .before .before .before .before .before .before .pre .1, c .before .before .before .loop .inv .at)
+mul-first-in-stride-3 c = omega (arith, c .before .before .before .before .before .before .before .pre .weights, c .before .before .before .before .before .before .before .pre .yields, c .before .before .before .loop .inv .at)
 
 sub-first-in-stride-3 : tie.Need-sub-first-in-stride-3 Inv-loop μ-loop
-sub-first-in-stride-3 c = omega (arith, c .before .before .before .before .before .before .before .pre .0, c .before .before .before .before .before .before .before .pre .1, c .before .before .before .loop .inv .at)
+sub-first-in-stride-3 c = omega (arith, c .before .before .before .before .before .before .before .pre .weights, c .before .before .before .before .before .before .before .pre .yields, c .before .before .before .loop .inv .at)
 
 part-first-in-stride-start-3 : tie.Need-part-first-in-stride-start-3 Inv-loop μ-loop
-part-first-in-stride-start-3 c = omega (arith, c .before .before .before .before .before .before .before .pre .0, c .before .before .before .before .before .before .before .pre .1, c .before .before .before .loop .inv .at)
+part-first-in-stride-start-3 c = omega (arith, c .before .before .before .before .before .before .before .pre .weights, c .before .before .before .before .before .before .before .pre .yields, c .before .before .before .loop .inv .at)
 
 part-first-in-stride-end-3 : tie.Need-part-first-in-stride-end-3 Inv-loop μ-loop
-part-first-in-stride-end-3 c = omega (arith, c .before .before .before .before .before .before .before .pre .0, c .before .before .before .before .before .before .before .pre .1, c .before .before .before .loop .inv .at)
+part-first-in-stride-end-3 c = omega (arith, c .before .before .before .before .before .before .before .pre .weights, c .before .before .before .before .before .before .before .pre .yields, c .before .before .before .loop .inv .at)
 
 first-in-stride-requires : tie.Need-first-in-stride-requires Inv-loop μ-loop
-first-in-stride-requires c κs = (simp (length-take, length-drop) (omega arith), simp (length-take, length-drop) (omega arith), simp (length-take, length-drop) (omega arith))
+first-in-stride-requires c κs =
+    let g = c .before .before .before .before .before .before .before .before .args in
+    let i = c .before .before .before .before .loop .i in
+    (simp (length-take, length-drop) (omega arith), even-part (g .g .now) (g .w .now) (g .y .now) (i + 64 - i) i (c .before .before .before .before .before .before .before .before .pre))
 
 add-result : tie.Need-add-result Inv-loop μ-loop
 add-result c = omega (arith, c .before .before .before .before .before .before .loop .inv .at)
 
 returns : tie.Need-returns Inv-loop μ-loop
-returns c = let g = c .before .before .before .before .before .before .before .before .before .before .args in let p = c .before .before .before .before .before .before .before .before .before .before .pre in let l = c .before .before .before .before .before .before .loop in passing-found (g .d) (g .g .now) (g .w .now) (g .y .now) (p .0) (p .1) (l .i) (l .i + 64 - l .i) _ (omega (arith, l .inv .at)) (l .inv) (c .before .first-in-stride .ensures) (omega arith)
+returns c = let g = c .before .before .before .before .before .before .before .before .before .before .args in let p = c .before .before .before .before .before .before .before .before .before .before .pre in let l = c .before .before .before .before .before .before .loop in passing-found (g .d) (g .g .now) (g .w .now) (g .y .now) (p .weights) (p .yields) (l .i) (l .i + 64 - l .i) _ (omega (arith, l .inv .at)) (l .inv) (c .before .first-in-stride .ensures) (omega arith)
 
 loop-less : tie.Need-loop-less Inv-loop μ-loop
 loop-less c = omega (arith, c .before .before .before .before .before .before .loop .inv .at)
 
 loop-again : tie.Need-loop-again Inv-loop μ-loop
-loop-again c = let s : c .before .before .before .before .before .before .loop .i + 64 - c .before .before .before .before .before .before .loop .i ≡ 64 = omega arith in let g = c .before .before .before .before .before .before .before .before .before .before .args in let p = c .before .before .before .before .before .before .before .before .before .before .pre in let l = c .before .before .before .before .before .before .loop in passing-next (g .d) (g .g .now) (g .w .now) (g .y .now) (p .0) (p .1) (l .i) 64 _ (omega (arith, l .inv .at)) (l .inv) (rw s at (c .before .first-in-stride .ensures)) (c .if1 .left)
+loop-again c = let s : c .before .before .before .before .before .before .loop .i + 64 - c .before .before .before .before .before .before .loop .i ≡ 64 = omega arith in let g = c .before .before .before .before .before .before .before .before .before .before .args in let p = c .before .before .before .before .before .before .before .before .before .before .pre in let l = c .before .before .before .before .before .before .loop in passing-next (g .d) (g .g .now) (g .w .now) (g .y .now) (p .weights) (p .yields) (l .i) 64 _ (omega (arith, l .inv .at)) (l .inv) (rw s at (c .before .first-in-stride .ensures)) (c .if1 .left)
 
 mul-first-tested : tie.Need-mul-first-tested Inv-loop μ-loop
-mul-first-tested c = omega (arith, c .before .before .before .before .before .pre .0, c .before .before .before .before .before .pre .1, c .before .loop .inv .at)
+mul-first-tested c = omega (arith, c .before .before .before .before .before .pre .weights, c .before .before .before .before .before .pre .yields, c .before .loop .inv .at)
 
 sub-first-tested : tie.Need-sub-first-tested Inv-loop μ-loop
-sub-first-tested c = omega (arith, c .before .before .before .before .before .pre .0, c .before .before .before .before .before .pre .1, c .before .loop .inv .at)
+sub-first-tested c = omega (arith, c .before .before .before .before .before .pre .weights, c .before .before .before .before .before .pre .yields, c .before .loop .inv .at)
 
 part-first-tested-start : tie.Need-part-first-tested-start Inv-loop μ-loop
-part-first-tested-start c = omega (arith, c .before .before .before .before .before .pre .0, c .before .before .before .before .before .pre .1, c .before .loop .inv .at)
+part-first-tested-start c = omega (arith, c .before .before .before .before .before .pre .weights, c .before .before .before .before .before .pre .yields, c .before .loop .inv .at)
 
 part-first-tested-end : tie.Need-part-first-tested-end Inv-loop μ-loop
-part-first-tested-end c = omega (arith, c .before .before .before .before .before .pre .0, c .before .before .before .before .before .pre .1, c .before .loop .inv .at)
+part-first-tested-end c = omega (arith, c .before .before .before .before .before .pre .weights, c .before .before .before .before .before .pre .yields, c .before .loop .inv .at)
 
 mul-first-tested-2 : tie.Need-mul-first-tested-2 Inv-loop μ-loop
-mul-first-tested-2 c = omega (arith, c .before .before .before .before .before .before .pre .0, c .before .before .before .before .before .before .pre .1, c .before .before .loop .inv .at)
+mul-first-tested-2 c = omega (arith, c .before .before .before .before .before .before .pre .weights, c .before .before .before .before .before .before .pre .yields, c .before .before .loop .inv .at)
 
 sub-first-tested-2 : tie.Need-sub-first-tested-2 Inv-loop μ-loop
-sub-first-tested-2 c = omega (arith, c .before .before .before .before .before .before .pre .0, c .before .before .before .before .before .before .pre .1, c .before .before .loop .inv .at)
+sub-first-tested-2 c = omega (arith, c .before .before .before .before .before .before .pre .weights, c .before .before .before .before .before .before .pre .yields, c .before .before .loop .inv .at)
 
 part-first-tested-start-2 : tie.Need-part-first-tested-start-2 Inv-loop μ-loop
-part-first-tested-start-2 c = omega (arith, c .before .before .before .before .before .before .pre .0, c .before .before .before .before .before .before .pre .1, c .before .before .loop .inv .at)
+part-first-tested-start-2 c = omega (arith, c .before .before .before .before .before .before .pre .weights, c .before .before .before .before .before .before .pre .yields, c .before .before .loop .inv .at)
 
 part-first-tested-end-2 : tie.Need-part-first-tested-end-2 Inv-loop μ-loop
-part-first-tested-end-2 c = omega (arith, c .before .before .before .before .before .before .pre .0, c .before .before .before .before .before .before .pre .1, c .before .before .loop .inv .at)
+part-first-tested-end-2 c = omega (arith, c .before .before .before .before .before .before .pre .weights, c .before .before .before .before .before .before .pre .yields, c .before .before .loop .inv .at)
 
 mul-first-tested-3 : tie.Need-mul-first-tested-3 Inv-loop μ-loop
-mul-first-tested-3 c = omega (arith, c .before .before .before .before .before .before .before .pre .0, c .before .before .before .before .before .before .before .pre .1, c .before .before .before .loop .inv .at)
+mul-first-tested-3 c = omega (arith, c .before .before .before .before .before .before .before .pre .weights, c .before .before .before .before .before .before .before .pre .yields, c .before .before .before .loop .inv .at)
 
 sub-first-tested-3 : tie.Need-sub-first-tested-3 Inv-loop μ-loop
-sub-first-tested-3 c = omega (arith, c .before .before .before .before .before .before .before .pre .0, c .before .before .before .before .before .before .before .pre .1, c .before .before .before .loop .inv .at)
+sub-first-tested-3 c = omega (arith, c .before .before .before .before .before .before .before .pre .weights, c .before .before .before .before .before .before .before .pre .yields, c .before .before .before .loop .inv .at)
 
 part-first-tested-start-3 : tie.Need-part-first-tested-start-3 Inv-loop μ-loop
-part-first-tested-start-3 c = omega (arith, c .before .before .before .before .before .before .before .pre .0, c .before .before .before .before .before .before .before .pre .1, c .before .before .before .loop .inv .at)
+part-first-tested-start-3 c = omega (arith, c .before .before .before .before .before .before .before .pre .weights, c .before .before .before .before .before .before .before .pre .yields, c .before .before .before .loop .inv .at)
 
 part-first-tested-end-3 : tie.Need-part-first-tested-end-3 Inv-loop μ-loop
-part-first-tested-end-3 c = omega (arith, c .before .before .before .before .before .before .before .pre .0, c .before .before .before .before .before .before .before .pre .1, c .before .before .before .loop .inv .at)
+part-first-tested-end-3 c = omega (arith, c .before .before .before .before .before .before .before .pre .weights, c .before .before .before .before .before .before .before .pre .yields, c .before .before .before .loop .inv .at)
 
 first-tested-requires : tie.Need-first-tested-requires Inv-loop μ-loop
-first-tested-requires c κs = (simp (length-take, length-drop) (omega arith), simp (length-take, length-drop) (omega arith))
+first-tested-requires c κs =
+    let g = c .before .before .before .before .before .before .before .before .args in
+    let i = c .before .before .before .before .loop .i in
+    even-part (g .g .now) (g .w .now) (g .y .now) (length (g .g .now) - i) i (c .before .before .before .before .before .before .before .before .pre)
 
 add-result-2 : tie.Need-add-result-2 Inv-loop μ-loop
-add-result-2 c = let m = (let g = c .before .before .before .before .before .before .before .before .before .args in let p = c .before .before .before .before .before .before .before .before .before .pre in let l = c .before .before .before .before .before .loop in passing-most (g .d) (g .g .now) (g .w .now) (g .y .now) (p .0) (p .1) (l .i) (length (g .g .now) - l .i) _ (omega (arith, l .inv .at)) (l .inv) (c .first-tested .ensures)) in omega (arith, c .before .before .before .before .before .loop .inv .at)
+add-result-2 c = let m = (let g = c .before .before .before .before .before .before .before .before .before .args in let p = c .before .before .before .before .before .before .before .before .before .pre in let l = c .before .before .before .before .before .loop in passing-most (g .d) (g .g .now) (g .w .now) (g .y .now) (p .weights) (p .yields) (l .i) (length (g .g .now) - l .i) _ (omega (arith, l .inv .at)) (l .inv) (c .first-tested .ensures)) in omega (arith, c .before .before .before .before .before .loop .inv .at)
 
 returns-2 : tie.Need-returns-2 Inv-loop μ-loop
-returns-2 c = let g = c .before .before .before .before .before .before .before .before .before .args in let p = c .before .before .before .before .before .before .before .before .before .pre in let l = c .before .before .before .before .before .loop in passing-end (g .d) (g .g .now) (g .w .now) (g .y .now) (p .0) (p .1) (l .i) (length (g .g .now) - l .i) _ (omega (arith, l .inv .at)) (l .inv) (c .first-tested .ensures) (omega (arith, l .inv .at))
+returns-2 c = let g = c .before .before .before .before .before .before .before .before .before .args in let p = c .before .before .before .before .before .before .before .before .before .pre in let l = c .before .before .before .before .before .loop in passing-end (g .d) (g .g .now) (g .w .now) (g .y .now) (p .weights) (p .yields) (l .i) (length (g .g .now) - l .i) _ (omega (arith, l .inv .at)) (l .inv) (c .first-tested .ensures) (omega (arith, l .inv .at))
 
 pub first-match-spec : {M : Type 1} → statement M
 first-match-spec =

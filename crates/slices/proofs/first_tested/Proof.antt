@@ -23,7 +23,7 @@ is-same-requires c κs = search needs
 returns : tie.Need-returns Inv-loop μ-loop
 returns c =
     let p = c .before .before .before .before .before .before .before .pre in
-    search-found _ _ _ _ _ (c .before .before .loop-test .taken) (p .0) (p .1) (c .before .before .before .loop .inv) (sym (c .before .is-same .ensures) ∙ c .if1 .taken)
+    search-found _ _ _ _ _ (c .before .before .loop-test .taken) (p .weights) (p .yields) (c .before .before .before .loop .inv) (sym (c .before .is-same .ensures) ∙ c .if1 .taken)
 
 add-i : tie.Need-add-i Inv-loop μ-loop
 add-i c = omega arith
@@ -34,7 +34,7 @@ loop-less c = omega arith
 loop-again : tie.Need-loop-again Inv-loop μ-loop
 loop-again c =
     let p = c .before .before .before .before .before .before .before .pre in
-    search-next _ _ _ _ _ (c .before .before .loop-test .taken) (p .0) (p .1) (c .before .before .before .loop .inv) (sym (c .before .is-same .ensures) ∙ c .if1 .left)
+    search-next _ _ _ _ _ (c .before .before .loop-test .taken) (p .weights) (p .yields) (c .before .before .before .loop .inv) (sym (c .before .is-same .ensures) ∙ c .if1 .left)
 
 returns-2 : tie.Need-returns-2 Inv-loop μ-loop
 returns-2 c = search-end _ _ _ _ _ (c .loop-test .left) (c .before .loop .inv)

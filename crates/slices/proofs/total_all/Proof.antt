@@ -22,7 +22,7 @@ mul-a : tie.Need-mul-a Inv-loop μ-loop
 mul-a c = search needs
 
 shared-slice-read-a : tie.Need-shared-slice-read-a Inv-loop μ-loop
-shared-slice-read-a c = omega (arith, c .before .before .before .pre .even-weights)
+shared-slice-read-a c = omega (arith, c .before .before .before .pre .even .weights)
 
 cast-a : tie.Need-cast-a Inv-loop μ-loop
 cast-a c = omega (arith, c .shared-slice-known .given (c .before .before .loop .i))
@@ -31,7 +31,7 @@ mul-b : tie.Need-mul-b Inv-loop μ-loop
 mul-b c = search needs
 
 shared-slice-read-b : tie.Need-shared-slice-read-b Inv-loop μ-loop
-shared-slice-read-b c = omega (arith, c .before .before .before .before .pre .even-yields)
+shared-slice-read-b c = omega (arith, c .before .before .before .before .pre .even .yields)
 
 cast-b : tie.Need-cast-b Inv-loop μ-loop
 cast-b c = omega (arith, c .shared-slice-known2 .given (c .before .before .before .loop .i))

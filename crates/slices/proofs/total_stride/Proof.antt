@@ -9,11 +9,11 @@ use Rattle.slices.proofs.total_stride.Tie as tie
 count-between-requires : tie.Need-count-between-requires
 count-between-requires c κs = search needs
 
-no-totals-requires : tie.Need-no-totals-requires
-no-totals-requires c κs = search needs
+none-requires : tie.Need-none-requires
+none-requires c κs = search needs
 
 returns : tie.Need-returns
-returns c = let g = c .before .before .before .before .before .before .args in let m = c .before .before .before .before .before .before .pre in c .no-totals .ensures ∙ none-between (g .lo) (g .hi) (g .g .now) (g .w .now) (g .y .now) m (omega (arith, c .before .before .count-between .ensures, c .before .if1 .taken))
+returns c = let g = c .before .before .before .before .before .before .args in let m = c .before .before .before .before .before .before .pre in c .none .ensures ∙ none-between (g .lo) (g .hi) (g .g .now) (g .w .now) (g .y .now) m (omega (arith, c .before .before .count-between .ensures, c .before .if1 .taken))
 
 total-all-requires : tie.Need-total-all-requires
 total-all-requires c κs = search needs
@@ -32,7 +32,7 @@ total-stride-spec =
     tie.close
     (tie.spec
     count-between-requires
-    no-totals-requires
+    none-requires
     returns
     total-all-requires
     returns-2

@@ -14,11 +14,11 @@ Inv-loop g w y lo hi t₀ i₀ t i = Adding lo hi g w y t i
 abbrev μ-loop : tie.MeasureT-loop
 μ-loop g w y lo hi t₀ i₀ t i = length g - i
 
-no-totals-requires : tie.Need-no-totals-requires Inv-loop μ-loop
-no-totals-requires c κs = search needs
+none-requires : tie.Need-none-requires Inv-loop μ-loop
+none-requires c κs = search needs
 
 loop-holds : tie.Need-loop-holds Inv-loop μ-loop
-loop-holds c = adding-start _ _ _ _ _ _ (c .no-totals .ensures)
+loop-holds c = adding-start _ _ _ _ _ _ (c .none .ensures)
 
 sub-loop : tie.Need-sub-loop Inv-loop μ-loop
 sub-loop c = omega (arith, c .loop .inv .at)
@@ -27,40 +27,40 @@ add-e : tie.Need-add-e Inv-loop μ-loop
 add-e c = omega (arith, c .before .loop .inv .at)
 
 mul-total-stride : tie.Need-mul-total-stride Inv-loop μ-loop
-mul-total-stride c = omega (arith, c .before .before .before .before .before .before .pre .even-weights, c .before .before .before .before .before .before .pre .even-yields, c .before .loop .inv .at)
+mul-total-stride c = omega (arith, c .before .before .before .before .before .before .pre .even .weights, c .before .before .before .before .before .before .pre .even .yields, c .before .loop .inv .at)
 
 sub-total-stride : tie.Need-sub-total-stride Inv-loop μ-loop
-sub-total-stride c = omega (arith, c .before .before .before .before .before .before .pre .even-weights, c .before .before .before .before .before .before .pre .even-yields, c .before .loop .inv .at)
+sub-total-stride c = omega (arith, c .before .before .before .before .before .before .pre .even .weights, c .before .before .before .before .before .before .pre .even .yields, c .before .loop .inv .at)
 
 part-total-stride-start : tie.Need-part-total-stride-start Inv-loop μ-loop
-part-total-stride-start c = omega (arith, c .before .before .before .before .before .before .pre .even-weights, c .before .before .before .before .before .before .pre .even-yields, c .before .loop .inv .at)
+part-total-stride-start c = omega (arith, c .before .before .before .before .before .before .pre .even .weights, c .before .before .before .before .before .before .pre .even .yields, c .before .loop .inv .at)
 
 part-total-stride-end : tie.Need-part-total-stride-end Inv-loop μ-loop
-part-total-stride-end c = omega (arith, c .before .before .before .before .before .before .pre .even-weights, c .before .before .before .before .before .before .pre .even-yields, c .before .loop .inv .at)
+part-total-stride-end c = omega (arith, c .before .before .before .before .before .before .pre .even .weights, c .before .before .before .before .before .before .pre .even .yields, c .before .loop .inv .at)
 
 mul-total-stride-2 : tie.Need-mul-total-stride-2 Inv-loop μ-loop
-mul-total-stride-2 c = omega (arith, c .before .before .before .before .before .before .before .pre .even-weights, c .before .before .before .before .before .before .before .pre .even-yields, c .before .before .loop .inv .at)
+mul-total-stride-2 c = omega (arith, c .before .before .before .before .before .before .before .pre .even .weights, c .before .before .before .before .before .before .before .pre .even .yields, c .before .before .loop .inv .at)
 
 sub-total-stride-2 : tie.Need-sub-total-stride-2 Inv-loop μ-loop
-sub-total-stride-2 c = omega (arith, c .before .before .before .before .before .before .before .pre .even-weights, c .before .before .before .before .before .before .before .pre .even-yields, c .before .before .loop .inv .at)
+sub-total-stride-2 c = omega (arith, c .before .before .before .before .before .before .before .pre .even .weights, c .before .before .before .before .before .before .before .pre .even .yields, c .before .before .loop .inv .at)
 
 part-total-stride-start-2 : tie.Need-part-total-stride-start-2 Inv-loop μ-loop
-part-total-stride-start-2 c = omega (arith, c .before .before .before .before .before .before .before .pre .even-weights, c .before .before .before .before .before .before .before .pre .even-yields, c .before .before .loop .inv .at)
+part-total-stride-start-2 c = omega (arith, c .before .before .before .before .before .before .before .pre .even .weights, c .before .before .before .before .before .before .before .pre .even .yields, c .before .before .loop .inv .at)
 
 part-total-stride-end-2 : tie.Need-part-total-stride-end-2 Inv-loop μ-loop
-part-total-stride-end-2 c = omega (arith, c .before .before .before .before .before .before .before .pre .even-weights, c .before .before .before .before .before .before .before .pre .even-yields, c .before .before .loop .inv .at)
+part-total-stride-end-2 c = omega (arith, c .before .before .before .before .before .before .before .pre .even .weights, c .before .before .before .before .before .before .before .pre .even .yields, c .before .before .loop .inv .at)
 
 mul-total-stride-3 : tie.Need-mul-total-stride-3 Inv-loop μ-loop
-mul-total-stride-3 c = omega (arith, c .before .before .before .before .before .before .before .before .pre .even-weights, c .before .before .before .before .before .before .before .before .pre .even-yields, c .before .before .before .loop .inv .at)
+mul-total-stride-3 c = omega (arith, c .before .before .before .before .before .before .before .before .pre .even .weights, c .before .before .before .before .before .before .before .before .pre .even .yields, c .before .before .before .loop .inv .at)
 
 sub-total-stride-3 : tie.Need-sub-total-stride-3 Inv-loop μ-loop
-sub-total-stride-3 c = omega (arith, c .before .before .before .before .before .before .before .before .pre .even-weights, c .before .before .before .before .before .before .before .before .pre .even-yields, c .before .before .before .loop .inv .at)
+sub-total-stride-3 c = omega (arith, c .before .before .before .before .before .before .before .before .pre .even .weights, c .before .before .before .before .before .before .before .before .pre .even .yields, c .before .before .before .loop .inv .at)
 
 part-total-stride-start-3 : tie.Need-part-total-stride-start-3 Inv-loop μ-loop
-part-total-stride-start-3 c = omega (arith, c .before .before .before .before .before .before .before .before .pre .even-weights, c .before .before .before .before .before .before .before .before .pre .even-yields, c .before .before .before .loop .inv .at)
+part-total-stride-start-3 c = omega (arith, c .before .before .before .before .before .before .before .before .pre .even .weights, c .before .before .before .before .before .before .before .before .pre .even .yields, c .before .before .before .loop .inv .at)
 
 part-total-stride-end-3 : tie.Need-part-total-stride-end-3 Inv-loop μ-loop
-part-total-stride-end-3 c = omega (arith, c .before .before .before .before .before .before .before .before .pre .even-weights, c .before .before .before .before .before .before .before .before .pre .even-yields, c .before .before .before .loop .inv .at)
+part-total-stride-end-3 c = omega (arith, c .before .before .before .before .before .before .before .before .pre .even .weights, c .before .before .before .before .before .before .before .before .pre .even .yields, c .before .before .before .loop .inv .at)
 
 total-stride-requires : tie.Need-total-stride-requires Inv-loop μ-loop
 total-stride-requires c κs = let g = c .before .before .before .before .before .before .before .before .before .args in let l = c .before .before .before .before .loop in measured-part (g .g .now) (g .w .now) (g .y .now) (l .i + 64 - l .i) (l .i) (omega (arith, l .inv .at)) (c .before .before .before .before .before .before .before .before .before .pre)
@@ -75,40 +75,40 @@ loop-again : tie.Need-loop-again Inv-loop μ-loop
 loop-again c = let g = c .before .before .before .before .before .before .before .before .before .before .before .args in let l = c .before .before .before .before .before .before .loop in let e : l .i + 64 - l .i ≡ 64 = omega arith in adding-next (g .lo) (g .hi) (g .g .now) (g .w .now) (g .y .now) (c .before .before .before .before .before .before .before .before .before .before .before .pre) (l .t) (l .i) (l .inv) 64 _ _ (omega (arith, l .inv .at)) (rw e at (c .before .total-stride .ensures)) (c .plus .ensures)
 
 mul-total-tested : tie.Need-mul-total-tested Inv-loop μ-loop
-mul-total-tested c = omega (arith, c .before .before .before .before .before .before .pre .even-weights, c .before .before .before .before .before .before .pre .even-yields, c .before .loop .inv .at)
+mul-total-tested c = omega (arith, c .before .before .before .before .before .before .pre .even .weights, c .before .before .before .before .before .before .pre .even .yields, c .before .loop .inv .at)
 
 sub-total-tested : tie.Need-sub-total-tested Inv-loop μ-loop
-sub-total-tested c = omega (arith, c .before .before .before .before .before .before .pre .even-weights, c .before .before .before .before .before .before .pre .even-yields, c .before .loop .inv .at)
+sub-total-tested c = omega (arith, c .before .before .before .before .before .before .pre .even .weights, c .before .before .before .before .before .before .pre .even .yields, c .before .loop .inv .at)
 
 part-total-tested-start : tie.Need-part-total-tested-start Inv-loop μ-loop
-part-total-tested-start c = omega (arith, c .before .before .before .before .before .before .pre .even-weights, c .before .before .before .before .before .before .pre .even-yields, c .before .loop .inv .at)
+part-total-tested-start c = omega (arith, c .before .before .before .before .before .before .pre .even .weights, c .before .before .before .before .before .before .pre .even .yields, c .before .loop .inv .at)
 
 part-total-tested-end : tie.Need-part-total-tested-end Inv-loop μ-loop
-part-total-tested-end c = omega (arith, c .before .before .before .before .before .before .pre .even-weights, c .before .before .before .before .before .before .pre .even-yields, c .before .loop .inv .at)
+part-total-tested-end c = omega (arith, c .before .before .before .before .before .before .pre .even .weights, c .before .before .before .before .before .before .pre .even .yields, c .before .loop .inv .at)
 
 mul-total-tested-2 : tie.Need-mul-total-tested-2 Inv-loop μ-loop
-mul-total-tested-2 c = omega (arith, c .before .before .before .before .before .before .before .pre .even-weights, c .before .before .before .before .before .before .before .pre .even-yields, c .before .before .loop .inv .at)
+mul-total-tested-2 c = omega (arith, c .before .before .before .before .before .before .before .pre .even .weights, c .before .before .before .before .before .before .before .pre .even .yields, c .before .before .loop .inv .at)
 
 sub-total-tested-2 : tie.Need-sub-total-tested-2 Inv-loop μ-loop
-sub-total-tested-2 c = omega (arith, c .before .before .before .before .before .before .before .pre .even-weights, c .before .before .before .before .before .before .before .pre .even-yields, c .before .before .loop .inv .at)
+sub-total-tested-2 c = omega (arith, c .before .before .before .before .before .before .before .pre .even .weights, c .before .before .before .before .before .before .before .pre .even .yields, c .before .before .loop .inv .at)
 
 part-total-tested-start-2 : tie.Need-part-total-tested-start-2 Inv-loop μ-loop
-part-total-tested-start-2 c = omega (arith, c .before .before .before .before .before .before .before .pre .even-weights, c .before .before .before .before .before .before .before .pre .even-yields, c .before .before .loop .inv .at)
+part-total-tested-start-2 c = omega (arith, c .before .before .before .before .before .before .before .pre .even .weights, c .before .before .before .before .before .before .before .pre .even .yields, c .before .before .loop .inv .at)
 
 part-total-tested-end-2 : tie.Need-part-total-tested-end-2 Inv-loop μ-loop
-part-total-tested-end-2 c = omega (arith, c .before .before .before .before .before .before .before .pre .even-weights, c .before .before .before .before .before .before .before .pre .even-yields, c .before .before .loop .inv .at)
+part-total-tested-end-2 c = omega (arith, c .before .before .before .before .before .before .before .pre .even .weights, c .before .before .before .before .before .before .before .pre .even .yields, c .before .before .loop .inv .at)
 
 mul-total-tested-3 : tie.Need-mul-total-tested-3 Inv-loop μ-loop
-mul-total-tested-3 c = omega (arith, c .before .before .before .before .before .before .before .before .pre .even-weights, c .before .before .before .before .before .before .before .before .pre .even-yields, c .before .before .before .loop .inv .at)
+mul-total-tested-3 c = omega (arith, c .before .before .before .before .before .before .before .before .pre .even .weights, c .before .before .before .before .before .before .before .before .pre .even .yields, c .before .before .before .loop .inv .at)
 
 sub-total-tested-3 : tie.Need-sub-total-tested-3 Inv-loop μ-loop
-sub-total-tested-3 c = omega (arith, c .before .before .before .before .before .before .before .before .pre .even-weights, c .before .before .before .before .before .before .before .before .pre .even-yields, c .before .before .before .loop .inv .at)
+sub-total-tested-3 c = omega (arith, c .before .before .before .before .before .before .before .before .pre .even .weights, c .before .before .before .before .before .before .before .before .pre .even .yields, c .before .before .before .loop .inv .at)
 
 part-total-tested-start-3 : tie.Need-part-total-tested-start-3 Inv-loop μ-loop
-part-total-tested-start-3 c = omega (arith, c .before .before .before .before .before .before .before .before .pre .even-weights, c .before .before .before .before .before .before .before .before .pre .even-yields, c .before .before .before .loop .inv .at)
+part-total-tested-start-3 c = omega (arith, c .before .before .before .before .before .before .before .before .pre .even .weights, c .before .before .before .before .before .before .before .before .pre .even .yields, c .before .before .before .loop .inv .at)
 
 part-total-tested-end-3 : tie.Need-part-total-tested-end-3 Inv-loop μ-loop
-part-total-tested-end-3 c = omega (arith, c .before .before .before .before .before .before .before .before .pre .even-weights, c .before .before .before .before .before .before .before .before .pre .even-yields, c .before .before .before .loop .inv .at)
+part-total-tested-end-3 c = omega (arith, c .before .before .before .before .before .before .before .before .pre .even .weights, c .before .before .before .before .before .before .before .before .pre .even .yields, c .before .before .before .loop .inv .at)
 
 total-tested-requires : tie.Need-total-tested-requires Inv-loop μ-loop
 total-tested-requires c κs = let g = c .before .before .before .before .before .before .before .before .before .args in let l = c .before .before .before .before .loop in measured-part (g .g .now) (g .w .now) (g .y .now) (length (g .g .now) - l .i) (l .i) (omega (arith, l .inv .at)) (c .before .before .before .before .before .before .before .before .before .pre)
@@ -125,7 +125,7 @@ totals-spec =
     (tie.spec
     Inv-loop
     μ-loop
-    no-totals-requires
+    none-requires
     loop-holds
     sub-loop
     add-e
