@@ -39,38 +39,39 @@ three-yes true true false cs h = h
 three-yes true false r cs h = h
 three-yes false q r cs h = h
 
-module _ (c : Column) (k : Call) where
-  -- 2, 3 and 6 are answered by yes
-  pub lent-yes : firstFailed (lentChecks 64 c) ≡ 0 → columnRefusal 64 c k ≡ firstFailed (callChecks 64 c k)
-  unfolding columnRefusal columnChecks
-  lent-yes h = three (directoryBlockOk 64 (c .directory)) (slicesOk (c .growers) (c .weights) (c .yields)) (directoryOk 64 (length (c .growers)) (c .directory)) (callChecks 64 c k) h
+module _ (L : ℕ) where
+  module _ (c : Column) (k : Call) where
+    -- 2, 3 and 6 are answered by yes
+    pub lent-yes : firstFailed (lentChecks L c) ≡ 0 → columnRefusal L c k ≡ firstFailed (callChecks L c k)
+    unfolding columnRefusal columnChecks
+    lent-yes h = three (directoryBlockOk L (c .directory)) (slicesOk (c .growers) (c .weights) (c .yields)) (directoryOk L (length (c .growers)) (c .directory)) (callChecks L c k) h
 
-  pub refused-call : (n : ℕ) → columnRefusal 64 c k ≡ n → (n ≡ 0 → ⊥) → (n ≡ 13 → ⊥) → _≡_ {A = Called} (record { answer = withoutTotals n noCounts; column = c }) (columnCall 64 c k)
-  unfolding columnCall refusedCounts
-  refused-call n e h f = rw (e, ne-eqb n 0 h, ne-eqb n 13 f)
+    pub refused-call : (n : ℕ) → columnRefusal L c k ≡ n → (n ≡ 0 → ⊥) → (n ≡ 13 → ⊥) → _≡_ {A = Called} (record { answer = withoutTotals n noCounts; column = c }) (columnCall L c k)
+    unfolding columnCall refusedCounts
+    refused-call n e h f = rw (e, ne-eqb n 0 h, ne-eqb n 13 f)
 
-  -- refused by 2, 3 or 6
-  pub lent-refusal : (n : ℕ) → n ≡ firstFailed (lentChecks 64 c) → (n ≡ 0 → ⊥) → (columnRefusal 64 c k ≡ n) × (n ≡ 13 → ⊥)
-  unfolding columnRefusal columnChecks
-  lent-refusal n e h = three-no (directoryBlockOk 64 (c .directory)) (slicesOk (c .growers) (c .weights) (c .yields)) (directoryOk 64 (length (c .growers)) (c .directory)) (callChecks 64 c k) n e h
+    -- refused by 2, 3 or 6
+    pub lent-refusal : (n : ℕ) → n ≡ firstFailed (lentChecks L c) → (n ≡ 0 → ⊥) → (columnRefusal L c k ≡ n) × (n ≡ 13 → ⊥)
+    unfolding columnRefusal columnChecks
+    lent-refusal n e h = three-no (directoryBlockOk L (c .directory)) (slicesOk (c .growers) (c .weights) (c .yields)) (directoryOk L (length (c .growers)) (c .directory)) (callChecks L c k) n e h
 
-  pub lent-no : (n : ℕ) → n ≡ firstFailed (lentChecks 64 c) → (n ≡ 0 → ⊥) → _≡_ {A = Called} (record { answer = withoutTotals n noCounts; column = c }) (columnCall 64 c k)
-  lent-no n e h =
-      let r = lent-refusal n e h in
-      refused-call n (r .0) h (r .1)
+    pub lent-no : (n : ℕ) → n ≡ firstFailed (lentChecks L c) → (n ≡ 0 → ⊥) → _≡_ {A = Called} (record { answer = withoutTotals n noCounts; column = c }) (columnCall L c k)
+    lent-no n e h =
+        let r = lent-refusal n e h in
+        refused-call n (r .0) h (r .1)
 
-  -- an accepted call has passed 2, 3 and 6
-  pub accepted-lent : columnRefusal 64 c k ≡ 0 → firstFailed (lentChecks 64 c) ≡ 0
-  unfolding columnRefusal columnChecks
-  accepted-lent h = three-yes (directoryBlockOk 64 (c .directory)) (slicesOk (c .growers) (c .weights) (c .yields)) (directoryOk 64 (length (c .growers)) (c .directory)) (callChecks 64 c k) h
+    -- an accepted call has passed 2, 3 and 6
+    pub accepted-lent : columnRefusal L c k ≡ 0 → firstFailed (lentChecks L c) ≡ 0
+    unfolding columnRefusal columnChecks
+    accepted-lent h = three-yes (directoryBlockOk L (c .directory)) (slicesOk (c .growers) (c .weights) (c .yields)) (directoryOk L (length (c .growers)) (c .directory)) (callChecks L c k) h
 
-  -- accepted
-  pub accepted-call : columnRefusal 64 c k ≡ 0
-      → _≡_ {A = Called} (record { answer = record { refusal = 0; totals = callTotals 64 c k; counts = callCounts (directoryOf 64 (c .directory)) k }; column = columnAfter 64 c k }) (columnCall 64 c k)
-  unfolding columnCall
-  accepted-call e = rw e
+    -- accepted
+    pub accepted-call : columnRefusal L c k ≡ 0
+        → _≡_ {A = Called} (record { answer = record { refusal = 0; totals = callTotals L c k; counts = callCounts (directoryOf L (c .directory)) k }; column = columnAfter L c k }) (columnCall L c k)
+    unfolding columnCall
+    accepted-call e = rw e
 
--- a find is a range from g to g
-pub find-is-range : (c : Column) (g : ℕ) → columnCall 64 c (range g g) .answer ≡ columnCall 64 c (find g) .answer
-unfolding columnCall columnRefusal columnChecks callChecks refusedCounts callTotals columnAfter callCounts missCounts scanNear firstFailed
-find-is-range c g = rw (le-leb g g (omega arith))
+  -- a find is a range from g to g
+  pub find-is-range : (c : Column) (g : ℕ) → columnCall L c (range g g) .answer ≡ columnCall L c (find g) .answer
+  unfolding columnCall columnRefusal columnChecks callChecks refusedCounts callTotals columnAfter callCounts missCounts scanNear firstFailed
+  find-is-range c g = rw (le-leb g g (omega arith))

@@ -11,6 +11,7 @@ use Rattle.model.specs.declared.Delivery.{Delivery}
 use Rattle.model.specs.declared.Answer.{Answer}
 use Rattle.model.specs.declared.Counts.{Counts}
 use Rattle.model.specs.declared.Totals.{Totals}
+use Rattle.model.specs.Bounds.{mostSlots}
 use Rattle.model.specs.Lists.{sumOf, every}
 use Rattle.model.specs.Checks.{firstFailed}
 use Rattle.model.specs.Deliveries.{inRange, totalsBetween}
@@ -24,8 +25,6 @@ use Rattle.model.specs.Questions.{lentChecks, callChecks}
 use Rattle.model.specs.ColumnCalls.{columnRefusal, callTotals, columnCall}
 use Rattle.model.proofs.Places.{placed, placed-mono}
 use Rattle.model.proofs.Parts.{stop-le}
-use Rattle.checks.specs.declared.Shape.{Shape}
-use Rattle.checks.proofs.Answers.{Carried}
 use Rattle.scan.specs.declared.Scan.{Scan}
 use Rattle.scan.specs.Scans.{badScan, recordsIn, scanOf}
 use Rattle.scan.proofs.Blocks.{blocks-least}
@@ -65,65 +64,66 @@ blocks-some b ns p q h k = go (take (q + 1 - p) (drop p ns)) (simp (length-take,
     go [] h = let z : ⊥ = omega arith in absurd z
     go (n ∷ l) h = omega (arith, blocks-least b n)
 
-module _ (c : Column) (h : firstFailed (lentChecks 64 c) ≡ 0) where
-  l : LentColumn c
-  l = lent-column c h
+module _ (L : ℕ) where
+  module _ (c : Column) (h : firstFailed (lentChecks L c) ≡ 0) where
+    l : LentColumn L c
+    l = lent-column L c h
 
-  -- where lo and hi go
-  pub target-there : (g : ℕ) → target 64 c g < length (lengthsOf 64 c)
-  target-there g = omega (arith, placed (fencesOf 64 c) g (omega (arith, count-fences c l, l .shape .some)) .within, count-fences c l, count-lengths c l)
+    -- where lo and hi go
+    pub target-there : (g : ℕ) → target L c g < length (lengthsOf L c)
+    target-there g = omega (arith, placed (fencesOf L c) g (omega (arith, count-fences L c l, l .shape .some)) .within, count-fences L c l, count-lengths L c l)
 
-  pub targets-ordered : (lo hi : ℕ) → lo ≤ hi → target 64 c lo ≤ target 64 c hi
-  targets-ordered lo hi k =
-      let one : 0 < length (fencesOf 64 c) = omega (arith, count-fences c l, l .shape .some) in
-      placed-mono (fencesOf 64 c) lo hi _ _ k (placed (fencesOf 64 c) lo one) (placed (fencesOf 64 c) hi one)
+    pub targets-ordered : (lo hi : ℕ) → lo ≤ hi → target L c lo ≤ target L c hi
+    targets-ordered lo hi k =
+        let one : 0 < length (fencesOf L c) = omega (arith, count-fences L c l, l .shape .some) in
+        placed-mono (fencesOf L c) lo hi _ _ k (placed (fencesOf L c) lo one) (placed (fencesOf L c) hi one)
 
-  -- refused by 7
-  pub range-backwards : (lo hi : ℕ) → hi < lo → withoutTotals 7 noCounts ≡ columnCall 64 c (range lo hi) .answer
-  unfolding callChecks firstFailed
-  range-backwards lo hi k =
-      ap (λ (r : Rattle.model.specs.ColumnCalls.Called). r .answer) (refused-call c (range lo hi) 7 (lent-yes c (range lo hi) h ∙ rw (lt-leb lo hi k)) (λ e. omega arith) (λ e. omega arith))
-
-  module _ (lo hi : ℕ) (k : lo ≤ hi) (s : Scan)
-      (e : s ≡ scanOf (getD (c .directory) 0 0) (lengthsOf 64 c) (target 64 c lo) (target 64 c hi + 1 - target 64 c lo) lo hi (slots c)) where
-    answered : (b : Bool) → scannedOk 64 c lo hi ≡ b → columnRefusal 64 c (range lo hi) ≡ cond b 0 8
+    -- refused by 7
+    pub range-backwards : (lo hi : ℕ) → hi < lo → withoutTotals 7 noCounts ≡ columnCall L c (range lo hi) .answer
     unfolding callChecks firstFailed
-    answered b f = lent-yes c (range lo hi) h ∙ rw (le-leb lo hi k, f)
+    range-backwards lo hi k =
+        ap (λ (r : Rattle.model.specs.ColumnCalls.Called). r .answer) (refused-call L c (range lo hi) 7 (lent-yes L c (range lo hi) h ∙ rw (lt-leb lo hi k)) (λ e. omega arith) (λ e. omega arith))
 
-    -- refused by 8
-    pub range-bad : s .good ≡ false → withoutTotals 8 noCounts ≡ columnCall 64 c (range lo hi) .answer
-    unfolding scannedOk between
-    range-bad f =
-        ap (λ (r : Rattle.model.specs.ColumnCalls.Called). r .answer) (refused-call c (range lo hi) 8 (answered false (bad-scan _ _ _ _ lo hi (slots c) s e f)) (λ z. omega arith) (λ z. omega arith))
+    module _ (lo hi : ℕ) (k : lo ≤ hi) (s : Scan)
+        (e : s ≡ scanOf (getD (c .directory) 0 0) (lengthsOf L c) (target L c lo) (target L c hi + 1 - target L c lo) lo hi (slots c)) where
+      answered : (b : Bool) → scannedOk L c lo hi ≡ b → columnRefusal L c (range lo hi) ≡ cond b 0 8
+      unfolding callChecks firstFailed
+      answered b f = lent-yes L c (range lo hi) h ∙ rw (le-leb lo hi k, f)
 
-    -- accepted
-    pub range-good : (n : Counts) → s .good ≡ true → n ≡ readsOf (s .blocks) → _≡_ {A = Answer} (record { refusal = 0; totals = s .totals; counts = n }) (columnCall 64 c (range lo hi) .answer)
-    unfolding scannedOk between callTotals callCounts scanCounts blocksScanned directoryOf
-    range-good n f i =
-        let g = good-scan _ _ _ _ lo hi (slots c) s e f in
-        ap₂ (λ (t : Totals) (m : Counts). record { refusal = 0; totals = t; counts = m }) (g .totals) (i ∙ ap readsOf (g .blocks))
-        ∙ ap (λ (r : Rattle.model.specs.ColumnCalls.Called). r .answer) (accepted-call c (range lo hi) (answered true (g .values)))
+      -- refused by 8
+      pub range-bad : s .good ≡ false → withoutTotals 8 noCounts ≡ columnCall L c (range lo hi) .answer
+      unfolding scannedOk between
+      range-bad f =
+          ap (λ (r : Rattle.model.specs.ColumnCalls.Called). r .answer) (refused-call L c (range lo hi) 8 (answered false (bad-scan _ _ _ _ lo hi (slots c) s e f)) (λ z. omega arith) (λ z. omega arith))
 
--- a grower's partition, which the checks have found, lies in the three slices
-pub record Near (c : Column) (g a n : ℕ) : Type 0 where
-  pub start : a ≡ startOf (lengthsOf 64 c) (target 64 c g)
-  pub count : n ≡ getD (lengthsOf 64 c) (target 64 c g) 0
-  pub inside : a + n ≤ length (c .growers)
-  pub most : length (c .growers) ≤ 262144
-  pub even : Even (c .growers) (c .weights) (c .yields)
+      -- accepted
+      pub range-good : (n : Counts) → s .good ≡ true → n ≡ readsOf (s .blocks) → _≡_ {A = Answer} (record { refusal = 0; totals = s .totals; counts = n }) (columnCall L c (range lo hi) .answer)
+      unfolding scannedOk between callTotals callCounts scanCounts blocksScanned directoryOf
+      range-good n f i =
+          let g = good-scan _ _ _ _ lo hi (slots c) s e f in
+          ap₂ (λ (t : Totals) (m : Counts). record { refusal = 0; totals = t; counts = m }) (g .totals) (i ∙ ap readsOf (g .blocks))
+          ∙ ap (λ (r : Rattle.model.specs.ColumnCalls.Called). r .answer) (accepted-call L c (range lo hi) (answered true (g .values)))
 
-module _ (c : Column) (g : ℕ) (s : Shape) (w : Carried (lentChecks 64 c) (c .directory) g s) where
-  pub near-held : InDirectory (c .directory) (s .target)
-  near-held = rw (w .target) (held c (lent-column c (w .passed)) (target 64 c g) (target-there c (w .passed) g))
+  -- a grower's partition, which the checks have found, lies in the three slices
+  pub record Near (c : Column) (g a n : ℕ) : Type 0 where
+    pub start : a ≡ startOf (lengthsOf L c) (target L c g)
+    pub count : n ≡ getD (lengthsOf L c) (target L c g) 0
+    pub inside : a + n ≤ length (c .growers)
+    pub most : length (c .growers) ≤ mostSlots
+    pub even : Even (c .growers) (c .weights) (c .yields)
 
-  pub near : (n : ℕ) → n ≡ getD (lengthsOf 64 c) (s .target) 0 → Near c g (s .start) n
-  near n e =
-      let l = lent-column c (w .passed) in
-      let k : n ≡ getD (lengthsOf 64 c) (target 64 c g) 0 = e ∙ ap (λ (t : ℕ). getD (lengthsOf 64 c) t 0) (w .target) in
-      record {
-        start = w .start;
-        count = k;
-        inside = omega (arith, w .start, stop-le (lengthsOf 64 c) (target 64 c g) (target-there c (w .passed) g), l .shape .room);
-        most = l .most;
-        even = l .even;
-      }
+  module _ (c : Column) (g : ℕ) (h : firstFailed (lentChecks L c) ≡ 0) (t a : ℕ) (et : t ≡ target L c g) (ea : a ≡ startOf (lengthsOf L c) (target L c g)) where
+    pub near-held : InDirectory L (c .directory) t
+    near-held = rw et (held L c (lent-column L c h) (target L c g) (target-there c h g))
+
+    pub near : (n : ℕ) → n ≡ getD (lengthsOf L c) t 0 → Near c g a n
+    near n e =
+        let l = lent-column L c h in
+        let k : n ≡ getD (lengthsOf L c) (target L c g) 0 = e ∙ ap (λ (u : ℕ). getD (lengthsOf L c) u 0) et in
+        record {
+          start = ea;
+          count = k;
+          inside = omega (arith, ea, stop-le (lengthsOf L c) (target L c g) (target-there c h g), l .shape .room);
+          most = l .most;
+          even = l .even;
+        }

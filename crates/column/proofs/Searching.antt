@@ -51,67 +51,68 @@ module _ (b t a : ℕ) (d : Delivery) (g w y : List ℕ) (p : length w ≡ lengt
 
 -- In the column.
 
-module _ (c : Column) (d : Delivery) where
-  -- refused by 2, 3 or 6
-  pub located-lent : (n : ℕ) → n ≡ firstFailed (lentChecks 64 c) → (n ≡ 0 → ⊥) → notLocated n noCounts ≡ locatedOf c d
-  unfolding locatedOf
-  located-lent n e h =
-      let r = lent-refusal c (delete d) n e h in
-      rw (r .0, ne-eqb n 0 h, ne-eqb n 13 (r .1))
-
-  module _ (h : firstFailed (lentChecks 64 c) ≡ 0) where
-    pub refusal-is : (s t : Bool) → inRange d && scannedOk 64 c (d .grower) (d .grower) ≡ s → isHeld 64 c d ≡ t → columnRefusal 64 c (delete d) ≡ cond s (cond t 0 13) 8
-    unfolding callChecks firstFailed
-    refusal-is s t e f = lent-yes c (delete d) h ∙ rw (e, f)
-
-    -- refused by 8
-    pub located-range : inRange d ≡ false → notLocated 8 noCounts ≡ locatedOf c d
+module _ (L : ℕ) where
+  module _ (c : Column) (d : Delivery) where
+    -- refused by 2, 3 or 6
+    pub located-lent : (n : ℕ) → n ≡ firstFailed (lentChecks L c) → (n ≡ 0 → ⊥) → notLocated n noCounts ≡ locatedOf L c d
     unfolding locatedOf
-    located-range e = rw (refusal-is false (isHeld 64 c d) (rw e) refl)
+    located-lent n e h =
+        let r = lent-refusal L c (delete d) n e h in
+        rw (r .0, ne-eqb n 0 h, ne-eqb n 13 (r .1))
 
-    l : LentColumn c
-    l = lent-column c h
+    module _ (h : firstFailed (lentChecks L c) ≡ 0) where
+      pub refusal-is : (s t : Bool) → inRange d && scannedOk L c (d .grower) (d .grower) ≡ s → isHeld L c d ≡ t → columnRefusal L c (delete d) ≡ cond s (cond t 0 13) 8
+      unfolding callChecks firstFailed
+      refusal-is s t e f = lent-yes L c (delete d) h ∙ rw (e, f)
 
-    there : target 64 c (d .grower) < length (lengthsOf 64 c)
-    there = target-there c h (d .grower)
+      -- refused by 8
+      pub located-range : inRange d ≡ false → notLocated 8 noCounts ≡ locatedOf L c d
+      unfolding locatedOf
+      located-range e = rw (refusal-is false (isHeld L c d) (rw e) refl)
 
-    long : sumOf (lengthsOf 64 c) ≤ length (slots c)
-    long = omega (arith, length-rows (c .growers) (c .weights) (c .yields) (l .even .weights) (l .even .yields), l .shape .room)
+      l : LentColumn L c
+      l = lent-column L c h
 
-    pub near-length : length (recordsNear 64 c (d .grower)) ≡ getD (lengthsOf 64 c) (target 64 c (d .grower)) 0
-    near-length = ap length (between-one (target 64 c (d .grower)) (lengthsOf 64 c) (slots c) there) ∙ length-part (target 64 c (d .grower)) (lengthsOf 64 c) (slots c) there long
+      there : target L c (d .grower) < length (lengthsOf L c)
+      there = target-there L c h (d .grower)
 
-    -- the scan of the grower's partition
-    near-counts : readsOf (blocksOf (getD (c .directory) 0 0) (length (recordsNear 64 c (d .grower)))) ≡ scanNear (directoryOf 64 (c .directory)) (d .grower)
-    unfolding scanNear scanCounts blocksScanned directoryOf sumOf
-    near-counts =
-        let t = target 64 c (d .grower) in
-        let ns = lengthsOf 64 c in
-        let one : t + 1 - t ≡ 1 = omega arith in
-        let e : sumOf (map (blocksOf (getD (c .directory) 0 0)) (take (t + 1 - t) (drop t ns))) ≡ blocksOf (getD (c .directory) 0 0) (getD ns t 0)
-        = rw (one, drop-cons ns t 0 there) (omega arith) in
-        ap (λ (n : ℕ). readsOf (blocksOf (getD (c .directory) 0 0) n)) near-length ∙ ap readsOf (sym e)
+      long : sumOf (lengthsOf L c) ≤ length (slots c)
+      long = omega (arith, length-rows (c .growers) (c .weights) (c .yields) (l .even .weights) (l .even .yields), l .shape .room)
 
-    pub located-searched : inRange d ≡ true
-        → searchedOf (getD (c .directory) 0 0) (target 64 c (d .grower)) (startOf (lengthsOf 64 c) (target 64 c (d .grower))) d (recordsNear 64 c (d .grower)) ≡ locatedOf c d
-    unfolding searchedOf locatedOf scannedOk isHeld
-    located-searched e = go (every inRange (recordsNear 64 c (d .grower))) (ltb (firstMatch d (recordsNear 64 c (d .grower))) (length (recordsNear 64 c (d .grower)))) refl refl
-      where
-        unfolded : (s : Bool) → every inRange (recordsNear 64 c (d .grower)) ≡ s → inRange d && scannedOk 64 c (d .grower) (d .grower) ≡ s
-        unfolded s f = rw (e, f)
+      pub near-length : length (recordsNear L c (d .grower)) ≡ getD (lengthsOf L c) (target L c (d .grower)) 0
+      near-length = ap length (between-one (target L c (d .grower)) (lengthsOf L c) (slots c) there) ∙ length-part (target L c (d .grower)) (lengthsOf L c) (slots c) there long
 
-        held : (t : Bool) → ltb (firstMatch d (recordsNear 64 c (d .grower))) (length (recordsNear 64 c (d .grower))) ≡ t → isHeld 64 c d ≡ t
-        held t f = among-match d (recordsNear 64 c (d .grower)) ∙ f
+      -- the scan of the grower's partition
+      near-counts : readsOf (blocksOf (getD (c .directory) 0 0) (length (recordsNear L c (d .grower)))) ≡ scanNear (directoryOf L (c .directory)) (d .grower)
+      unfolding scanNear scanCounts blocksScanned directoryOf sumOf
+      near-counts =
+          let t = target L c (d .grower) in
+          let ns = lengthsOf L c in
+          let one : t + 1 - t ≡ 1 = omega arith in
+          let e : sumOf (map (blocksOf (getD (c .directory) 0 0)) (take (t + 1 - t) (drop t ns))) ≡ blocksOf (getD (c .directory) 0 0) (getD ns t 0)
+          = rw (one, drop-cons ns t 0 there) (omega arith) in
+          ap (λ (n : ℕ). readsOf (blocksOf (getD (c .directory) 0 0) n)) near-length ∙ ap readsOf (sym e)
 
-        go : (s t : Bool) → every inRange (recordsNear 64 c (d .grower)) ≡ s → ltb (firstMatch d (recordsNear 64 c (d .grower))) (length (recordsNear 64 c (d .grower))) ≡ t
-            → searchedOf (getD (c .directory) 0 0) (target 64 c (d .grower)) (startOf (lengthsOf 64 c) (target 64 c (d .grower))) d (recordsNear 64 c (d .grower)) ≡ locatedOf c d
-        go true true f i = rw (f, i, refusal-is true true (unfolded true f) (held true i), near-counts)
-        go true false f i = rw (f, i, refusal-is true false (unfolded true f) (held false i), near-counts)
-        go false t f i = rw (f, refusal-is false t (unfolded false f) (held t i))
+      pub located-searched : inRange d ≡ true
+          → searchedOf (getD (c .directory) 0 0) (target L c (d .grower)) (startOf (lengthsOf L c) (target L c (d .grower))) d (recordsNear L c (d .grower)) ≡ locatedOf L c d
+      unfolding searchedOf locatedOf scannedOk isHeld
+      located-searched e = go (every inRange (recordsNear L c (d .grower))) (ltb (firstMatch d (recordsNear L c (d .grower))) (length (recordsNear L c (d .grower)))) refl refl
+        where
+          unfolded : (s : Bool) → every inRange (recordsNear L c (d .grower)) ≡ s → inRange d && scannedOk L c (d .grower) (d .grower) ≡ s
+          unfolded s f = rw (e, f)
 
-    -- the part that is lent is the grower's partition
-    pub near-part : (a n : ℕ) → a ≡ startOf (lengthsOf 64 c) (target 64 c (d .grower)) → n ≡ getD (lengthsOf 64 c) (target 64 c (d .grower)) 0
-        → rows (take (a + n - a) (drop a (c .growers))) (take (a + n - a) (drop a (c .weights))) (take (a + n - a) (drop a (c .yields))) ≡ recordsNear 64 c (d .grower)
-    near-part a n ea en =
-        let e : a + n - a ≡ n = omega arith in
-        rw (rows-part, e, ea, en) (sym (between-one (target 64 c (d .grower)) (lengthsOf 64 c) (slots c) there ∙ part-parts (target 64 c (d .grower)) (lengthsOf 64 c) (slots c)))
+          held : (t : Bool) → ltb (firstMatch d (recordsNear L c (d .grower))) (length (recordsNear L c (d .grower))) ≡ t → isHeld L c d ≡ t
+          held t f = among-match d (recordsNear L c (d .grower)) ∙ f
+
+          go : (s t : Bool) → every inRange (recordsNear L c (d .grower)) ≡ s → ltb (firstMatch d (recordsNear L c (d .grower))) (length (recordsNear L c (d .grower))) ≡ t
+              → searchedOf (getD (c .directory) 0 0) (target L c (d .grower)) (startOf (lengthsOf L c) (target L c (d .grower))) d (recordsNear L c (d .grower)) ≡ locatedOf L c d
+          go true true f i = rw (f, i, refusal-is true true (unfolded true f) (held true i), near-counts)
+          go true false f i = rw (f, i, refusal-is true false (unfolded true f) (held false i), near-counts)
+          go false t f i = rw (f, refusal-is false t (unfolded false f) (held t i))
+
+      -- the part that is lent is the grower's partition
+      pub near-part : (a n : ℕ) → a ≡ startOf (lengthsOf L c) (target L c (d .grower)) → n ≡ getD (lengthsOf L c) (target L c (d .grower)) 0
+          → rows (take (a + n - a) (drop a (c .growers))) (take (a + n - a) (drop a (c .weights))) (take (a + n - a) (drop a (c .yields))) ≡ recordsNear L c (d .grower)
+      near-part a n ea en =
+          let e : a + n - a ≡ n = omega arith in
+          rw (rows-part, e, ea, en) (sym (between-one (target L c (d .grower)) (lengthsOf L c) (slots c) there ∙ part-parts (target L c (d .grower)) (lengthsOf L c) (slots c)))

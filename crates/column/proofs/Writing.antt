@@ -11,44 +11,33 @@ use borrow.Author.Tests.{lt-ltb, le-ltb, ltb-true, ne-eqb}
 use Rattle.model.specs.declared.Delivery.{Delivery}
 use Rattle.model.specs.declared.Counts.{Counts}
 use Rattle.model.specs.declared.Answer.{Answer}
+use Rattle.model.specs.Bounds.{mostSlots}
 use Rattle.model.specs.Lists.{sumOf}
 use Rattle.model.specs.Checks.{firstFailed}
 use Rattle.model.specs.Deliveries.{delivery, inRange}
 use Rattle.model.specs.Calls.{insert, delete, move}
 use Rattle.model.specs.Partitions.{startOf, oneMore, oneFewer}
-use Rattle.model.specs.Directory.{partitionCount, directoryOf, withLengths}
+use Rattle.model.specs.Directory.{directorySize, partitionCount, directoryOf, withLengths}
 use Rattle.model.specs.Column.{Column, lengthsOf, target, recordsNear, scannedOk, hasFreeSlot, isHeld}
-use Rattle.model.specs.Accesses.{counts, noCounts, andAlso, onward, apart, scanNear, scanCounts, callCounts, missCounts}
+use Rattle.model.specs.Accesses.{counts, noCounts, andAlso, onward, apart, readsOf, scanNear, scanCounts, callCounts, missCounts}
 use Rattle.model.specs.Questions.{lentChecks, callChecks, columnChecks}
 use Rattle.model.specs.ColumnCalls.{Called, columnRefusal, columnAfter, columnCall, callTotals, refusedCounts, slotOf, moveSlices}
 use Rattle.model.proofs.DirectoryLaws.{Shaped, Kept, with-lengths, shaped, shaped-passes, shaped-with, length-lengths}
-use Rattle.model.proofs.MovesLengths.{sum-oneFewer}
 use Rattle.model.proofs.AccessLaws.{reads-small}
+use Rattle.model.proofs.MovesLengths.{sum-oneFewer}
 use Rattle.model.specs.Lent.{columnOf}
 use Rattle.column.specs.declared.Located.{Located}
 use Rattle.checks.specs.declared.Shape.{Shape}
 use Rattle.checks.specs.Lent.{notShaped}
-use Rattle.checks.proofs.Answers.{Carried}
 use Rattle.column.specs.Answers.{withoutTotals, locatedOf, openedOf, InDirectory, Ready, putOf, takenOf, shiftedOf}
 use Rattle.column.proofs.LentColumns.{lent-column, held}
 use Rattle.column.proofs.Answering.{lent-yes, lent-refusal, refused-call, accepted-lent, accepted-call}
 use Rattle.column.proofs.Reading.{target-there}
 use Rattle.column.proofs.Searching.{among-match, near-length, refusal-is}
 
--- One length changed.
-
 set-in-front : (l : List ℕ) (k t v : ℕ) → t < k → k ≤ length l → set l t v ≡ set (take k l) t v ++ drop k l
 set-in-front l k t v h m =
     ap (λ (x : List ℕ). set x t v) (sym (take-append-drop k l)) ∙ set-append-left (take k l) (drop k l) t v (omega (arith, length-take-le k l m))
-
-pub set-length : (ns : List ℕ) (t v : ℕ) → length ns ≡ 130 → getD ns 1 0 ≤ 64 → t < getD ns 1 0 → set ns (2 + t) v ≡ withLengths (set (directoryOf 64 ns .lengths) t v) ns
-unfolding withLengths directoryOf
-set-length [] t v e h k = let z : ⊥ = omega arith in absurd z
-set-length (b ∷ []) t v e h k = let z : ⊥ = omega arith in absurd z
-set-length (b ∷ c ∷ r) t v e h k =
-    let q : 2 + t ≡ suc (suc t) = omega arith in
-    let n : length (set (take c r) t v) ≡ c = length-set (take c r) t v ∙ length-take-le c r (omega arith) in
-    ap (λ (m : ℕ). set (b ∷ c ∷ r) m v) q ∙ ap (λ (l : List ℕ). b ∷ c ∷ l) (set-in-front r c t v k (omega arith) ∙ ap (λ (m : ℕ). set (take c r) t v ++ drop m r) (sym n))
 
 -- two changes of the lengths are the last one
 with-with : (a b ns : List ℕ) → 2 ≤ length ns → length a ≡ length b → withLengths a (withLengths b ns) ≡ withLengths a ns
@@ -59,74 +48,6 @@ with-with a b (x ∷ y ∷ r) h e =
     let q : drop (length a) (b ++ drop (length b) r) ≡ drop (length a) r = rw e (drop-at b (drop (length b) r) (length b) refl) in
     ap (λ (l : List ℕ). x ∷ y ∷ (a ++ l)) q
 
--- a directory after one length has fallen
-module _ (ns : List ℕ) (t u : ℕ) (h : InDirectory ns t) (k : 1 ≤ getD (directoryOf 64 ns .lengths) t 0) where
-  s : Shaped 64 262144 ns
-  s = shaped 64 262144 ns (h .shaped)
-
-  ls : List ℕ
-  ls = directoryOf 64 ns .lengths
-
-  count : length ls ≡ getD ns 1 0
-  unfolding ls
-  count = length-lengths 64 262144 ns s
-
-  fewer : sumOf (oneFewer t ls) + 1 ≡ sumOf ls
-  unfolding ls
-  fewer = sum-oneFewer t ls (omega (arith, count, h .there)) k
-
-  changed : Kept 64 (oneFewer t ls) ns
-  changed = with-lengths 64 (oneFewer t ls) ns (s .size) (length-set ls t (getD ls t 0 - 1) ∙ count) (s .few)
-
-  pub held-after : u < partitionCount 64 ns → InDirectory (withLengths (oneFewer t (directoryOf 64 ns .lengths)) ns) u
-  unfolding ls
-  held-after m = record {
-    shaped = shaped-passes 64 262144 _ (shaped-with 64 262144 (oneFewer t ls) ns s (length-set ls t (getD ls t 0 - 1) ∙ count) (omega (arith, fewer, s .room)));
-    there = rw (changed .count) m;
-  }
-
-  pub twice : (after last : List ℕ) → after ≡ withLengths (oneFewer t (directoryOf 64 ns .lengths)) ns → last ≡ withLengths (oneMore u (directoryOf 64 after .lengths)) after
-      → last ≡ withLengths (oneMore u (oneFewer t (directoryOf 64 ns .lengths))) ns
-  unfolding ls
-  twice after last e f =
-      let d : directoryOf 64 after .lengths ≡ oneFewer t ls = ap (λ (n : List ℕ). directoryOf 64 n .lengths) e ∙ ap (λ (x : Rattle.model.specs.Directory.Directory). x .lengths) (changed .directory) in
-      f ∙ ap₂ (λ (l n : List ℕ). withLengths (oneMore u l) n) d e
-      ∙ with-with (oneMore u (oneFewer t ls)) (oneFewer t ls) ns (omega (arith, s .size)) (length-set (oneFewer t ls) u _)
-
--- The column afterwards, slice by slice.
-pub column-is : (f : ℕ → List ℕ → List ℕ) (d : Delivery) (ls : List ℕ) (c : Column) (ns g w y : List ℕ)
-    → ns ≡ withLengths ls (c .directory) → g ≡ f (d .grower) (c .growers) → w ≡ f (d .weight) (c .weights) → y ≡ f (d .«oil_yield») (c .yields)
-    → columnOf ns g w y ≡ moveSlices f d ls c
-unfolding moveSlices
-column-is f d ls c ns g w y en eg ew ey = rw (en, eg, ew, ey)
-
--- insert.
-
-module _ (c : Column) (d : Delivery) where
-  pub opened-lent : (n : ℕ) → n ≡ firstFailed (lentChecks 64 c) → (n ≡ 0 → ⊥) → notShaped n ≡ openedOf c d
-  unfolding openedOf
-  opened-lent n e h = rw (lent-refusal c (insert d) n e h .0, ne-eqb n 0 h)
-
-  module _ (h : firstFailed (lentChecks 64 c) ≡ 0) where
-    insert-refusal : (s t : Bool) → inRange d ≡ s → hasFreeSlot 64 c ≡ t → columnRefusal 64 c (insert d) ≡ cond s (cond t 0 12) 8
-    unfolding callChecks firstFailed
-    insert-refusal s t e f = lent-yes c (insert d) h ∙ rw (e, f)
-
-    pub opened-range : inRange d ≡ false → notShaped 8 ≡ openedOf c d
-    unfolding openedOf
-    opened-range e = rw (insert-refusal false (hasFreeSlot 64 c) e refl)
-
-    pub opened-full : inRange d ≡ true → length (c .growers) ≤ sumOf (lengthsOf 64 c) → notShaped 12 ≡ openedOf c d
-    unfolding openedOf hasFreeSlot
-    opened-full e k = rw (insert-refusal true false e (le-ltb (sumOf (lengthsOf 64 c)) (length (c .growers)) k))
-
-    pub opened-yes : inRange d ≡ true → sumOf (lengthsOf 64 c) < length (c .growers) → (s : Shape) → s .refusal ≡ 0 → Carried (lentChecks 64 c) (c .directory) (d .grower) s → s ≡ openedOf c d
-    unfolding openedOf hasFreeSlot
-    opened-yes e k s z w =
-        let whole : _≡_ {A = Shape} (record { refusal = s .refusal; used = s .used; target = s .target; start = s .start }) (openedOf c d)
-        = rw (insert-refusal true true e (lt-ltb (sumOf (lengthsOf 64 c)) (length (c .growers)) k), z, w .used, w .target, w .start) in
-        whole
-
 -- tests by their outcome
 by-test : (b : Bool) (P : Type 0) → (b ≡ true → P) → (b ≡ false → P) → P
 by-test true P f g = f refl
@@ -136,133 +57,213 @@ by-number : (n : ℕ) (P : Type 0) → (n ≡ 0 → P) → ((n ≡ 0 → ⊥) �
 by-number zero P f g = f refl
 by-number (suc n) P f g = g (λ e. omega arith)
 
--- a column that has passed 2, 3 and 6 is ready at the partition of a grower
-pub ready : (c : Column) (g : ℕ) → firstFailed (lentChecks 64 c) ≡ 0 → Ready c (target 64 c g) (startOf (lengthsOf 64 c) (target 64 c g))
-ready c g h =
-    let l = lent-column c h in
-    record { here = held c l (target 64 c g) (target-there c h g); start = refl; room = l .shape .room; even = l .even }
+-- The column afterwards, slice by slice.
+pub column-is : (f : ℕ → List ℕ → List ℕ) (d : Delivery) (ls : List ℕ) (c : Column) (ns g w y : List ℕ)
+    → ns ≡ withLengths ls (c .directory) → g ≡ f (d .grower) (c .growers) → w ≡ f (d .weight) (c .weights) → y ≡ f (d .«oil_yield») (c .yields)
+    → columnOf ns g w y ≡ moveSlices f d ls c
+unfolding moveSlices
+column-is f d ls c ns g w y en eg ew ey = rw (en, eg, ew, ey)
 
-module _ (c : Column) (d : Delivery) where
-  -- an insert is refused by 2, 3, 6, 8 or 12
-  never-missing : columnRefusal 64 c (insert d) ≡ 13 → ⊥
-  never-missing e = by-number (firstFailed (lentChecks 64 c)) ⊥ lent lent-not
-    where
-      lent : firstFailed (lentChecks 64 c) ≡ 0 → ⊥
-      lent h = by-test (inRange d) ⊥
-          (λ p. by-test (hasFreeSlot 64 c) ⊥ (λ q. omega (arith, e, insert-refusal c d h true true p q)) (λ q. omega (arith, e, insert-refusal c d h true false p q)))
-          (λ p. omega (arith, e, insert-refusal c d h false (hasFreeSlot 64 c) p refl))
+module _ (L : ℕ) where
+  -- One length changed.
+  pub set-length : (ns : List ℕ) (t v : ℕ) → length ns ≡ directorySize L → getD ns 1 0 ≤ L → t < getD ns 1 0 → set ns (2 + t) v ≡ withLengths (set (directoryOf L ns .lengths) t v) ns
+  unfolding withLengths directoryOf
+  set-length [] t v e h k = let z : ⊥ = omega arith in absurd z
+  set-length (b ∷ []) t v e h k = let z : ⊥ = omega arith in absurd z
+  set-length (b ∷ c ∷ r) t v e h k =
+      let q : 2 + t ≡ suc (suc t) = omega arith in
+      let n : length (set (take c r) t v) ≡ c = length-set (take c r) t v ∙ length-take-le c r (omega arith) in
+      ap (λ (m : ℕ). set (b ∷ c ∷ r) m v) q ∙ ap (λ (l : List ℕ). b ∷ c ∷ l) (set-in-front r c t v k (omega arith) ∙ ap (λ (m : ℕ). set (take c r) t v ++ drop m r) (sym n))
 
-      lent-not : (firstFailed (lentChecks 64 c) ≡ 0 → ⊥) → ⊥
-      lent-not h = let r = lent-refusal c (insert d) (firstFailed (lentChecks 64 c)) refl h in r .1 (sym (r .0) ∙ e)
+  -- a directory after one length has fallen
+  module _ (ns : List ℕ) (t u : ℕ) (h : InDirectory L ns t) (k : 1 ≤ getD (directoryOf L ns .lengths) t 0) where
+    s : Shaped L mostSlots ns
+    s = shaped L mostSlots ns (h .shaped)
 
-  module _ (o : Shape) (w : o ≡ openedOf c d) where
-    opened-refusal : o .refusal ≡ columnRefusal 64 c (insert d)
+    ls : List ℕ
+    ls = directoryOf L ns .lengths
+
+    count : length ls ≡ getD ns 1 0
+    unfolding ls
+    count = length-lengths L mostSlots ns s
+
+    fewer : sumOf (oneFewer t ls) + 1 ≡ sumOf ls
+    unfolding ls
+    fewer = sum-oneFewer t ls (omega (arith, count, h .there)) k
+
+    changed : Kept L (oneFewer t ls) ns
+    changed = with-lengths L (oneFewer t ls) ns (s .size) (length-set ls t (getD ls t 0 - 1) ∙ count) (s .few)
+
+    pub held-after : u < partitionCount L ns → InDirectory L (withLengths (oneFewer t (directoryOf L ns .lengths)) ns) u
+    unfolding ls
+    held-after m = record {
+      shaped = shaped-passes L mostSlots _ (shaped-with L mostSlots (oneFewer t ls) ns s (length-set ls t (getD ls t 0 - 1) ∙ count) (omega (arith, fewer, s .room)));
+      there = rw (changed .count) m;
+    }
+
+    pub twice : (after last : List ℕ) → after ≡ withLengths (oneFewer t (directoryOf L ns .lengths)) ns → last ≡ withLengths (oneMore u (directoryOf L after .lengths)) after
+        → last ≡ withLengths (oneMore u (oneFewer t (directoryOf L ns .lengths))) ns
+    unfolding ls
+    twice after last e f =
+        let d : directoryOf L after .lengths ≡ oneFewer t ls = ap (λ (n : List ℕ). directoryOf L n .lengths) e ∙ ap (λ (x : Rattle.model.specs.Directory.Directory). x .lengths) (changed .directory) in
+        f ∙ ap₂ (λ (l n : List ℕ). withLengths (oneMore u l) n) d e
+        ∙ with-with (oneMore u (oneFewer t ls)) (oneFewer t ls) ns (omega (arith, s .size)) (length-set (oneFewer t ls) u _)
+
+  -- insert.
+
+  module _ (c : Column) (d : Delivery) where
+    pub opened-lent : (n : ℕ) → n ≡ firstFailed (lentChecks L c) → (n ≡ 0 → ⊥) → notShaped n ≡ openedOf L c d
     unfolding openedOf
-    opened-refusal = by-number (columnRefusal 64 c (insert d)) _
-        (λ e. ap (λ (x : Shape). x .refusal) (rw e at w) ∙ sym e)
-        (λ e. ap (λ (x : Shape). x .refusal) (rw (ne-eqb (columnRefusal 64 c (insert d)) 0 e) at w))
+    opened-lent n e h = rw (lent-refusal L c (insert d) n e h .0, ne-eqb n 0 h)
 
-    pub insert-refused : (o .refusal ≡ 0 → ⊥) → _≡_ {A = Called} (record { answer = withoutTotals (o .refusal) noCounts; column = c }) (columnCall 64 c (insert d))
-    insert-refused h = refused-call c (insert d) (o .refusal) (sym opened-refusal) h (λ e. never-missing (sym opened-refusal ∙ e))
+    module _ (h : firstFailed (lentChecks L c) ≡ 0) where
+      insert-refusal : (s t : Bool) → inRange d ≡ s → hasFreeSlot L c ≡ t → columnRefusal L c (insert d) ≡ cond s (cond t 0 12) 8
+      unfolding callChecks firstFailed
+      insert-refusal s t e f = lent-yes L c (insert d) h ∙ rw (e, f)
 
-    pub record Open : Type 0 where
-      pub accepted : columnRefusal 64 c (insert d) ≡ 0
-      pub lent : firstFailed (lentChecks 64 c) ≡ 0
-      pub target-is : o .target ≡ target 64 c (d .grower)
-      pub start-is : o .start ≡ startOf (lengthsOf 64 c) (target 64 c (d .grower))
-      pub used-is : o .used ≡ sumOf (lengthsOf 64 c)
-      pub free : sumOf (lengthsOf 64 c) < length (c .growers)
+      pub opened-range : inRange d ≡ false → notShaped 8 ≡ openedOf L c d
+      unfolding openedOf
+      opened-range e = rw (insert-refusal false (hasFreeSlot L c) e refl)
 
-    pub insert-open : o .refusal ≡ 0 → Open
-    unfolding openedOf hasFreeSlot
-    insert-open h =
-        let e : columnRefusal 64 c (insert d) ≡ 0 = sym opened-refusal ∙ h in
-        let l = accepted-lent c (insert d) e in
+      pub opened-full : inRange d ≡ true → length (c .growers) ≤ sumOf (lengthsOf L c) → notShaped 12 ≡ openedOf L c d
+      unfolding openedOf hasFreeSlot
+      opened-full e k = rw (insert-refusal true false e (le-ltb (sumOf (lengthsOf L c)) (length (c .growers)) k))
+
+      pub opened-yes : inRange d ≡ true → sumOf (lengthsOf L c) < length (c .growers) → (s : Shape) → s .refusal ≡ 0 → s .used ≡ sumOf (lengthsOf L c)
+          → s .target ≡ target L c (d .grower) → s .start ≡ startOf (lengthsOf L c) (target L c (d .grower)) → s ≡ openedOf L c d
+      unfolding openedOf hasFreeSlot
+      opened-yes e k s z eu et ea =
+          let whole : _≡_ {A = Shape} (record { refusal = s .refusal; used = s .used; target = s .target; start = s .start }) (openedOf L c d)
+          = rw (insert-refusal true true e (lt-ltb (sumOf (lengthsOf L c)) (length (c .growers)) k), z, eu, et, ea) in
+          whole
+
+  -- a column that has passed 2, 3 and 6 is ready at the partition of a grower
+  pub ready : (c : Column) (g : ℕ) → firstFailed (lentChecks L c) ≡ 0 → Ready L c (target L c g) (startOf (lengthsOf L c) (target L c g))
+  ready c g h =
+      let l = lent-column L c h in
+      record { here = held L c l (target L c g) (target-there L c h g); start = refl; room = l .shape .room; even = l .even }
+
+  module _ (c : Column) (d : Delivery) where
+    -- an insert is refused by 2, 3, 6, 8 or 12
+    never-missing : columnRefusal L c (insert d) ≡ 13 → ⊥
+    never-missing e = by-number (firstFailed (lentChecks L c)) ⊥ lent lent-not
+      where
+        lent : firstFailed (lentChecks L c) ≡ 0 → ⊥
+        lent h = by-test (inRange d) ⊥
+            (λ p. by-test (hasFreeSlot L c) ⊥ (λ q. omega (arith, e, insert-refusal c d h true true p q)) (λ q. omega (arith, e, insert-refusal c d h true false p q)))
+            (λ p. omega (arith, e, insert-refusal c d h false (hasFreeSlot L c) p refl))
+
+        lent-not : (firstFailed (lentChecks L c) ≡ 0 → ⊥) → ⊥
+        lent-not h = let r = lent-refusal L c (insert d) (firstFailed (lentChecks L c)) refl h in r .1 (sym (r .0) ∙ e)
+
+    module _ (o : Shape) (w : o ≡ openedOf L c d) where
+      opened-refusal : o .refusal ≡ columnRefusal L c (insert d)
+      unfolding openedOf
+      opened-refusal = by-number (columnRefusal L c (insert d)) _
+          (λ e. ap (λ (x : Shape). x .refusal) (rw e at w) ∙ sym e)
+          (λ e. ap (λ (x : Shape). x .refusal) (rw (ne-eqb (columnRefusal L c (insert d)) 0 e) at w))
+
+      pub insert-refused : (o .refusal ≡ 0 → ⊥) → _≡_ {A = Called} (record { answer = withoutTotals (o .refusal) noCounts; column = c }) (columnCall L c (insert d))
+      insert-refused h = refused-call L c (insert d) (o .refusal) (sym opened-refusal) h (λ e. never-missing (sym opened-refusal ∙ e))
+
+      pub record Open : Type 0 where
+        pub accepted : columnRefusal L c (insert d) ≡ 0
+        pub lent : firstFailed (lentChecks L c) ≡ 0
+        pub target-is : o .target ≡ target L c (d .grower)
+        pub start-is : o .start ≡ startOf (lengthsOf L c) (target L c (d .grower))
+        pub used-is : o .used ≡ sumOf (lengthsOf L c)
+        pub free : sumOf (lengthsOf L c) < length (c .growers)
+
+      pub insert-open : o .refusal ≡ 0 → Open
+      unfolding openedOf hasFreeSlot
+      insert-open h =
+          let e : columnRefusal L c (insert d) ≡ 0 = sym opened-refusal ∙ h in
+          let l = accepted-lent L c (insert d) e in
+          let x = rw e at w in
+          record {
+            accepted = e;
+            lent = l;
+            target-is = ap (λ (v : Shape). v .target) x;
+            start-is = ap (λ (v : Shape). v .start) x;
+            used-is = ap (λ (v : Shape). v .used) x;
+            free = by-test (inRange d) _
+                (λ p. by-test (ltb (sumOf (lengthsOf L c)) (length (c .growers))) _ (λ q. ltb-true (sumOf (lengthsOf L c)) (length (c .growers)) q) (λ q. absurd (omega (arith, e, insert-refusal c d l true false p q))))
+                (λ p. absurd (omega (arith, e, insert-refusal c d l false (hasFreeSlot L c) p refl)));
+          }
+
+      pub insert-done : Open → (after : Column) (n : ℕ) (r : Answer) → after ≡ putOf L c (target L c (d .grower)) d → n ≡ onward (directoryOf L (c .directory)) (target L c (d .grower))
+          → r ≡ withoutTotals 0 (counts (1 + n) 0 (1 + n)) → _≡_ {A = Called} (record { answer = r; column = after }) (columnCall L c (insert d))
+      unfolding callTotals callCounts columnAfter
+      insert-done a after n r e f i = rw (i, e, f) (accepted-call L c (insert d) (a .accepted))
+
+  -- delete and move.
+
+  -- the two put the same checks
+  move-refusal : (c : Column) (d : Delivery) (g : ℕ) → columnRefusal L c (move d g) ≡ columnRefusal L c (delete d)
+  unfolding columnRefusal columnChecks callChecks
+  move-refusal c d g = refl
+
+  module _ (c : Column) (d : Delivery) (f : Located) (w : f ≡ locatedOf L c d) where
+    located-refusal : f .refusal ≡ columnRefusal L c (delete d)
+    unfolding locatedOf
+    located-refusal = by-number (columnRefusal L c (delete d)) _
+        (λ e. ap (λ (x : Located). x .refusal) (rw e at w) ∙ sym e)
+        (λ e. ap (λ (x : Located). x .refusal) (rw (ne-eqb (columnRefusal L c (delete d)) 0 e) at w))
+
+    located-counts : (f .refusal ≡ 0 → ⊥) → f .counts ≡ cond (eqb (columnRefusal L c (delete d)) 13) (scanNear (directoryOf L (c .directory)) (d .grower)) noCounts
+    unfolding locatedOf
+    located-counts h = ap (λ (x : Located). x .counts) (rw (ne-eqb (columnRefusal L c (delete d)) 0 (λ e. h (located-refusal ∙ e))) at w)
+
+    pub delete-refused : (f .refusal ≡ 0 → ⊥) → _≡_ {A = Called} (record { answer = withoutTotals (f .refusal) (f .counts); column = c }) (columnCall L c (delete d))
+    unfolding columnCall refusedCounts missCounts
+    delete-refused h = rw (located-counts h, located-refusal, ne-eqb (columnRefusal L c (delete d)) 0 (λ e. h (located-refusal ∙ e)))
+
+    pub move-refused : (g : ℕ) → (f .refusal ≡ 0 → ⊥) → _≡_ {A = Called} (record { answer = withoutTotals (f .refusal) (f .counts); column = c }) (columnCall L c (move d g))
+    unfolding columnCall refusedCounts missCounts
+    move-refused g h = rw (located-counts h, located-refusal, move-refusal c d g, ne-eqb (columnRefusal L c (delete d)) 0 (λ e. h (located-refusal ∙ e)))
+
+    pub record Found : Type 0 where
+      pub accepted : columnRefusal L c (delete d) ≡ 0
+      pub lent : firstFailed (lentChecks L c) ≡ 0
+      pub target-is : f .target ≡ target L c (d .grower)
+      pub start-is : f .start ≡ startOf (lengthsOf L c) (target L c (d .grower))
+      pub slot-is : f .slot ≡ slotOf L c d
+      pub counts-are : f .counts ≡ scanNear (directoryOf L (c .directory)) (d .grower)
+      pub inside : slotOf L c d < getD (lengthsOf L c) (target L c (d .grower)) 0
+
+    pub found : f .refusal ≡ 0 → Found
+    unfolding locatedOf isHeld
+    found h =
+        let e : columnRefusal L c (delete d) ≡ 0 = sym located-refusal ∙ h in
+        let l = accepted-lent L c (delete d) e in
         let x = rw e at w in
         record {
           accepted = e;
           lent = l;
-          target-is = ap (λ (v : Shape). v .target) x;
-          start-is = ap (λ (v : Shape). v .start) x;
-          used-is = ap (λ (v : Shape). v .used) x;
-          free = by-test (inRange d) _
-              (λ p. by-test (ltb (sumOf (lengthsOf 64 c)) (length (c .growers))) _ (λ q. ltb-true (sumOf (lengthsOf 64 c)) (length (c .growers)) q) (λ q. absurd (omega (arith, e, insert-refusal c d l true false p q))))
-              (λ p. absurd (omega (arith, e, insert-refusal c d l false (hasFreeSlot 64 c) p refl)));
+          target-is = ap (λ (v : Located). v .target) x;
+          start-is = ap (λ (v : Located). v .start) x;
+          slot-is = ap (λ (v : Located). v .slot) x;
+          counts-are = ap (λ (v : Located). v .counts) x;
+          inside = by-test (inRange d && scannedOk L c (d .grower) (d .grower)) _
+              (λ p. by-test (isHeld L c d) _
+              (λ q. omega (arith, near-length L c d l, ltb-true (slotOf L c d) (length (recordsNear L c (d .grower))) (sym (among-match d (recordsNear L c (d .grower))) ∙ q)))
+              (λ q. absurd (omega (arith, e, refusal-is L c d l true false p q))))
+              (λ p. absurd (omega (arith, e, refusal-is L c d l false (isHeld L c d) p refl)));
         }
 
-    pub insert-done : Open → (after : Column) (n : ℕ) (r : Answer) → after ≡ putOf c (target 64 c (d .grower)) d → n ≡ onward (directoryOf 64 (c .directory)) (target 64 c (d .grower))
-        → r ≡ withoutTotals 0 (counts (1 + n) 0 (1 + n)) → _≡_ {A = Called} (record { answer = r; column = after }) (columnCall 64 c (insert d))
+    -- a scan's counts leave room
+    pub scan-small : Found → (f .counts .rr ≤ 1) × (f .counts .«rw» ≤ 0)
+    unfolding scanNear scanCounts
+    scan-small a = subst (λ (n : Counts). (n .rr ≤ 1) × (n .«rw» ≤ 0)) (sym (a .counts-are)) (reads-small _)
+
+    pub delete-done : Found → (after : Column) (n : ℕ) (r : Answer) → after ≡ takenOf L c (target L c (d .grower)) (slotOf L c d) → n ≡ onward (directoryOf L (c .directory)) (target L c (d .grower))
+        → r ≡ withoutTotals 0 (andAlso (f .counts) n (1 + n)) → _≡_ {A = Called} (record { answer = r; column = after }) (columnCall L c (delete d))
     unfolding callTotals callCounts columnAfter
-    insert-done a after n r e f i = rw (i, e, f) (accepted-call c (insert d) (a .accepted))
+    delete-done a after n r e i j = rw (j, e, i, a .counts-are) (accepted-call L c (delete d) (a .accepted))
 
--- delete and move.
-
--- the two put the same checks
-move-refusal : (c : Column) (d : Delivery) (g : ℕ) → columnRefusal 64 c (move d g) ≡ columnRefusal 64 c (delete d)
-unfolding columnRefusal columnChecks callChecks
-move-refusal c d g = refl
-
-module _ (c : Column) (d : Delivery) (f : Located) (w : f ≡ locatedOf c d) where
-  located-refusal : f .refusal ≡ columnRefusal 64 c (delete d)
-  unfolding locatedOf
-  located-refusal = by-number (columnRefusal 64 c (delete d)) _
-      (λ e. ap (λ (x : Located). x .refusal) (rw e at w) ∙ sym e)
-      (λ e. ap (λ (x : Located). x .refusal) (rw (ne-eqb (columnRefusal 64 c (delete d)) 0 e) at w))
-
-  located-counts : (f .refusal ≡ 0 → ⊥) → f .counts ≡ cond (eqb (columnRefusal 64 c (delete d)) 13) (scanNear (directoryOf 64 (c .directory)) (d .grower)) noCounts
-  unfolding locatedOf
-  located-counts h = ap (λ (x : Located). x .counts) (rw (ne-eqb (columnRefusal 64 c (delete d)) 0 (λ e. h (located-refusal ∙ e))) at w)
-
-  pub delete-refused : (f .refusal ≡ 0 → ⊥) → _≡_ {A = Called} (record { answer = withoutTotals (f .refusal) (f .counts); column = c }) (columnCall 64 c (delete d))
-  unfolding columnCall refusedCounts missCounts
-  delete-refused h = rw (located-counts h, located-refusal, ne-eqb (columnRefusal 64 c (delete d)) 0 (λ e. h (located-refusal ∙ e)))
-
-  pub move-refused : (g : ℕ) → (f .refusal ≡ 0 → ⊥) → _≡_ {A = Called} (record { answer = withoutTotals (f .refusal) (f .counts); column = c }) (columnCall 64 c (move d g))
-  unfolding columnCall refusedCounts missCounts
-  move-refused g h = rw (located-counts h, located-refusal, move-refusal c d g, ne-eqb (columnRefusal 64 c (delete d)) 0 (λ e. h (located-refusal ∙ e)))
-
-  pub record Found : Type 0 where
-    pub accepted : columnRefusal 64 c (delete d) ≡ 0
-    pub lent : firstFailed (lentChecks 64 c) ≡ 0
-    pub target-is : f .target ≡ target 64 c (d .grower)
-    pub start-is : f .start ≡ startOf (lengthsOf 64 c) (target 64 c (d .grower))
-    pub slot-is : f .slot ≡ slotOf 64 c d
-    pub counts-are : f .counts ≡ scanNear (directoryOf 64 (c .directory)) (d .grower)
-    pub inside : slotOf 64 c d < getD (lengthsOf 64 c) (target 64 c (d .grower)) 0
-
-  pub found : f .refusal ≡ 0 → Found
-  unfolding locatedOf isHeld
-  found h =
-      let e : columnRefusal 64 c (delete d) ≡ 0 = sym located-refusal ∙ h in
-      let l = accepted-lent c (delete d) e in
-      let x = rw e at w in
-      record {
-        accepted = e;
-        lent = l;
-        target-is = ap (λ (v : Located). v .target) x;
-        start-is = ap (λ (v : Located). v .start) x;
-        slot-is = ap (λ (v : Located). v .slot) x;
-        counts-are = ap (λ (v : Located). v .counts) x;
-        inside = by-test (inRange d && scannedOk 64 c (d .grower) (d .grower)) _
-            (λ p. by-test (isHeld 64 c d) _
-            (λ q. omega (arith, near-length c d l, ltb-true (slotOf 64 c d) (length (recordsNear 64 c (d .grower))) (sym (among-match d (recordsNear 64 c (d .grower))) ∙ q)))
-            (λ q. absurd (omega (arith, e, refusal-is c d l true false p q))))
-            (λ p. absurd (omega (arith, e, refusal-is c d l false (isHeld 64 c d) p refl)));
-      }
-
-  -- a scan's counts leave room
-  pub scan-small : Found → (f .counts .rr ≤ 1) × (f .counts .«rw» ≤ 0)
-  unfolding scanNear scanCounts
-  scan-small a = subst (λ (n : Counts). (n .rr ≤ 1) × (n .«rw» ≤ 0)) (sym (a .counts-are)) (reads-small _)
-
-  pub delete-done : Found → (after : Column) (n : ℕ) (r : Answer) → after ≡ takenOf c (target 64 c (d .grower)) (slotOf 64 c d) → n ≡ onward (directoryOf 64 (c .directory)) (target 64 c (d .grower))
-      → r ≡ withoutTotals 0 (andAlso (f .counts) n (1 + n)) → _≡_ {A = Called} (record { answer = r; column = after }) (columnCall 64 c (delete d))
-  unfolding callTotals callCounts columnAfter
-  delete-done a after n r e i j = rw (j, e, i, a .counts-are) (accepted-call c (delete d) (a .accepted))
-
-  pub move-done : (g : ℕ) → Found → (after : Column) (n : ℕ) (r : Answer)
-      → after ≡ shiftedOf c (target 64 c (d .grower)) (slotOf 64 c d) (target 64 c g) (delivery g (d .weight) (d .«oil_yield»))
-      → n ≡ apart (target 64 c (d .grower)) (target 64 c g)
-      → r ≡ withoutTotals 0 (andAlso (f .counts) (1 + n) (2 + n)) → _≡_ {A = Called} (record { answer = r; column = after }) (columnCall 64 c (move d g))
-  unfolding callTotals callCounts columnAfter
-  move-done g a after n r e i j = rw (j, e, i, a .counts-are) (accepted-call c (move d g) (move-refusal c d g ∙ a .accepted))
+    pub move-done : (g : ℕ) → Found → (after : Column) (n : ℕ) (r : Answer)
+        → after ≡ shiftedOf L c (target L c (d .grower)) (slotOf L c d) (target L c g) (delivery g (d .weight) (d .«oil_yield»))
+        → n ≡ apart (target L c (d .grower)) (target L c g)
+        → r ≡ withoutTotals 0 (andAlso (f .counts) (1 + n) (2 + n)) → _≡_ {A = Called} (record { answer = r; column = after }) (columnCall L c (move d g))
+    unfolding callTotals callCounts columnAfter
+    move-done g a after n r e i j = rw (j, e, i, a .counts-are) (accepted-call L c (move d g) (move-refusal c d g ∙ a .accepted))

@@ -9,6 +9,7 @@ use Rattle.model.specs.declared.Delivery.{Delivery}
 use Rattle.model.specs.declared.Counts.{Counts}
 use Rattle.model.specs.declared.Answer.{Answer}
 use Rattle.model.specs.declared.PartitionSlice.{PartitionSlice}
+use Rattle.model.specs.Bounds.{mostSlots}
 use Rattle.model.specs.Lists.{sumOf, every}
 use Rattle.model.specs.Deliveries.{inRange, noTotals, firstMatch}
 use Rattle.model.specs.Calls.{insert, delete}
@@ -39,44 +40,46 @@ searchedOf b t a d ds =
     (cond (ltb (firstMatch d ds) (length ds)) (record { refusal = 0; target = t; start = a; slot = firstMatch d ds; counts = k }) (notLocated 13 k))
     (notLocated 8 noCounts)
 
--- where a delivery lies in the column, or the refusal of its delete; a 13 has its scan
-unfoldable pub locatedOf : Column → Delivery → Located
-locatedOf c d =
-    let n : ℕ = columnRefusal 64 c (delete d) in
-    let t : ℕ = target 64 c (d .grower) in
-    let k : Counts = scanNear (directoryOf 64 (c .directory)) (d .grower) in
-    cond (eqb n 0)
-    (record { refusal = 0; target = t; start = startOf (lengthsOf 64 c) t; slot = slotOf 64 c d; counts = k })
-    (notLocated n (cond (eqb n 13) k noCounts))
+-- L is the block limit
+module _ (L : ℕ) where
+  -- where a delivery lies in the column, or the refusal of its delete; a 13 has its scan
+  unfoldable pub locatedOf : Column → Delivery → Located
+  locatedOf c d =
+      let n : ℕ = columnRefusal L c (delete d) in
+      let t : ℕ = target L c (d .grower) in
+      let k : Counts = scanNear (directoryOf L (c .directory)) (d .grower) in
+      cond (eqb n 0)
+      (record { refusal = 0; target = t; start = startOf (lengthsOf L c) t; slot = slotOf L c d; counts = k })
+      (notLocated n (cond (eqb n 13) k noCounts))
 
--- partition t of a directory for at most 262,144 slots
-pub record InDirectory (ns : List ℕ) (t : ℕ) : Type 0 where
-  pub shaped : T (directoryOk 64 262144 ns)
-  pub there : t < partitionCount 64 ns
+  -- partition t of a directory for at most 262,144 slots
+  pub record InDirectory (ns : List ℕ) (t : ℕ) : Type 0 where
+    pub shaped : T (directoryOk L mostSlots ns)
+    pub there : t < partitionCount L ns
 
--- a column of proper shape, and partition t of it, which starts at a
-pub record Ready (c : Column) (t a : ℕ) : Type 0 where
-  pub here : InDirectory (c .directory) t
-  pub start : a ≡ startOf (lengthsOf 64 c) t
-  pub room : sumOf (lengthsOf 64 c) ≤ length (c .growers)
-  pub even : Even (c .growers) (c .weights) (c .yields)
+  -- a column of proper shape, and partition t of it, which starts at a
+  pub record Ready (c : Column) (t a : ℕ) : Type 0 where
+    pub here : InDirectory (c .directory) t
+    pub start : a ≡ startOf (lengthsOf L c) t
+    pub room : sumOf (lengthsOf L c) ≤ length (c .growers)
+    pub even : Even (c .growers) (c .weights) (c .yields)
 
--- where an insert goes, or its refusal
-unfoldable pub openedOf : Column → Delivery → Shape
-openedOf c d =
-    let n : ℕ = columnRefusal 64 c (insert d) in
-    let t : ℕ = target 64 c (d .grower) in
-    cond (eqb n 0) (record { refusal = 0; used = sumOf (lengthsOf 64 c); target = t; start = startOf (lengthsOf 64 c) t }) (notShaped n)
+  -- where an insert goes, or its refusal
+  unfoldable pub openedOf : Column → Delivery → Shape
+  openedOf c d =
+      let n : ℕ = columnRefusal L c (insert d) in
+      let t : ℕ = target L c (d .grower) in
+      cond (eqb n 0) (record { refusal = 0; used = sumOf (lengthsOf L c); target = t; start = startOf (lengthsOf L c) t }) (notShaped n)
 
--- the column after the slots and lengths of an insert, a delete and a move have changed
-abbrev pub putOf : Column → ℕ → Delivery → Column
-putOf c t d = moveSlices (inserted (lengthsOf 64 c) t) d (oneMore t (lengthsOf 64 c)) c
+  -- the column after the slots and lengths of an insert, a delete and a move have changed
+  abbrev pub putOf : Column → ℕ → Delivery → Column
+  putOf c t d = moveSlices (inserted (lengthsOf L c) t) d (oneMore t (lengthsOf L c)) c
 
-abbrev pub takenOf : Column → ℕ → ℕ → Column
-takenOf c t i = moveSlices (deleted (lengthsOf 64 c) t i) freed (oneFewer t (lengthsOf 64 c)) c
+  abbrev pub takenOf : Column → ℕ → ℕ → Column
+  takenOf c t i = moveSlices (deleted (lengthsOf L c) t i) freed (oneFewer t (lengthsOf L c)) c
 
-abbrev pub shiftedOf : Column → ℕ → ℕ → ℕ → Delivery → Column
-shiftedOf c t i u d = moveSlices (moved (lengthsOf 64 c) t i u) d (oneMore u (oneFewer t (lengthsOf 64 c))) c
+  abbrev pub shiftedOf : Column → ℕ → ℕ → ℕ → Delivery → Column
+  shiftedOf c t i u d = moveSlices (moved (lengthsOf L c) t i u) d (oneMore u (oneFewer t (lengthsOf L c))) c
 
 -- what the partition call hands back: where it lies (its block and its byte there), its numbers, and the number that is left
 pub record Part : Type 0 where

@@ -61,7 +61,7 @@ fn partition_of(directory: &[u32], grower: u32) -> usize
 
 // The slot at which a partition starts.
 fn start_of(directory: &[u32], partition: usize) -> usize
-    requires { ⌜ InDirectory (now directory) partition ⌝ }
+    requires { ⌜ InDirectory blockLimit (now directory) partition ⌝ }
     ensures { λ r. ⌜ r ≡ startOf (directoryOf blockLimit (now (directory .entry)) .lengths) partition ⌝ }
 {
     let e = LENGTHS + partition;
@@ -70,7 +70,7 @@ fn start_of(directory: &[u32], partition: usize) -> usize
 
 // How many records a partition has.
 fn length_of(directory: &[u32], partition: usize) -> usize
-    requires { ⌜ InDirectory (now directory) partition ⌝ }
+    requires { ⌜ InDirectory blockLimit (now directory) partition ⌝ }
     ensures { λ r. ⌜ r ≡ getD (directoryOf blockLimit (now (directory .entry)) .lengths) partition 0 ⌝ }
 {
     directory[LENGTHS + partition] as usize
@@ -223,7 +223,7 @@ fn search_part(
 
 // Checks 2, 3, 6, 8 and 13 of delete and move.
 fn locate(directory: &[u32], g: &[u32], w: &[u32], y: &[u32], d: Delivery) -> Located
-    ensures { λ r. ⌜ r ≡ locatedOf (columnIn directory g w y) d ⌝ }
+    ensures { λ r. ⌜ r ≡ locatedOf blockLimit (columnIn directory g w y) d ⌝ }
 {
     let shape = checks::lent(directory, g, w, y, d.grower);
     let n = shape.refusal;
@@ -241,7 +241,7 @@ fn locate(directory: &[u32], g: &[u32], w: &[u32], y: &[u32], d: Delivery) -> Lo
 
 // One more record in a partition.
 fn grow(directory: &mut [u32], partition: usize)
-    requires { ⌜ InDirectory (now directory) partition ⌝ }
+    requires { ⌜ InDirectory blockLimit (now directory) partition ⌝ }
     ensures { λ r. ⌜ now (directory .exit)
         ≡ withLengths (oneMore partition (directoryOf blockLimit (now (directory .entry)) .lengths)) (now (directory .entry)) ⌝ }
 {
@@ -251,7 +251,7 @@ fn grow(directory: &mut [u32], partition: usize)
 
 // One record fewer in a partition.
 fn shrink(directory: &mut [u32], partition: usize)
-    requires { ⌜ InDirectory (now directory) partition × (1 ≤ getD (directoryOf blockLimit (now directory) .lengths) partition 0) ⌝ }
+    requires { ⌜ InDirectory blockLimit (now directory) partition × (1 ≤ getD (directoryOf blockLimit (now directory) .lengths) partition 0) ⌝ }
     ensures { λ r. ⌜ now (directory .exit)
         ≡ withLengths (oneFewer partition (directoryOf blockLimit (now (directory .entry)) .lengths)) (now (directory .entry)) ⌝ }
 {
@@ -273,7 +273,7 @@ fn not_opened(refusal: u32) -> Shape
 
 // Checks 2, 3, 6, 8 and 12 of an insert: where it goes, or why it is refused.
 fn open(directory: &[u32], g: &[u32], w: &[u32], y: &[u32], d: Delivery) -> Shape
-    ensures { λ r. ⌜ r ≡ openedOf (columnIn directory g w y) d ⌝ }
+    ensures { λ r. ⌜ r ≡ openedOf blockLimit (columnIn directory g w y) d ⌝ }
 {
     let shape = checks::lent(directory, g, w, y, d.grower);
     let n = shape.refusal;
@@ -291,7 +291,7 @@ fn open(directory: &[u32], g: &[u32], w: &[u32], y: &[u32], d: Delivery) -> Shap
 
 // How many partitions there are from one to the last.
 fn onward(directory: &[u32], partition: usize) -> u64
-    requires { ⌜ InDirectory (now directory) partition ⌝ }
+    requires { ⌜ InDirectory blockLimit (now directory) partition ⌝ }
     ensures { λ r. ⌜ r ≡ onward (directoryOf blockLimit (now (directory .entry))) partition ⌝ }
 {
     (directory[COUNT] as usize - partition) as u64
@@ -308,11 +308,11 @@ fn put(
     used: usize,
     d: Delivery,
 )
-    requires { ⌜ Ready (columnOf (now directory) (now g) (now w) (now y)) partition start
+    requires { ⌜ Ready blockLimit (columnOf (now directory) (now g) (now w) (now y)) partition start
         × (used ≡ sumOf (directoryOf blockLimit (now directory) .lengths))
         × (used < length (now g)) ⌝ }
     ensures { λ r. ⌜ columnOut directory g w y
-        ≡ putOf (columnIn directory g w y) partition d ⌝ }
+        ≡ putOf blockLimit (columnIn directory g w y) partition d ⌝ }
 {
     let l = LENGTHS + directory[COUNT] as usize;
     ripple::insert_slots(g, w, y, &directory[LENGTHS..l], partition, start, used, d);
@@ -329,10 +329,10 @@ fn take_out(
     start: usize,
     slot: usize,
 )
-    requires { ⌜ Ready (columnOf (now directory) (now g) (now w) (now y)) partition start
+    requires { ⌜ Ready blockLimit (columnOf (now directory) (now g) (now w) (now y)) partition start
         × (slot < getD (directoryOf blockLimit (now directory) .lengths) partition 0) ⌝ }
     ensures { λ r. ⌜ columnOut directory g w y
-        ≡ takenOf (columnIn directory g w y) partition slot ⌝ }
+        ≡ takenOf blockLimit (columnIn directory g w y) partition slot ⌝ }
 {
     let l = LENGTHS + directory[COUNT] as usize;
     let freed = Delivery {
@@ -365,7 +365,7 @@ fn shift_slots(
     to: usize,
     d: Delivery,
 )
-    requires { ⌜ Ready (columnOf (now directory) (now g) (now w) (now y)) from «from_start»
+    requires { ⌜ Ready blockLimit (columnOf (now directory) (now g) (now w) (now y)) from «from_start»
         × (slot < getD (directoryOf blockLimit (now directory) .lengths) from 0)
         × (to < partitionCount blockLimit (now directory)) ⌝ }
     ensures { λ r. ⌜ (now (g .exit) ≡ moved (directoryOf blockLimit (now (directory .entry)) .lengths) from slot to (d .grower) (now (g .entry)))
@@ -414,11 +414,11 @@ fn shift(
     to: usize,
     d: Delivery,
 )
-    requires { ⌜ Ready (columnOf (now directory) (now g) (now w) (now y)) from «from_start»
+    requires { ⌜ Ready blockLimit (columnOf (now directory) (now g) (now w) (now y)) from «from_start»
         × (slot < getD (directoryOf blockLimit (now directory) .lengths) from 0)
         × (to < partitionCount blockLimit (now directory)) ⌝ }
     ensures { λ r. ⌜ columnOut directory g w y
-        ≡ shiftedOf (columnIn directory g w y) from slot to d ⌝ }
+        ≡ shiftedOf blockLimit (columnIn directory g w y) from slot to d ⌝ }
 {
     shift_slots(directory, g, w, y, from, from_start, slot, to, d);
     shrink(directory, from);

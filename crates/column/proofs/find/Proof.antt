@@ -1,6 +1,7 @@
 -- `column::find` meets its contract. Assumes nothing.
 use mathlib.Core.Path.{_∙_}
 use borrow.Author.Needs.{needs}
+use Rattle.model.specs.Bounds.{blockLimit}
 use Rattle.model.specs.Lent.{columnOf}
 use Rattle.column.proofs.Answering.{find-is-range}
 use Rattle.model.specs.Calls.{range}
@@ -11,7 +12,7 @@ range-requires : tie.Need-range-requires
 range-requires c κs = search needs
 
 returns : tie.Need-returns
-returns c = let g = (c .before .before .before .before .before .args) in let col = columnOf (g .directory .now) (g .growers .now) (g .weights .now) (g .yields .now) in (c .range) .ensures ∙ find-is-range col (g .grower)
+returns c = let g = (c .before .before .before .before .before .args) in let col = columnOf (g .directory .now) (g .growers .now) (g .weights .now) (g .yields .now) in (c .range) .ensures ∙ find-is-range blockLimit col (g .grower)
 
 pub find-spec : {M : Type 1} → statement M
 find-spec = tie.close (tie.spec range-requires returns)

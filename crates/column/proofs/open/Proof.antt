@@ -3,6 +3,7 @@ use mathlib.Core.Path.{sym, _∙_}
 use native.Mathlib.Omega.{arith}
 use borrow.Author.Needs.{needs}
 use borrow.Author.Tests.{not-true, not-false}
+use Rattle.model.specs.Bounds.{blockLimit}
 use Rattle.model.specs.Questions.{lentChecks}
 use Rattle.model.specs.Lent.{columnOf}
 use Rattle.checks.proofs.Answers.{shape-refusal, carried}
@@ -17,7 +18,7 @@ not-opened-requires : tie.Need-not-opened-requires
 not-opened-requires c κs = search needs
 
 returns : tie.Need-returns
-returns c = let g = c .before .before .before .before .before .before .before .args in let col = columnOf (g .directory .now) (g .g .now) (g .w .now) (g .y .now) in c .not-opened .ensures ∙ opened-lent col (g .d) _ (shape-refusal (lentChecks 64 col) (g .directory .now) (g .d .grower) _ (c .before .before .lent .ensures)) (c .before .if1 .taken)
+returns c = let g = c .before .before .before .before .before .before .before .args in let col = columnOf (g .directory .now) (g .g .now) (g .w .now) (g .y .now) in c .not-opened .ensures ∙ opened-lent blockLimit col (g .d) _ (shape-refusal (lentChecks blockLimit col) (g .directory .now) (g .d .grower) _ (c .before .before .lent .ensures)) (c .before .if1 .taken)
 
 in-range-requires : tie.Need-in-range-requires
 in-range-requires c κs = search needs
@@ -26,7 +27,7 @@ not-opened-requires-2 : tie.Need-not-opened-requires-2
 not-opened-requires-2 c κs = search needs
 
 returns-2 : tie.Need-returns-2
-returns-2 c = let g = c .before .before .before .before .before .before .before .before .before .args in let col = columnOf (g .directory .now) (g .g .now) (g .w .now) (g .y .now) in let w = carried (lentChecks 64 col) (g .directory .now) (g .d .grower) _ (c .before .before .before .before .lent .ensures) (c .before .before .before .if1 .left) in c .not-opened2 .ensures ∙ opened-range col (g .d) (w .passed) (sym (c .before .before .in-range .ensures) ∙ not-true _ (c .before .if2 .taken))
+returns-2 c = let g = c .before .before .before .before .before .before .before .before .before .args in let col = columnOf (g .directory .now) (g .g .now) (g .w .now) (g .y .now) in let w = carried (lentChecks blockLimit col) (g .directory .now) (g .d .grower) _ (c .before .before .before .before .lent .ensures) (c .before .before .before .if1 .left) in c .not-opened2 .ensures ∙ opened-range blockLimit col (g .d) (w .passed) (sym (c .before .before .in-range .ensures) ∙ not-true _ (c .before .if2 .taken))
 
 not-opened-requires-3 : tie.Need-not-opened-requires-3
 not-opened-requires-3 c κs = search needs
@@ -37,8 +38,8 @@ returns-3 c =
     let l = b .before .before .before in
     let g = l .before .before .before .before .before .args in
     let col = columnOf (g .directory .now) (g .g .now) (g .w .now) (g .y .now) in
-    let w = carried (lentChecks 64 col) (g .directory .now) (g .d .grower) _ (l .lent .ensures) (b .before .before .if1 .left) in
-    c .not-opened3 .ensures ∙ opened-full col (g .d) (w .passed) (sym (b .before .in-range .ensures) ∙ not-false _ (b .if2 .left)) (omega (arith, w .used))
+    let w = carried (lentChecks blockLimit col) (g .directory .now) (g .d .grower) _ (l .lent .ensures) (b .before .before .if1 .left) in
+    c .not-opened3 .ensures ∙ opened-full blockLimit col (g .d) (w .passed) (sym (b .before .in-range .ensures) ∙ not-false _ (b .if2 .left)) (omega (arith, w .used))
 
 returns-4 : tie.Need-returns-4
 returns-4 c =
@@ -47,8 +48,8 @@ returns-4 c =
     let z = b .before .before .if1 .left in
     let g = l .before .before .before .before .before .args in
     let col = columnOf (g .directory .now) (g .g .now) (g .w .now) (g .y .now) in
-    let w = carried (lentChecks 64 col) (g .directory .now) (g .d .grower) _ (l .lent .ensures) z in
-    opened-yes col (g .d) (w .passed) (sym (b .before .in-range .ensures) ∙ not-false _ (b .if2 .left)) (omega (arith, w .used)) _ z w
+    let w = carried (lentChecks blockLimit col) (g .directory .now) (g .d .grower) _ (l .lent .ensures) z in
+    opened-yes blockLimit col (g .d) (w .passed) (sym (b .before .in-range .ensures) ∙ not-false _ (b .if2 .left)) (omega (arith, w .used)) _ z (w .used) (w .target) (w .start)
 
 pub open-spec : {M : Type 1} → statement M
 open-spec =

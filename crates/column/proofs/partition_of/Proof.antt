@@ -4,19 +4,20 @@ use mathlib.Core.Path.{ap, _∙_}
 use native.Mathlib.Omega.{arith}
 use borrow.Author.Needs.{needs}
 use mathlib.Core.List.{List}
+use Rattle.model.specs.Bounds.{blockLimit}
 use Rattle.model.specs.Place.{place}
 use Rattle.column.proofs.LentColumns.{dir-size, dir-some, dir-few, dir-fences, dir-count, dir-rises}
 use Rattle.column.proofs.partition_of.Statement.{statement}
 use Rattle.column.proofs.partition_of.Tie as tie
 
 shared-slice-read-f : tie.Need-shared-slice-read-f
-shared-slice-read-f c = let g = c .before .before .args in omega (arith, dir-size (g .directory .now) (c .before .before .pre), dir-few (g .directory .now) (c .before .before .pre))
+shared-slice-read-f c = let g = c .before .before .args in omega (arith, dir-size blockLimit (g .directory .now) (c .before .before .pre), dir-few blockLimit (g .directory .now) (c .before .before .pre))
 
 cast-f : tie.Need-cast-f
-cast-f c = let g = c .before .before .args in omega (arith, dir-size (g .directory .now) (c .before .before .pre), dir-few (g .directory .now) (c .before .before .pre))
+cast-f c = let g = c .before .before .args in omega (arith, dir-size blockLimit (g .directory .now) (c .before .before .pre), dir-few blockLimit (g .directory .now) (c .before .before .pre))
 
 add-f : tie.Need-add-f
-add-f c = let g = c .before .before .args in omega (arith, dir-size (g .directory .now) (c .before .before .pre), dir-few (g .directory .now) (c .before .before .pre))
+add-f c = let g = c .before .before .args in omega (arith, dir-size blockLimit (g .directory .now) (c .before .before .pre), dir-few blockLimit (g .directory .now) (c .before .before .pre))
 
 sub-place-of : tie.Need-sub-place-of
 sub-place-of c = search needs
@@ -25,13 +26,13 @@ part-place-of-start : tie.Need-part-place-of-start
 part-place-of-start c = search needs
 
 part-place-of-end : tie.Need-part-place-of-end
-part-place-of-end c = let g = c .before .before .args in omega (arith, dir-size (g .directory .now) (c .before .before .pre), dir-few (g .directory .now) (c .before .before .pre))
+part-place-of-end c = let g = c .before .before .args in omega (arith, dir-size blockLimit (g .directory .now) (c .before .before .pre), dir-few blockLimit (g .directory .now) (c .before .before .pre))
 
 place-of-requires : tie.Need-place-of-requires
-place-of-requires c κs = let g = c .before .before .before .args in let ns = g .directory .now in rw (dir-fences ns (c .before .before .before .pre)) (omega (arith, dir-count ns (c .before .before .before .pre), dir-some ns (c .before .before .before .pre)), omega (arith, dir-count ns (c .before .before .before .pre), dir-few ns (c .before .before .before .pre)), dir-rises ns (c .before .before .before .pre))
+place-of-requires c κs = let g = c .before .before .before .args in let ns = g .directory .now in rw (dir-fences blockLimit ns (c .before .before .before .pre)) (omega (arith, dir-count blockLimit ns (c .before .before .before .pre), dir-some blockLimit ns (c .before .before .before .pre)), omega (arith, dir-count blockLimit ns (c .before .before .before .pre), dir-few blockLimit ns (c .before .before .before .pre)), dir-rises blockLimit ns (c .before .before .before .pre))
 
 returns : tie.Need-returns
-returns c = let g = c .before .before .before .before .args in c .place-of .ensures ∙ ap (λ (l : List ℕ). place l (g .grower)) (dir-fences (g .directory .now) (c .before .before .before .before .pre))
+returns c = let g = c .before .before .before .before .args in c .place-of .ensures ∙ ap (λ (l : List ℕ). place l (g .grower)) (dir-fences blockLimit (g .directory .now) (c .before .before .before .before .pre))
 
 pub partition-of-spec : {M : Type 1} → statement M
 partition-of-spec =

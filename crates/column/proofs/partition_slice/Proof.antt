@@ -4,6 +4,7 @@ use native.Mathlib.Omega.{arith}
 use borrow.Author.Needs.{needs}
 use Rattle.column.proofs.Handing.{handed-inside, cut-out}
 use Rattle.column.specs.Answers.{partOf}
+use Rattle.model.specs.Bounds.{blockLimit}
 use Rattle.model.specs.declared.PartitionSlice.{PartitionSlice}
 use Rattle.column.proofs.partition_slice.Statement.{statement}
 use Rattle.column.proofs.partition_slice.Tie as tie
@@ -30,7 +31,7 @@ part-result-start : tie.Need-part-result-start
 part-result-start c = search needs
 
 part-result-end : tie.Need-part-result-end
-part-result-end c = let g = (c .before .before .before .before .before .args) in omega (arith, handed-inside (g .directory .now) (g .growers .now) (g .grower) ((c .before .before .partition) .result) ((c .before .before .partition) .ensures))
+part-result-end c = let g = (c .before .before .before .before .before .args) in omega (arith, handed-inside blockLimit (g .directory .now) (g .growers .now) (g .grower) ((c .before .before .partition) .result) ((c .before .before .partition) .ensures))
 
 returns : tie.Need-returns
 returns c =

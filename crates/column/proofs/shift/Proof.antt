@@ -1,6 +1,7 @@
 -- `column::shift` meets its contract. Assumes nothing.
 use native.Mathlib.Omega.{arith}
 use borrow.Author.Needs.{needs}
+use Rattle.model.specs.Bounds.{blockLimit}
 use Rattle.model.specs.Column.{lengthsOf}
 use Rattle.model.specs.Partitions.{oneMore, oneFewer}
 use Rattle.model.specs.Lent.{columnOf}
@@ -16,7 +17,7 @@ shrink-requires : tie.Need-shrink-requires
 shrink-requires c κs = (((c .before .before .before .before .before .before .before .before .before .before .before .before .before .before .before .before .pre) .0 .here), omega (arith, (c .before .before .before .before .before .before .before .before .before .before .before .before .before .before .before .before .pre) .1))
 
 grow-requires : tie.Need-grow-requires
-grow-requires c κs = let g = (c .before .before .before .before .before .before .before .before .before .before .before .before .before .before .before .before .before .before .before .before .args) in rw ((c .before .before .before .shrink) .ensures) (held-after (g .directory .now) (g .from) (g .to) ((c .before .before .before .before .before .before .before .before .before .before .before .before .before .before .before .before .before .before .before .before .pre) .0 .here) (omega (arith, (c .before .before .before .before .before .before .before .before .before .before .before .before .before .before .before .before .before .before .before .before .pre) .1)) ((c .before .before .before .before .before .before .before .before .before .before .before .before .before .before .before .before .before .before .before .before .pre) .2))
+grow-requires c κs = let g = (c .before .before .before .before .before .before .before .before .before .before .before .before .before .before .before .before .before .before .before .before .args) in rw ((c .before .before .before .shrink) .ensures) (held-after blockLimit (g .directory .now) (g .from) (g .to) ((c .before .before .before .before .before .before .before .before .before .before .before .before .before .before .before .before .before .before .before .before .pre) .0 .here) (omega (arith, (c .before .before .before .before .before .before .before .before .before .before .before .before .before .before .before .before .before .before .before .before .pre) .1)) ((c .before .before .before .before .before .before .before .before .before .before .before .before .before .before .before .before .before .before .before .before .pre) .2))
 
 same-length : tie.Need-same-length
 same-length c = search needs
@@ -31,7 +32,7 @@ same-length-4 : tie.Need-same-length-4
 same-length-4 c = search needs
 
 returns : tie.Need-returns
-returns c = let g = (c .before .before .before .before .before .before .before .before .before .before .before .before .before .before .before .before .before .before .before .before .before .before .before .args) in let col = columnOf (g .directory .now) (g .g .now) (g .w .now) (g .y .now) in let e = (c .before .before .before .before .before .before .before .before .before .before .before .before .before .before .shift-slots) .ensures in column-is (moved (lengthsOf 64 col) (g .from) (g .slot) (g .to)) (g .d) (oneMore (g .to) (oneFewer (g .from) (lengthsOf 64 col))) col _ _ _ _ (twice (g .directory .now) (g .from) (g .to) ((c .before .before .before .before .before .before .before .before .before .before .before .before .before .before .before .before .before .before .before .before .before .before .before .pre) .0 .here) (omega (arith, (c .before .before .before .before .before .before .before .before .before .before .before .before .before .before .before .before .before .before .before .before .before .before .before .pre) .1)) _ _ ((c .before .before .before .before .before .before .shrink) .ensures) ((c .before .before .grow) .ensures)) (e .0) (e .1) (e .2)
+returns c = let g = (c .before .before .before .before .before .before .before .before .before .before .before .before .before .before .before .before .before .before .before .before .before .before .before .args) in let col = columnOf (g .directory .now) (g .g .now) (g .w .now) (g .y .now) in let e = (c .before .before .before .before .before .before .before .before .before .before .before .before .before .before .shift-slots) .ensures in column-is (moved (lengthsOf blockLimit col) (g .from) (g .slot) (g .to)) (g .d) (oneMore (g .to) (oneFewer (g .from) (lengthsOf blockLimit col))) col _ _ _ _ (twice blockLimit (g .directory .now) (g .from) (g .to) ((c .before .before .before .before .before .before .before .before .before .before .before .before .before .before .before .before .before .before .before .before .before .before .before .pre) .0 .here) (omega (arith, (c .before .before .before .before .before .before .before .before .before .before .before .before .before .before .before .before .before .before .before .before .before .before .before .pre) .1)) _ _ ((c .before .before .before .before .before .before .shrink) .ensures) ((c .before .before .grow) .ensures)) (e .0) (e .1) (e .2)
 
 pub shift-spec : {M : Type 1} → statement M
 shift-spec =

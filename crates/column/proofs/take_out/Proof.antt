@@ -1,25 +1,25 @@
 -- `column::take_out` meets its contract. Assumes nothing.
 use native.Mathlib.Omega.{arith}
 use borrow.Author.Needs.{needs}
+use Rattle.model.specs.Bounds.{blockLimit}
 use Rattle.model.specs.Column.{lengthsOf}
 use Rattle.model.specs.Partitions.{oneFewer}
 use Rattle.model.specs.Lent.{columnOf}
-use Rattle.column.proofs.LentColumns.{dir-size, dir-few}
 use Rattle.column.proofs.Writing.{column-is}
 use Rattle.model.specs.Moves.{deleted}
 use Rattle.model.specs.ColumnCalls.{freed}
-use Rattle.column.proofs.LentColumns.{dir-lengths, dir-many}
+use Rattle.column.proofs.LentColumns.{dir-size, dir-few, dir-lengths, dir-many}
 use Rattle.column.proofs.take_out.Statement.{statement}
 use Rattle.column.proofs.take_out.Tie as tie
 
 slice-read-l : tie.Need-slice-read-l
-slice-read-l c = let g = (c .before .before .before .before .before .args) in omega (arith, dir-size (g .directory .now) (((c .before .before .before .before .before .pre) .0 .here) .shaped), dir-few (g .directory .now) (((c .before .before .before .before .before .pre) .0 .here) .shaped))
+slice-read-l c = let g = (c .before .before .before .before .before .args) in omega (arith, dir-size blockLimit (g .directory .now) (((c .before .before .before .before .before .pre) .0 .here) .shaped), dir-few blockLimit (g .directory .now) (((c .before .before .before .before .before .pre) .0 .here) .shaped))
 
 cast-l : tie.Need-cast-l
-cast-l c = let g = (c .before .before .before .before .before .args) in omega (arith, dir-size (g .directory .now) (((c .before .before .before .before .before .pre) .0 .here) .shaped), dir-few (g .directory .now) (((c .before .before .before .before .before .pre) .0 .here) .shaped))
+cast-l c = let g = (c .before .before .before .before .before .args) in omega (arith, dir-size blockLimit (g .directory .now) (((c .before .before .before .before .before .pre) .0 .here) .shaped), dir-few blockLimit (g .directory .now) (((c .before .before .before .before .before .pre) .0 .here) .shaped))
 
 add-l : tie.Need-add-l
-add-l c = let g = (c .before .before .before .before .before .args) in omega (arith, dir-size (g .directory .now) (((c .before .before .before .before .before .pre) .0 .here) .shaped), dir-few (g .directory .now) (((c .before .before .before .before .before .pre) .0 .here) .shaped))
+add-l c = let g = (c .before .before .before .before .before .args) in omega (arith, dir-size blockLimit (g .directory .now) (((c .before .before .before .before .before .pre) .0 .here) .shaped), dir-few blockLimit (g .directory .now) (((c .before .before .before .before .before .pre) .0 .here) .shaped))
 
 sub-delete-slots : tie.Need-sub-delete-slots
 sub-delete-slots c = search needs
@@ -28,10 +28,10 @@ part-delete-slots-start : tie.Need-part-delete-slots-start
 part-delete-slots-start c = search needs
 
 part-delete-slots-end : tie.Need-part-delete-slots-end
-part-delete-slots-end c = let g = (c .before .before .before .before .before .before .before .before .before .args) in omega (arith, dir-size (g .directory .now) (((c .before .before .before .before .before .before .before .before .before .pre) .0 .here) .shaped), dir-few (g .directory .now) (((c .before .before .before .before .before .before .before .before .before .pre) .0 .here) .shaped))
+part-delete-slots-end c = let g = (c .before .before .before .before .before .before .before .before .before .args) in omega (arith, dir-size blockLimit (g .directory .now) (((c .before .before .before .before .before .before .before .before .before .pre) .0 .here) .shaped), dir-few blockLimit (g .directory .now) (((c .before .before .before .before .before .before .before .before .before .pre) .0 .here) .shaped))
 
 delete-slots-requires : tie.Need-delete-slots-requires
-delete-slots-requires c κs = let g = (c .before .before .before .before .before .before .before .before .before .before .args) in let m = dir-many (g .directory .now) (((c .before .before .before .before .before .before .before .before .before .before .pre) .0 .here) .shaped) in rw (dir-lengths (g .directory .now) (((c .before .before .before .before .before .before .before .before .before .before .pre) .0 .here) .shaped)) (omega (arith, m, ((c .before .before .before .before .before .before .before .before .before .before .pre) .0 .here) .there), (c .before .before .before .before .before .before .before .before .before .before .pre) .0 .start, (c .before .before .before .before .before .before .before .before .before .before .pre) .1, (c .before .before .before .before .before .before .before .before .before .before .pre) .0 .room, (c .before .before .before .before .before .before .before .before .before .before .pre) .0 .even)
+delete-slots-requires c κs = let g = (c .before .before .before .before .before .before .before .before .before .before .args) in let m = dir-many blockLimit (g .directory .now) (((c .before .before .before .before .before .before .before .before .before .before .pre) .0 .here) .shaped) in rw (dir-lengths blockLimit (g .directory .now) (((c .before .before .before .before .before .before .before .before .before .before .pre) .0 .here) .shaped)) (omega (arith, m, ((c .before .before .before .before .before .before .before .before .before .before .pre) .0 .here) .there), (c .before .before .before .before .before .before .before .before .before .before .pre) .0 .start, (c .before .before .before .before .before .before .before .before .before .before .pre) .1, (c .before .before .before .before .before .before .before .before .before .before .pre) .0 .room, (c .before .before .before .before .before .before .before .before .before .before .pre) .0 .even)
 
 shrink-requires : tie.Need-shrink-requires
 shrink-requires c κs = let g = (c .before .before .before .before .before .before .before .before .before .before .before .before .before .before .before .before .before .before .args) in (((c .before .before .before .before .before .before .before .before .before .before .before .before .before .before .before .before .before .before .pre) .0 .here), omega (arith, (c .before .before .before .before .before .before .before .before .before .before .before .before .before .before .before .before .before .before .pre) .1))
@@ -49,7 +49,7 @@ same-length-4 : tie.Need-same-length-4
 same-length-4 c = search needs
 
 returns : tie.Need-returns
-returns c = let g = (c .before .before .before .before .before .before .before .before .before .before .before .before .before .before .before .before .before .before .before .before .before .args) in let col = columnOf (g .directory .now) (g .g .now) (g .w .now) (g .y .now) in let e = rw (dir-lengths (g .directory .now) (((c .before .before .before .before .before .before .before .before .before .before .before .before .before .before .before .before .before .before .before .before .before .pre) .0 .here) .shaped)) at ((c .before .before .before .before .before .before .before .before .before .before .delete-slots) .ensures) in column-is (deleted (lengthsOf 64 col) (g .partition) (g .slot)) freed (oneFewer (g .partition) (lengthsOf 64 col)) col _ _ _ _ ((c .before .before .shrink) .ensures) (e .0) (e .1) (e .2)
+returns c = let g = (c .before .before .before .before .before .before .before .before .before .before .before .before .before .before .before .before .before .before .before .before .before .args) in let col = columnOf (g .directory .now) (g .g .now) (g .w .now) (g .y .now) in let e = rw (dir-lengths blockLimit (g .directory .now) (((c .before .before .before .before .before .before .before .before .before .before .before .before .before .before .before .before .before .before .before .before .before .pre) .0 .here) .shaped)) at ((c .before .before .before .before .before .before .before .before .before .before .delete-slots) .ensures) in column-is (deleted (lengthsOf blockLimit col) (g .partition) (g .slot)) freed (oneFewer (g .partition) (lengthsOf blockLimit col)) col _ _ _ _ ((c .before .before .shrink) .ensures) (e .0) (e .1) (e .2)
 
 pub take-out-spec : {M : Type 1} → statement M
 take-out-spec =
