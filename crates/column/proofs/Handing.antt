@@ -19,8 +19,9 @@ use Rattle.model.proofs.Tests.{and-snd, yes-first}
 use Rattle.model.proofs.Places.{placed}
 use Rattle.model.proofs.Parts.{stop-le}
 use Rattle.model.proofs.DirectoryLaws.{Shaped, shaped, shaped-passes}
-use Rattle.column.specs.Answers.{InDirectory, Part, partOf}
-use Rattle.column.proofs.LentColumns.{dir-some, dir-count, dir-many}
+use Rattle.column.specs.Answers.{Part, partOf}
+use Rattle.directory.specs.Numbers.{HasPartition}
+use Rattle.directory.proofs.Numbers.{dir-some, dir-count, dir-many}
 
 module _ (L : ℕ) where
   module _ (ns gs : List ℕ) (g : ℕ) where
@@ -50,7 +51,7 @@ module _ (L : ℕ) where
           let s = shape .0 in
           shaped-passes L mostSlots ns (record { size = s .size; some = s .some; few = s .few; unused = s .unused; rises = s .rises; room = omega (arith, s .room, shape .1) })
 
-      pub partition-held : InDirectory L ns t
+      pub partition-held : HasPartition L ns t
       partition-held = record {
         shaped = partition-directory;
         there = omega (arith, placed (directoryOf L ns .fences) g (omega (arith, dir-count L ns partition-directory, dir-some L ns partition-directory)) .within, dir-count L ns partition-directory);

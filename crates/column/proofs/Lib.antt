@@ -1,5 +1,4 @@
 -- What each test of a call shows of its answer.
-pub mod LentColumns
 pub mod Answering
 pub mod Reading
 pub mod Searching

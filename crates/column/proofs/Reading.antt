@@ -28,8 +28,9 @@ use Rattle.model.proofs.Parts.{stop-le}
 use Rattle.scan.specs.declared.Scan.{Scan}
 use Rattle.scan.specs.Scans.{badScan, recordsIn, scanOf}
 use Rattle.scan.proofs.Blocks.{blocks-least}
-use Rattle.column.specs.Answers.{withoutTotals, InDirectory}
-use Rattle.column.proofs.LentColumns.{LentColumn, lent-column, count-lengths, count-fences, held}
+use Rattle.column.specs.Answers.{withoutTotals}
+use Rattle.directory.specs.Numbers.{HasPartition}
+use Rattle.directory.proofs.LentColumns.{LentColumn, lent-column, count-lengths, count-fences, has-partition}
 use Rattle.column.proofs.Answering.{lent-yes, refused-call, accepted-call}
 
 -- what a scan that came out good or bad says
@@ -113,8 +114,8 @@ module _ (L : ℕ) where
     pub even : Even (c .growers) (c .weights) (c .yields)
 
   module _ (c : Column) (g : ℕ) (h : firstFailed (lentChecks L c) ≡ 0) (t a : ℕ) (et : t ≡ target L c g) (ea : a ≡ startOf (lengthsOf L c) (target L c g)) where
-    pub near-held : InDirectory L (c .directory) t
-    near-held = rw et (held L c (lent-column L c h) (target L c g) (target-there c h g))
+    pub near-held : HasPartition L (c .directory) t
+    near-held = rw et (has-partition L c (lent-column L c h) (target L c g) (target-there c h g))
 
     pub near : (n : ℕ) → n ≡ getD (lengthsOf L c) t 0 → Near c g a n
     near n e =

@@ -22,10 +22,10 @@ use Rattle.model.specs.Questions.{lentChecks, callChecks}
 use Rattle.model.specs.ColumnCalls.{columnRefusal}
 use Rattle.model.proofs.Parts.{between-one, part-parts, length-part}
 use Rattle.model.proofs.Deliveries.{rows-part, length-rows, values-rows, first-among}
-use Rattle.checks.specs.Lent.{allValuesOk}
+use Rattle.checks.specs.Values.{allValuesOk}
 use Rattle.column.specs.declared.Located.{Located}
 use Rattle.column.specs.Answers.{notLocated, searchedOf, locatedOf}
-use Rattle.column.proofs.LentColumns.{LentColumn, lent-column}
+use Rattle.directory.proofs.LentColumns.{LentColumn, lent-column}
 use Rattle.column.proofs.Answering.{lent-yes, lent-refusal}
 use Rattle.column.proofs.Reading.{target-there}
 

@@ -27,17 +27,14 @@ use Rattle.model.proofs.AccessLaws.{reads-small}
 use Rattle.model.proofs.MovesLengths.{sum-oneFewer}
 use Rattle.model.specs.Lent.{columnOf}
 use Rattle.column.specs.declared.Located.{Located}
-use Rattle.checks.specs.declared.Shape.{Shape}
-use Rattle.checks.specs.Lent.{notShaped}
-use Rattle.column.specs.Answers.{withoutTotals, locatedOf, openedOf, InDirectory, Ready, putOf, takenOf, shiftedOf}
-use Rattle.column.proofs.LentColumns.{lent-column, held}
+use Rattle.directory.specs.declared.Shape.{Shape}
+use Rattle.directory.specs.Shapes.{notShaped}
+use Rattle.column.specs.Answers.{withoutTotals, locatedOf, openedOf, Ready, putOf, takenOf, shiftedOf}
+use Rattle.directory.specs.Numbers.{HasPartition}
+use Rattle.directory.proofs.LentColumns.{lent-column, has-partition}
 use Rattle.column.proofs.Answering.{lent-yes, lent-refusal, refused-call, accepted-lent, accepted-call}
 use Rattle.column.proofs.Reading.{target-there}
 use Rattle.column.proofs.Searching.{among-match, near-length, refusal-is}
-
-set-in-front : (l : List ℕ) (k t v : ℕ) → t < k → k ≤ length l → set l t v ≡ set (take k l) t v ++ drop k l
-set-in-front l k t v h m =
-    ap (λ (x : List ℕ). set x t v) (sym (take-append-drop k l)) ∙ set-append-left (take k l) (drop k l) t v (omega (arith, length-take-le k l m))
 
 -- two changes of the lengths are the last one
 with-with : (a b ns : List ℕ) → 2 ≤ length ns → length a ≡ length b → withLengths a (withLengths b ns) ≡ withLengths a ns
@@ -66,17 +63,8 @@ column-is f d ls c ns g w y en eg ew ey = rw (en, eg, ew, ey)
 
 module _ (L : ℕ) where
   -- One length changed.
-  pub set-length : (ns : List ℕ) (t v : ℕ) → length ns ≡ directorySize L → getD ns 1 0 ≤ L → t < getD ns 1 0 → set ns (2 + t) v ≡ withLengths (set (directoryOf L ns .lengths) t v) ns
-  unfolding withLengths directoryOf
-  set-length [] t v e h k = let z : ⊥ = omega arith in absurd z
-  set-length (b ∷ []) t v e h k = let z : ⊥ = omega arith in absurd z
-  set-length (b ∷ c ∷ r) t v e h k =
-      let q : 2 + t ≡ suc (suc t) = omega arith in
-      let n : length (set (take c r) t v) ≡ c = length-set (take c r) t v ∙ length-take-le c r (omega arith) in
-      ap (λ (m : ℕ). set (b ∷ c ∷ r) m v) q ∙ ap (λ (l : List ℕ). b ∷ c ∷ l) (set-in-front r c t v k (omega arith) ∙ ap (λ (m : ℕ). set (take c r) t v ++ drop m r) (sym n))
-
   -- a directory after one length has fallen
-  module _ (ns : List ℕ) (t u : ℕ) (h : InDirectory L ns t) (k : 1 ≤ getD (directoryOf L ns .lengths) t 0) where
+  module _ (ns : List ℕ) (t u : ℕ) (h : HasPartition L ns t) (k : 1 ≤ getD (directoryOf L ns .lengths) t 0) where
     s : Shaped L mostSlots ns
     s = shaped L mostSlots ns (h .shaped)
 
@@ -94,7 +82,7 @@ module _ (L : ℕ) where
     changed : Kept L (oneFewer t ls) ns
     changed = with-lengths L (oneFewer t ls) ns (s .size) (length-set ls t (getD ls t 0 - 1) ∙ count) (s .few)
 
-    pub held-after : u < partitionCount L ns → InDirectory L (withLengths (oneFewer t (directoryOf L ns .lengths)) ns) u
+    pub held-after : u < partitionCount L ns → HasPartition L (withLengths (oneFewer t (directoryOf L ns .lengths)) ns) u
     unfolding ls
     held-after m = record {
       shaped = shaped-passes L mostSlots _ (shaped-with L mostSlots (oneFewer t ls) ns s (length-set ls t (getD ls t 0 - 1) ∙ count) (omega (arith, fewer, s .room)));
@@ -141,7 +129,7 @@ module _ (L : ℕ) where
   pub ready : (c : Column) (g : ℕ) → firstFailed (lentChecks L c) ≡ 0 → Ready L c (target L c g) (startOf (lengthsOf L c) (target L c g))
   ready c g h =
       let l = lent-column L c h in
-      record { here = held L c l (target L c g) (target-there L c h g); start = refl; room = l .shape .room; even = l .even }
+      record { here = has-partition L c l (target L c g) (target-there L c h g); start = refl; room = l .shape .room; even = l .even }
 
   module _ (c : Column) (d : Delivery) where
     -- an insert is refused by 2, 3, 6, 8 or 12

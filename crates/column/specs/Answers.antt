@@ -20,8 +20,9 @@ use Rattle.model.specs.Lent.{Even}
 use Rattle.model.specs.Column.{Column, lengthsOf, target}
 use Rattle.model.specs.Accesses.{noCounts, blocksOf, readsOf, scanNear}
 use Rattle.model.specs.ColumnCalls.{columnRefusal, slotOf, freed, moveSlices}
-use Rattle.checks.specs.declared.Shape.{Shape}
-use Rattle.checks.specs.Lent.{notShaped}
+use Rattle.directory.specs.declared.Shape.{Shape}
+use Rattle.directory.specs.Shapes.{notShaped}
+use Rattle.directory.specs.Numbers.{HasPartition}
 use Rattle.column.specs.declared.Located.{Located}
 
 -- an answer that has no totals
@@ -52,14 +53,9 @@ module _ (L : ℕ) where
       (record { refusal = 0; target = t; start = startOf (lengthsOf L c) t; slot = slotOf L c d; counts = k })
       (notLocated n (cond (eqb n 13) k noCounts))
 
-  -- partition t of a directory for at most 262,144 slots
-  pub record InDirectory (ns : List ℕ) (t : ℕ) : Type 0 where
-    pub shaped : T (directoryOk L mostSlots ns)
-    pub there : t < partitionCount L ns
-
   -- a column of proper shape, and partition t of it, which starts at a
   pub record Ready (c : Column) (t a : ℕ) : Type 0 where
-    pub here : InDirectory (c .directory) t
+    pub here : HasPartition L (c .directory) t
     pub start : a ≡ startOf (lengthsOf L c) t
     pub room : sumOf (lengthsOf L c) ≤ length (c .growers)
     pub even : Even (c .growers) (c .weights) (c .yields)

@@ -17,17 +17,12 @@ ghost use Rattle.model.specs.Accesses.{noCounts, andAlso, onward, apart};
 ghost use Rattle.model.specs.Questions.{lentChecks};
 ghost use Rattle.model.specs.ColumnCalls.{columnCall, partitionCall};
 ghost use Rattle.model.specs.Lent.{columnOf, columnIn, columnOut, Even};
-ghost use Rattle.checks.specs.Lent.{notShaped};
 ghost use Rattle.column.specs.Answers.{withoutTotals, notLocated, searchedOf, locatedOf, openedOf, partOf};
-ghost use Rattle.column.specs.Answers.{InDirectory, Ready, putOf, takenOf, shiftedOf};
-use checks::Shape;
+ghost use Rattle.column.specs.Answers.{Ready, putOf, takenOf, shiftedOf};
+use directory::Shape;
 use model::Answer;
-use model::BLOCK;
-use model::COUNT;
 use model::Counts;
 use model::Delivery;
-use model::FENCES;
-use model::LENGTHS;
 use model::PartitionSlice;
 use model::Totals;
 
@@ -50,32 +45,6 @@ fn refused(refusal: u32) -> Answer
     without_totals(refusal, Counts::none())
 }
 
-// A grower's partition.
-fn partition_of(directory: &[u32], grower: u32) -> usize
-    requires { ⌜ T (directoryOk blockLimit mostSlots (now directory)) ⌝ }
-    ensures { λ r. ⌜ r ≡ place (directoryOf blockLimit (now (directory .entry)) .fences) grower ⌝ }
-{
-    let f = FENCES + directory[COUNT] as usize;
-    slices::place_of(&directory[FENCES..f], grower)
-}
-
-// The slot at which a partition starts.
-fn start_of(directory: &[u32], partition: usize) -> usize
-    requires { ⌜ InDirectory blockLimit (now directory) partition ⌝ }
-    ensures { λ r. ⌜ r ≡ startOf (directoryOf blockLimit (now (directory .entry)) .lengths) partition ⌝ }
-{
-    let e = LENGTHS + partition;
-    slices::total(&directory[LENGTHS..e]) as usize
-}
-
-// How many records a partition has.
-fn length_of(directory: &[u32], partition: usize) -> usize
-    requires { ⌜ InDirectory blockLimit (now directory) partition ⌝ }
-    ensures { λ r. ⌜ r ≡ getD (directoryOf blockLimit (now (directory .entry)) .lengths) partition 0 ⌝ }
-{
-    directory[LENGTHS + partition] as usize
-}
-
 // The partitions from lo's, which begins at start, to hi's, once checks 2, 3, 6 and 7 are passed.
 fn read(
     directory: &[u32],
@@ -92,17 +61,16 @@ fn read(
         × (start ≡ startOf (directoryOf blockLimit (now directory) .lengths) from) ⌝ }
     ensures { λ r. ⌜ r ≡ columnCall blockLimit (columnIn directory g w y) (range lo hi) .answer ⌝ }
 {
-    let l = LENGTHS + directory[COUNT] as usize;
-    let to = partition_of(directory, hi);
+    let to = directory::partition_of(directory, hi);
     let s = scan::scan_parts(
         g,
         w,
         y,
-        &directory[LENGTHS..l],
+        directory::lengths(directory),
         from,
         to,
         start,
-        directory[BLOCK],
+        directory::block(directory),
         lo,
         hi,
     );
@@ -129,7 +97,7 @@ pub fn range(
 ) -> Answer
     ensures { λ r. ⌜ r ≡ columnCall blockLimit (columnIn directory growers weights yields) (range lo hi) .answer ⌝ }
 {
-    let shape = checks::lent(directory, growers, weights, yields, lo);
+    let shape = directory::lent(directory, growers, weights, yields, lo);
     let n = shape.refusal;
     if n != 0 {
         return refused(n);
@@ -225,7 +193,7 @@ fn search_part(
 fn locate(directory: &[u32], g: &[u32], w: &[u32], y: &[u32], d: Delivery) -> Located
     ensures { λ r. ⌜ r ≡ locatedOf blockLimit (columnIn directory g w y) d ⌝ }
 {
-    let shape = checks::lent(directory, g, w, y, d.grower);
+    let shape = directory::lent(directory, g, w, y, d.grower);
     let n = shape.refusal;
     if n != 0 {
         return not_located(n);
@@ -235,66 +203,34 @@ fn locate(directory: &[u32], g: &[u32], w: &[u32], y: &[u32], d: Delivery) -> Lo
     }
     let t = shape.target;
     let a = shape.start;
-    let e = a + length_of(directory, t);
-    search_part(&g[a..e], &w[a..e], &y[a..e], directory[BLOCK], t, a, d)
-}
-
-// One more record in a partition.
-fn grow(directory: &mut [u32], partition: usize)
-    requires { ⌜ InDirectory blockLimit (now directory) partition ⌝ }
-    ensures { λ r. ⌜ now (directory .exit)
-        ≡ withLengths (oneMore partition (directoryOf blockLimit (now (directory .entry)) .lengths)) (now (directory .entry)) ⌝ }
-{
-    let i = LENGTHS + partition;
-    directory[i] = directory[i] + 1;
-}
-
-// One record fewer in a partition.
-fn shrink(directory: &mut [u32], partition: usize)
-    requires { ⌜ InDirectory blockLimit (now directory) partition × (1 ≤ getD (directoryOf blockLimit (now directory) .lengths) partition 0) ⌝ }
-    ensures { λ r. ⌜ now (directory .exit)
-        ≡ withLengths (oneFewer partition (directoryOf blockLimit (now (directory .entry)) .lengths)) (now (directory .entry)) ⌝ }
-{
-    let i = LENGTHS + partition;
-    directory[i] = directory[i] - 1;
-}
-
-// Why an insert is refused.
-fn not_opened(refusal: u32) -> Shape
-    ensures { λ r. ⌜ r ≡ notShaped refusal ⌝ }
-{
-    Shape {
-        refusal,
-        target: 0,
-        start: 0,
-        used: 0,
-    }
+    let e = a + directory::length_of(directory, t);
+    search_part(
+        &g[a..e],
+        &w[a..e],
+        &y[a..e],
+        directory::block(directory),
+        t,
+        a,
+        d,
+    )
 }
 
 // Checks 2, 3, 6, 8 and 12 of an insert: where it goes, or why it is refused.
 fn open(directory: &[u32], g: &[u32], w: &[u32], y: &[u32], d: Delivery) -> Shape
     ensures { λ r. ⌜ r ≡ openedOf blockLimit (columnIn directory g w y) d ⌝ }
 {
-    let shape = checks::lent(directory, g, w, y, d.grower);
+    let shape = directory::lent(directory, g, w, y, d.grower);
     let n = shape.refusal;
     if n != 0 {
-        return not_opened(n);
+        return directory::refused(n);
     }
     if !checks::in_range(d) {
-        return not_opened(8);
+        return directory::refused(8);
     }
     if g.len() <= shape.used {
-        return not_opened(12);
+        return directory::refused(12);
     }
     shape
-}
-
-// How many partitions there are from one to the last.
-fn onward(directory: &[u32], partition: usize) -> u64
-    requires { ⌜ InDirectory blockLimit (now directory) partition ⌝ }
-    ensures { λ r. ⌜ r ≡ onward (directoryOf blockLimit (now (directory .entry))) partition ⌝ }
-{
-    (directory[COUNT] as usize - partition) as u64
 }
 
 // The slots and the length of an insert into a partition, which begins at start.
@@ -314,9 +250,17 @@ fn put(
     ensures { λ r. ⌜ columnOut directory g w y
         ≡ putOf blockLimit (columnIn directory g w y) partition d ⌝ }
 {
-    let l = LENGTHS + directory[COUNT] as usize;
-    ripple::insert_slots(g, w, y, &directory[LENGTHS..l], partition, start, used, d);
-    grow(directory, partition);
+    ripple::insert_slots(
+        g,
+        w,
+        y,
+        directory::lengths(directory),
+        partition,
+        start,
+        used,
+        d,
+    );
+    directory::grow(directory, partition);
 }
 
 // The slots and the length of a delete of a slot of a partition, which begins at start.
@@ -334,7 +278,6 @@ fn take_out(
     ensures { λ r. ⌜ columnOut directory g w y
         ≡ takenOf blockLimit (columnIn directory g w y) partition slot ⌝ }
 {
-    let l = LENGTHS + directory[COUNT] as usize;
     let freed = Delivery {
         grower: 0,
         weight: 0,
@@ -344,13 +287,13 @@ fn take_out(
         g,
         w,
         y,
-        &directory[LENGTHS..l],
+        directory::lengths(directory),
         partition,
         start,
         slot,
         freed,
     );
-    shrink(directory, partition);
+    directory::shrink(directory, partition);
 }
 
 // The slots of a move: a slot's record goes from one partition to another, as d.
@@ -372,13 +315,12 @@ fn shift_slots(
         × (now (w .exit) ≡ moved (directoryOf blockLimit (now (directory .entry)) .lengths) from slot to (d .weight) (now (w .entry)))
         × (now (y .exit) ≡ moved (directoryOf blockLimit (now (directory .entry)) .lengths) from slot to (d .«oil_yield») (now (y .entry))) ⌝ }
 {
-    let l = LENGTHS + directory[COUNT] as usize;
     if from <= to {
         ripple::forward_slots(
             g,
             w,
             y,
-            &directory[LENGTHS..l],
+            directory::lengths(directory),
             from,
             from_start,
             slot,
@@ -387,12 +329,12 @@ fn shift_slots(
         );
         return;
     }
-    let to_start = start_of(directory, to);
+    let to_start = directory::start_of(directory, to);
     ripple::backward_slots(
         g,
         w,
         y,
-        &directory[LENGTHS..l],
+        directory::lengths(directory),
         from,
         from_start,
         slot,
@@ -421,8 +363,8 @@ fn shift(
         ≡ shiftedOf blockLimit (columnIn directory g w y) from slot to d ⌝ }
 {
     shift_slots(directory, g, w, y, from, from_start, slot, to, d);
-    shrink(directory, from);
-    grow(directory, to);
+    directory::shrink(directory, from);
+    directory::grow(directory, to);
 }
 
 // A scan's counts, and random reads and random writes more.
@@ -454,7 +396,7 @@ pub fn insert(
         return refused(n);
     }
     let t = o.target;
-    let each = 1 + onward(directory, t);
+    let each = 1 + directory::onward(directory, t);
     let counts = Counts {
         rr: each,
         sr: 0,
@@ -481,7 +423,7 @@ pub fn delete(
         return without_totals(f.refusal, s);
     }
     let t = f.target;
-    let n = onward(directory, t);
+    let n = directory::onward(directory, t);
     let counts = with_more(s, n, 1 + n);
     take_out(directory, growers, weights, yields, t, f.start, f.slot);
     without_totals(0, counts)
@@ -515,7 +457,7 @@ pub fn move_delivery(
         return without_totals(f.refusal, s);
     }
     let t = f.target;
-    let u = partition_of(directory, new_grower);
+    let u = directory::partition_of(directory, new_grower);
     let n = apart(t, u);
     let counts = with_more(s, 1 + n, 2 + n);
     let moved = Delivery {
@@ -551,13 +493,13 @@ fn no_partition(refusal: u32) -> PartitionSlice
 pub fn partition(directory: &[u32], growers: &[u32], grower: u32) -> PartitionSlice
     ensures { λ r. ⌜ r ≡ partitionCall blockLimit (now (directory .entry)) (now (growers .entry)) grower ⌝ }
 {
-    let shape = checks::lent_growers(directory, growers, grower);
+    let shape = directory::lent_growers(directory, growers, grower);
     let n = shape.refusal;
     if n != 0 {
         return no_partition(n);
     }
     let start = shape.start;
-    let count = length_of(directory, shape.target);
+    let count = directory::length_of(directory, shape.target);
     PartitionSlice {
         refusal: 0,
         start: start as u32,

@@ -1,6 +1,6 @@
 -- A directory that passes 6: its lengths, its fences, a partition's start and length, and one number stored. Assumes nothing.
 use Prim.Native.Nat.{ℕ, suc, _+_, _-_, _≤_, _<_}
-use mathlib.Core.Path.{_≡_, sym, ap, _∙_}
+use mathlib.Core.Path.{_≡_, refl, sym, ap, _∙_}
 use mathlib.Core.List.{List, [], _∷_, _++_}
 use native.Mathlib.Omega.{arith}
 use lib.Dec.{T}
@@ -9,11 +9,12 @@ use lib.Seq.{take-take, getD-take, getD-drop, length-take-le, set-append-left}
 use Rattle.model.specs.Bounds.{mostSlots}
 use Rattle.model.specs.Lists.{sumOf, rising}
 use Rattle.model.specs.Partitions.{startOf}
+use Rattle.model.specs.Accesses.{onward}
 use Rattle.model.specs.Directory.{directorySize, directoryOf, directoryOk, withLengths}
 use Rattle.model.proofs.DirectoryLaws.{Shaped, shaped, length-lengths, length-fences}
 use Rattle.model.proofs.ListLaws.{elem-le}
 use Rattle.model.proofs.Parts.{start-le}
-use Rattle.directory.specs.Numbers.{HasPartition}
+use Rattle.directory.specs.Numbers.{Numbered, HasPartition}
 use Rattle.directory.proofs.Judging.{lengths-part, fences-part}
 
 module _ (L : ℕ) (ns : List ℕ) (o : T (directoryOk L mostSlots ns)) where
@@ -61,6 +62,11 @@ module _ (L : ℕ) (ns : List ℕ) (o : T (directoryOk L mostSlots ns)) where
   pub dir-fits : (t : ℕ) → getD (directoryOf L ns .lengths) t 0 ≤ mostSlots
   dir-fits t = omega (arith, elem-le (directoryOf L ns .lengths) t, dir .room)
 
+-- the block length is the first number
+pub block-is : (L : ℕ) (ns : List ℕ) → directoryOf L ns .block ≡ getD ns 0 0
+unfolding directoryOf
+block-is L ns = refl
+
 -- A length stored.
 
 set-in-front : (l : List ℕ) (k t v : ℕ) → t < k → k ≤ length l → set l t v ≡ set (take k l) t v ++ drop k l
@@ -82,8 +88,17 @@ module _ (L : ℕ) (ns : List ℕ) (t : ℕ) (h : HasPartition L ns t) where
   pub has-size : length ns ≡ directorySize L
   has-size = dir-size L ns (h .shaped)
 
+  pub has-numbered : Numbered L ns
+  has-numbered = record { size = has-size; few = dir-few L ns (h .shaped) }
+
+  pub has-inside : t < length (directoryOf L ns .lengths)
+  has-inside = omega (arith, h .there, dir-many L ns (h .shaped))
+
   pub has-room : t < L
   has-room = omega (arith, h .there, dir-few L ns (h .shaped))
+
+  pub has-onward : onward (directoryOf L ns) t ≤ L
+  has-onward = omega (arith, dir-count L ns (h .shaped), dir-few L ns (h .shaped))
 
   pub has-length : getD ns (2 + t) 0 ≡ getD (directoryOf L ns .lengths) t 0
   has-length = dir-length L ns (h .shaped) t (h .there)

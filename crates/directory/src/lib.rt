@@ -26,7 +26,8 @@ pub struct Shape {
     pub start: usize,
 }
 
-fn refused(n: u32) -> Shape
+// A refusal.
+pub fn refused(n: u32) -> Shape
     ensures { λ r. ⌜ r ≡ notShaped n ⌝ }
 {
     Shape {

@@ -20,7 +20,7 @@ use Rattle.model.proofs.Tests.{and-fst, and-snd, of-true}
 use Rattle.model.proofs.ListLaws.{sum-append, sum-cut, sum-take-le, flatten-append, every-joined}
 use Rattle.model.proofs.Parts.{flatten-parts, take-parts, drop-parts, part-parts, length-parts, length-part, start-next}
 use Rattle.model.proofs.Deliveries.{values-rows, rows-part}
-use Rattle.checks.specs.Lent.{allValuesOk}
+use Rattle.checks.specs.Values.{allValuesOk}
 use Rattle.scan.specs.declared.Scan.{Scan}
 use Rattle.slices.specs.Slices.{Measured}
 use Rattle.slices.proofs.Sums.{totals-joined, totals-light}

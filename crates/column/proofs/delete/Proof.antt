@@ -1,20 +1,33 @@
--- `column::delete` meets its contract. Assumes nothing.
-use Prim.Native.Nat.{ℕ}
+-- `column::delete` meets its contract: refused by its checks or its search, or taken out where the search found it. Assumes nothing.
 use mathlib.Core.Path.{ap, ap₂, _∙_}
-use native.Mathlib.Omega.{arith}
 use borrow.Author.Needs.{needs}
-use Rattle.model.specs.Bounds.{blockLimit}
-use Rattle.model.specs.Column.{target}
-use Rattle.model.specs.Directory.{directoryOf}
+use native.Mathlib.Omega.{arith}
+use Prim.Native.Nat.{ℕ, _≤_}
+use Rattle.directory.proofs.Numbers.{has-onward}
 use Rattle.model.specs.Lent.{columnOf}
-use Rattle.column.proofs.LentColumns.{lent-column, count-fences, held}
-use Rattle.column.proofs.Writing.{ready, delete-refused, found, scan-small, delete-done}
-use Rattle.column.proofs.Reading.{target-there}
-use Rattle.model.specs.declared.Answer.{Answer}
-use Rattle.column.specs.Answers.{takenOf, withoutTotals}
+use Rattle.directory.specs.Numbers.{HasPartition}
+use Rattle.model.specs.Directory.{directoryOf}
+use Rattle.model.specs.Bounds.{blockLimit}
+use Rattle.model.specs.Column.{Column}
 use Rattle.model.specs.Accesses.{onward}
+use Rattle.model.specs.declared.Answer.{Answer}
+use Rattle.column.proofs.Writing.{Found, found, scan-small, delete-refused, delete-done, ready}
+use Rattle.column.specs.Answers.{withoutTotals, takenOf}
 use Rattle.column.proofs.delete.Statement.{statement}
 use Rattle.column.proofs.delete.Tie as tie
+
+abbrev the-column : tie.Start → Column
+the-column c = let a = c .args in columnOf (a .directory .now) (a .growers .now) (a .weights .now) (a .yields .now)
+
+-- past the checks: what the search found
+is-found : (c : tie.Else1) → Found blockLimit (the-column (c .before .before .before .before .before .before .before .before .before .before .before .before)) (c .before .before .before .before .before .before .before .before .before .before .before .before .args .d) (c .before .before .before .locate .result) (c .before .before .before .locate .ensures)
+is-found c = found blockLimit _ _ _ (c .before .before .before .locate .ensures) (c .if1 .left)
+
+small : (c : tie.Else1) → (c .before .before .before .locate .result .counts .rr ≤ 1) × (c .before .before .before .locate .result .counts .«rw» ≤ 0)
+small c = scan-small blockLimit _ _ _ (c .before .before .before .locate .ensures) (is-found c)
+
+here : (c : tie.Else1) → HasPartition blockLimit (c .before .before .before .before .before .before .before .before .before .before .before .before .args .directory .now) (c .before .before .before .locate .result .target)
+here c = let o = is-found c in rw (o .target-is) (ready blockLimit (the-column (c .before .before .before .before .before .before .before .before .before .before .before .before)) _ (o .lent) .here)
 
 locate-requires : tie.Need-locate-requires
 locate-requires c κs = search needs
@@ -35,19 +48,22 @@ same-length-4 : tie.Need-same-length-4
 same-length-4 c = search needs
 
 returns : tie.Need-returns
-returns c = let g = (c .before .before .before .before .before .before .before .before .before .before .before .before .before .args) in let col = columnOf (g .directory .now) (g .growers .now) (g .weights .now) (g .yields .now) in ap (λ (x : Answer). record { answer = x; column = col }) ((c .without-totals) .ensures) ∙ delete-refused blockLimit col (g .d) ((c .before .before .before .before .locate) .result) ((c .before .before .before .before .locate) .ensures) ((c .before .if1) .taken)
+returns c = ap (λ (x : Answer). record { answer = x; column = the-column (c .before .before .before .before .before .before .before .before .before .before .before .before .before) }) (c .without-totals .ensures) ∙ delete-refused blockLimit (the-column (c .before .before .before .before .before .before .before .before .before .before .before .before .before)) _ _ (c .before .before .before .before .locate .ensures) (c .before .if1 .taken)
 
 onward-requires : tie.Need-onward-requires
-onward-requires c κs = let g = (c .before .before .before .before .before .before .before .before .before .before .before .before .before .args) in let col = columnOf (g .directory .now) (g .growers .now) (g .weights .now) (g .yields .now) in let o = found blockLimit col (g .d) ((c .before .before .before .before .locate) .result) ((c .before .before .before .before .locate) .ensures) ((c .before .if1) .left) in let l = lent-column blockLimit col (o .lent) in let hd = held blockLimit col l (target blockLimit col (g .d .grower)) (target-there blockLimit col (o .lent) (g .d .grower)) in let sm = scan-small blockLimit col (g .d) ((c .before .before .before .before .locate) .result) ((c .before .before .before .before .locate) .ensures) o in rw (o .target-is) hd
+onward-requires c κs = here (c .before)
 
 add-with-more : tie.Need-add-with-more
-add-with-more c = let g = (c .before .before .before .before .before .before .before .before .before .before .before .before .before .before .args) in let col = columnOf (g .directory .now) (g .growers .now) (g .weights .now) (g .yields .now) in let o = found blockLimit col (g .d) ((c .before .before .before .before .before .locate) .result) ((c .before .before .before .before .before .locate) .ensures) ((c .before .before .if1) .left) in let l = lent-column blockLimit col (o .lent) in let hd = held blockLimit col l (target blockLimit col (g .d .grower)) (target-there blockLimit col (o .lent) (g .d .grower)) in let sm = scan-small blockLimit col (g .d) ((c .before .before .before .before .before .locate) .result) ((c .before .before .before .before .before .locate) .ensures) o in omega (arith, (c .onward) .ensures, count-fences blockLimit col l, l .shape .few)
+add-with-more c = omega (arith, c .onward .ensures, has-onward blockLimit _ _ (here (c .before .before)))
 
 with-more-requires : tie.Need-with-more-requires
-with-more-requires c κs = let g = (c .before .before .before .before .before .before .before .before .before .before .before .before .before .before .args) in let col = columnOf (g .directory .now) (g .growers .now) (g .weights .now) (g .yields .now) in let o = found blockLimit col (g .d) ((c .before .before .before .before .before .locate) .result) ((c .before .before .before .before .before .locate) .ensures) ((c .before .before .if1) .left) in let l = lent-column blockLimit col (o .lent) in let hd = held blockLimit col l (target blockLimit col (g .d .grower)) (target-there blockLimit col (o .lent) (g .d .grower)) in let sm = scan-small blockLimit col (g .d) ((c .before .before .before .before .before .locate) .result) ((c .before .before .before .before .before .locate) .ensures) o in let n = (c .onward) .ensures in (sm .0, sm .1, omega (arith, count-fences blockLimit col l, l .shape .few), omega (arith, count-fences blockLimit col l, l .shape .few))
+with-more-requires c κs =
+    let s = small (c .before .before) in
+    let h = has-onward blockLimit _ _ (here (c .before .before)) in
+    (s .0, s .1, omega (arith, c .onward .ensures, h), omega (arith, c .onward .ensures, h))
 
 take-out-requires : tie.Need-take-out-requires
-take-out-requires c κs = let g = (c .before .before .before .before .before .before .before .before .before .before .before .before .before .before .before .before .before .before .before .args) in let col = columnOf (g .directory .now) (g .growers .now) (g .weights .now) (g .yields .now) in let o = found blockLimit col (g .d) ((c .before .before .before .before .before .before .before .before .before .before .locate) .result) ((c .before .before .before .before .before .before .before .before .before .before .locate) .ensures) ((c .before .before .before .before .before .before .before .if1) .left) in let l = lent-column blockLimit col (o .lent) in let hd = held blockLimit col l (target blockLimit col (g .d .grower)) (target-there blockLimit col (o .lent) (g .d .grower)) in let sm = scan-small blockLimit col (g .d) ((c .before .before .before .before .before .before .before .before .before .before .locate) .result) ((c .before .before .before .before .before .before .before .before .before .before .locate) .ensures) o in rw (o .target-is, o .start-is, o .slot-is) (ready blockLimit col (g .d .grower) (o .lent), o .inside)
+take-out-requires c κs = let o = is-found (c .before .before .before .before .before .before .before) in rw (o .target-is, o .start-is, o .slot-is) (ready blockLimit (the-column (c .before .before .before .before .before .before .before .before .before .before .before .before .before .before .before .before .before .before .before)) _ (o .lent), o .inside)
 
 without-totals-requires-2 : tie.Need-without-totals-requires-2
 without-totals-requires-2 c κs = search needs
@@ -65,26 +81,12 @@ same-length-8 : tie.Need-same-length-8
 same-length-8 c = search needs
 
 returns-2 : tie.Need-returns-2
-returns-2 c = let g = (c .before .before .before .before .before .before .before .before .before .before .before .before .before .before .before .before .before .before .before .before .before .before .before .before .before .before .before .before .before .args) in let col = columnOf (g .directory .now) (g .growers .now) (g .weights .now) (g .yields .now) in let o = found blockLimit col (g .d) ((c .before .before .before .before .before .before .before .before .before .before .before .before .before .before .before .before .before .before .before .before .locate) .result) ((c .before .before .before .before .before .before .before .before .before .before .before .before .before .before .before .before .before .before .before .before .locate) .ensures) ((c .before .before .before .before .before .before .before .before .before .before .before .before .before .before .before .before .before .if1) .left) in let l = lent-column blockLimit col (o .lent) in let hd = held blockLimit col l (target blockLimit col (g .d .grower)) (target-there blockLimit col (o .lent) (g .d .grower)) in let sm = scan-small blockLimit col (g .d) ((c .before .before .before .before .before .before .before .before .before .before .before .before .before .before .before .before .before .before .before .before .locate) .result) ((c .before .before .before .before .before .before .before .before .before .before .before .before .before .before .before .before .before .before .before .before .locate) .ensures) o in let e = (c .before .before .before .before .before .before .before .before .before .take-out) .ensures ∙ ap₂ (λ (t i : ℕ). takenOf blockLimit col t i) (o .target-is) (o .slot-is) in let n = (c .before .before .before .before .before .before .before .before .before .before .before .before .before .before .before .onward) .ensures ∙ ap (onward (directoryOf blockLimit (g .directory .now))) (o .target-is) in delete-done blockLimit col (g .d) ((c .before .before .before .before .before .before .before .before .before .before .before .before .before .before .before .before .before .before .before .before .locate) .result) ((c .before .before .before .before .before .before .before .before .before .before .before .before .before .before .before .before .before .before .before .before .locate) .ensures) o _ _ _ e n ((c .without-totals2) .ensures ∙ ap (withoutTotals 0) ((c .before .before .before .before .before .before .before .before .before .before .before .before .before .before .with-more) .ensures))
+returns-2 c =
+    let a = c .before .before .before .before .before .before .before .before .before .before .before .before .before .before .before .before .before .before .before .before .before .before .before .before .before .before .before .before .before .args in
+    let k = the-column (c .before .before .before .before .before .before .before .before .before .before .before .before .before .before .before .before .before .before .before .before .before .before .before .before .before .before .before .before .before) in
+    let o = is-found (c .before .before .before .before .before .before .before .before .before .before .before .before .before .before .before .before .before) in
+    delete-done blockLimit k _ _ (c .before .before .before .before .before .before .before .before .before .before .before .before .before .before .before .before .before .before .before .before .locate .ensures) o _ _ _ (c .before .before .before .before .before .before .before .before .before .take-out .ensures ∙ ap₂ (λ (t i : ℕ). takenOf blockLimit k t i) (o .target-is) (o .slot-is))
+    (c .before .before .before .before .before .before .before .before .before .before .before .before .before .before .before .onward .ensures ∙ ap (onward (directoryOf blockLimit (a .directory .now))) (o .target-is)) (c .without-totals2 .ensures ∙ ap (withoutTotals 0) (c .before .before .before .before .before .before .before .before .before .before .before .before .before .before .with-more .ensures))
 
 pub delete-spec : {M : Type 1} → statement M
-delete-spec =
-    tie.close
-    (tie.spec
-    locate-requires
-    without-totals-requires
-    same-length
-    same-length-2
-    same-length-3
-    same-length-4
-    returns
-    onward-requires
-    add-with-more
-    with-more-requires
-    take-out-requires
-    without-totals-requires-2
-    same-length-5
-    same-length-6
-    same-length-7
-    same-length-8
-    returns-2)
+delete-spec = tie.close (tie.spec locate-requires without-totals-requires same-length same-length-2 same-length-3 same-length-4 returns onward-requires add-with-more with-more-requires take-out-requires without-totals-requires-2 same-length-5 same-length-6 same-length-7 same-length-8 returns-2)

@@ -1,20 +1,37 @@
--- `column::locate` meets its contract. Assumes nothing.
-use Prim.Native.Nat.{_+_, _-_}
-use mathlib.Core.Path.{sym, _∙_}
-use native.Mathlib.Omega.{arith}
+-- `column::locate` meets its contract: the checks answer, and then the search of the grower's partition does. Assumes nothing.
+use Rattle.slices.proofs.Sums.{even-part}
 use borrow.Author.Needs.{needs}
+use native.Mathlib.Omega.{arith}
+use Prim.Native.Nat.{_+_, _-_}
 use borrow.Author.Tests.{not-true, not-false}
 use lib.ListN.{length-take, length-drop}
-use Rattle.model.specs.Bounds.{blockLimit}
-use Rattle.model.specs.Questions.{lentChecks}
+use mathlib.Core.Path.{_≡_, sym, _∙_}
+use Rattle.directory.proofs.Numbers.{block-is}
+use Rattle.model.specs.Checks.{firstFailed}
 use Rattle.model.specs.Lent.{columnOf}
-use Rattle.checks.proofs.Answers.{shape-refusal, carried}
-use Rattle.slices.proofs.Sums.{even-part}
-use Rattle.column.proofs.LentColumns.{lent-column}
-use Rattle.column.proofs.Reading.{near, near-held}
+use Rattle.directory.proofs.LentColumns.{lent-column}
+use Rattle.model.specs.Bounds.{blockLimit}
+use Rattle.model.specs.Column.{Column}
+use Rattle.model.specs.Questions.{lentChecks}
+use Rattle.directory.proofs.Shapes.{Carried, shape-refusal, carried}
 use Rattle.column.proofs.Searching.{located-lent, located-range, located-searched, near-part}
+use Rattle.column.proofs.Reading.{Near, near, near-held}
 use Rattle.column.proofs.locate.Statement.{statement}
 use Rattle.column.proofs.locate.Tie as tie
+
+abbrev the-column : tie.Start → Column
+the-column c = let a = c .args in columnOf (a .directory .now) (a .g .now) (a .w .now) (a .y .now)
+
+-- past checks 2, 3 and 6
+shaped : (c : tie.Else1) → (let s = c .before .before .before .before .before .before in Carried blockLimit (lentChecks blockLimit (the-column s)) (s .args .directory .now) (s .args .d .grower) (c .before .lent .result))
+shaped c = carried blockLimit _ _ _ _ (c .before .lent .ensures) (c .if1 .left)
+
+refusal : (c : tie.After-lent) → c .lent .result .refusal ≡ firstFailed (lentChecks blockLimit (the-column (c .before .before .before .before .before)))
+refusal c = shape-refusal blockLimit _ _ _ _ (c .lent .ensures)
+
+-- the grower's partition lies in the slices
+near-at : (c : tie.After-length-of) → Near blockLimit (the-column (c .before .before .before .before .before .before .before .before .before)) (c .before .before .before .before .before .before .before .before .before .args .d .grower) (c .before .before .before .before .lent .result .start) (c .length-of .result)
+near-at c = let w = shaped (c .before .before .before) in near blockLimit _ _ (w .passed) _ _ (w .target) (w .start) _ (c .length-of .ensures)
 
 lent-requires : tie.Need-lent-requires
 lent-requires c κs = search needs
@@ -23,7 +40,7 @@ not-located-requires : tie.Need-not-located-requires
 not-located-requires c κs = search needs
 
 returns : tie.Need-returns
-returns c = let g = c .before .before .before .before .before .before .before .args in let col = columnOf (g .directory .now) (g .g .now) (g .w .now) (g .y .now) in c .not-located .ensures ∙ located-lent blockLimit col (g .d) _ (shape-refusal (lentChecks blockLimit col) (g .directory .now) (g .d .grower) _ (c .before .before .lent .ensures)) (c .before .if1 .taken)
+returns c = c .not-located .ensures ∙ located-lent blockLimit _ _ _ (refusal (c .before .before)) (c .before .if1 .taken)
 
 in-range-requires : tie.Need-in-range-requires
 in-range-requires c κs = search needs
@@ -32,16 +49,16 @@ not-located-requires-2 : tie.Need-not-located-requires-2
 not-located-requires-2 c κs = search needs
 
 returns-2 : tie.Need-returns-2
-returns-2 c = let g = c .before .before .before .before .before .before .before .before .before .args in let col = columnOf (g .directory .now) (g .g .now) (g .w .now) (g .y .now) in let w = carried (lentChecks blockLimit col) (g .directory .now) (g .d .grower) _ (c .before .before .before .before .lent .ensures) (c .before .before .before .if1 .left) in c .not-located2 .ensures ∙ located-range blockLimit col (g .d) (w .passed) (sym (c .before .before .in-range .ensures) ∙ not-true _ (c .before .if2 .taken))
+returns-2 c = c .not-located2 .ensures ∙ located-range blockLimit _ _ (shaped (c .before .before .before) .passed) (sym (c .before .before .in-range .ensures) ∙ not-true _ (c .before .if2 .taken))
 
 length-of-requires : tie.Need-length-of-requires
-length-of-requires c κs = let g = c .before .before .before .before .before .before .before .before .args in let col = columnOf (g .directory .now) (g .g .now) (g .w .now) (g .y .now) in let w = carried (lentChecks blockLimit col) (g .directory .now) (g .d .grower) _ (c .before .before .before .lent .ensures) (c .before .before .if1 .left) in near-held blockLimit col (g .d .grower) (w .passed) _ _ (w .target) (w .start)
+length-of-requires c κs = let w = shaped (c .before .before) in near-held blockLimit (the-column (c .before .before .before .before .before .before .before .before)) _ (w .passed) _ _ (w .target) (w .start)
 
 add-e : tie.Need-add-e
-add-e c = let g = c .before .before .before .before .before .before .before .before .before .args in let col = columnOf (g .directory .now) (g .g .now) (g .w .now) (g .y .now) in let w = carried (lentChecks blockLimit col) (g .directory .now) (g .d .grower) _ (c .before .before .before .before .lent .ensures) (c .before .before .before .if1 .left) in let k = near blockLimit col (g .d .grower) (w .passed) _ _ (w .target) (w .start) _ (c .length-of .ensures) in omega (arith, k .inside, k .most, k .even .weights, k .even .yields)
+add-e c = let k = near-at (c) in omega (arith, k .inside, k .most, k .even .weights, k .even .yields)
 
 mul-search-part : tie.Need-mul-search-part
-mul-search-part c = let g = c .before .before .before .before .before .before .before .before .before .args in let col = columnOf (g .directory .now) (g .g .now) (g .w .now) (g .y .now) in let w = carried (lentChecks blockLimit col) (g .directory .now) (g .d .grower) _ (c .before .before .before .before .lent .ensures) (c .before .before .before .if1 .left) in let k = near blockLimit col (g .d .grower) (w .passed) _ _ (w .target) (w .start) _ (c .length-of .ensures) in omega (arith, k .inside, k .most, k .even .weights, k .even .yields)
+mul-search-part c = let k = near-at (c) in omega (arith, k .inside, k .most, k .even .weights, k .even .yields)
 
 sub-search-part : tie.Need-sub-search-part
 sub-search-part c = search needs
@@ -50,10 +67,10 @@ part-search-part-start : tie.Need-part-search-part-start
 part-search-part-start c = search needs
 
 part-search-part-end : tie.Need-part-search-part-end
-part-search-part-end c = let g = c .before .before .before .before .before .before .before .before .before .args in let col = columnOf (g .directory .now) (g .g .now) (g .w .now) (g .y .now) in let w = carried (lentChecks blockLimit col) (g .directory .now) (g .d .grower) _ (c .before .before .before .before .lent .ensures) (c .before .before .before .if1 .left) in let k = near blockLimit col (g .d .grower) (w .passed) _ _ (w .target) (w .start) _ (c .length-of .ensures) in omega (arith, k .inside, k .most, k .even .weights, k .even .yields)
+part-search-part-end c = let k = near-at (c) in omega (arith, k .inside, k .most, k .even .weights, k .even .yields)
 
 mul-search-part-2 : tie.Need-mul-search-part-2
-mul-search-part-2 c = let g = c .before .before .before .before .before .before .before .before .before .before .args in let col = columnOf (g .directory .now) (g .g .now) (g .w .now) (g .y .now) in let w = carried (lentChecks blockLimit col) (g .directory .now) (g .d .grower) _ (c .before .before .before .before .before .lent .ensures) (c .before .before .before .before .if1 .left) in let k = near blockLimit col (g .d .grower) (w .passed) _ _ (w .target) (w .start) _ (c .before .length-of .ensures) in omega (arith, k .inside, k .most, k .even .weights, k .even .yields)
+mul-search-part-2 c = let k = near-at (c .before) in omega (arith, k .inside, k .most, k .even .weights, k .even .yields)
 
 sub-search-part-2 : tie.Need-sub-search-part-2
 sub-search-part-2 c = search needs
@@ -62,10 +79,10 @@ part-search-part-start-2 : tie.Need-part-search-part-start-2
 part-search-part-start-2 c = search needs
 
 part-search-part-end-2 : tie.Need-part-search-part-end-2
-part-search-part-end-2 c = let g = c .before .before .before .before .before .before .before .before .before .before .args in let col = columnOf (g .directory .now) (g .g .now) (g .w .now) (g .y .now) in let w = carried (lentChecks blockLimit col) (g .directory .now) (g .d .grower) _ (c .before .before .before .before .before .lent .ensures) (c .before .before .before .before .if1 .left) in let k = near blockLimit col (g .d .grower) (w .passed) _ _ (w .target) (w .start) _ (c .before .length-of .ensures) in omega (arith, k .inside, k .most, k .even .weights, k .even .yields)
+part-search-part-end-2 c = let k = near-at (c .before) in omega (arith, k .inside, k .most, k .even .weights, k .even .yields)
 
 mul-search-part-3 : tie.Need-mul-search-part-3
-mul-search-part-3 c = let g = c .before .before .before .before .before .before .before .before .before .before .before .args in let col = columnOf (g .directory .now) (g .g .now) (g .w .now) (g .y .now) in let w = carried (lentChecks blockLimit col) (g .directory .now) (g .d .grower) _ (c .before .before .before .before .before .before .lent .ensures) (c .before .before .before .before .before .if1 .left) in let k = near blockLimit col (g .d .grower) (w .passed) _ _ (w .target) (w .start) _ (c .before .before .length-of .ensures) in omega (arith, k .inside, k .most, k .even .weights, k .even .yields)
+mul-search-part-3 c = let k = near-at (c .before .before) in omega (arith, k .inside, k .most, k .even .weights, k .even .yields)
 
 sub-search-part-3 : tie.Need-sub-search-part-3
 sub-search-part-3 c = search needs
@@ -74,41 +91,29 @@ part-search-part-start-3 : tie.Need-part-search-part-start-3
 part-search-part-start-3 c = search needs
 
 part-search-part-end-3 : tie.Need-part-search-part-end-3
-part-search-part-end-3 c = let g = c .before .before .before .before .before .before .before .before .before .before .before .args in let col = columnOf (g .directory .now) (g .g .now) (g .w .now) (g .y .now) in let w = carried (lentChecks blockLimit col) (g .directory .now) (g .d .grower) _ (c .before .before .before .before .before .before .lent .ensures) (c .before .before .before .before .before .if1 .left) in let k = near blockLimit col (g .d .grower) (w .passed) _ _ (w .target) (w .start) _ (c .before .before .length-of .ensures) in omega (arith, k .inside, k .most, k .even .weights, k .even .yields)
+part-search-part-end-3 c = let k = near-at (c .before .before) in omega (arith, k .inside, k .most, k .even .weights, k .even .yields)
 
-shared-slice-read-search-part : tie.Need-shared-slice-read-search-part
-shared-slice-read-search-part c = let g = c .before .before .before .before .before .before .before .before .before .before .before .before .before .args in let col = columnOf (g .directory .now) (g .g .now) (g .w .now) (g .y .now) in let w = carried (lentChecks blockLimit col) (g .directory .now) (g .d .grower) _ (c .before .before .before .before .before .before .before .before .lent .ensures) (c .before .before .before .before .before .before .before .if1 .left) in omega (arith, lent-column blockLimit col (w .passed) .shape .size)
+block-requires : tie.Need-block-requires
+block-requires c κs = lent-column blockLimit (the-column (c .before .before .before .before .before .before .before .before .before .before .before .before)) (shaped (c .before .before .before .before .before .before) .passed) .shape .size
 
 search-part-requires : tie.Need-search-part-requires
-search-part-requires c κs = let g = c .before .before .before .before .before .before .before .before .before .before .before .before .before .args in let col = columnOf (g .directory .now) (g .g .now) (g .w .now) (g .y .now) in let w = carried (lentChecks blockLimit col) (g .directory .now) (g .d .grower) _ (c .before .before .before .before .before .before .before .before .lent .ensures) (c .before .before .before .before .before .before .before .if1 .left) in let k = near blockLimit col (g .d .grower) (w .passed) _ _ (w .target) (w .start) _ (c .before .before .before .before .length-of .ensures) in let a = c .before .before .before .before .before .before .before .before .lent .result .start in let e = even-part (g .g .now) (g .w .now) (g .y .now) (a + c .before .before .before .before .length-of .result - a) a (k .even) in (simp (length-take, length-drop) (omega (arith, k .most)), e, lent-column blockLimit col (w .passed) .block)
+search-part-requires c κs =
+    let a = c .before .before .before .before .before .before .before .before .before .before .before .before .before .args in
+    let k = near-at (c .before .before .before .before) in
+    let s = c .before .before .before .before .before .before .before .before .lent .result .start in (
+      simp (length-take, length-drop) (omega (arith, k .most)),
+      even-part (a .g .now) (a .w .now) (a .y .now) (s + c .before .before .before .before .length-of .result - s) s (k .even),
+      rw (c .block .ensures ∙ block-is blockLimit _) (lent-column blockLimit (the-column (c .before .before .before .before .before .before .before .before .before .before .before .before .before)) (shaped (c .before .before .before .before .before .before .before) .passed) .block),
+    )
 
 returns-3 : tie.Need-returns-3
-returns-3 c = let g = c .before .before .before .before .before .before .before .before .before .before .before .before .before .before .args in let col = columnOf (g .directory .now) (g .g .now) (g .w .now) (g .y .now) in let w = carried (lentChecks blockLimit col) (g .directory .now) (g .d .grower) _ (c .before .before .before .before .before .before .before .before .before .lent .ensures) (c .before .before .before .before .before .before .before .before .if1 .left) in let k = near blockLimit col (g .d .grower) (w .passed) _ _ (w .target) (w .start) _ (c .before .before .before .before .before .length-of .ensures) in c .search-part .ensures ∙ rw (w .target, near-part blockLimit col (g .d) (w .passed) _ _ (k .start) (k .count), k .start) (located-searched blockLimit col (g .d) (w .passed) (sym (c .before .before .before .before .before .before .before .in-range .ensures) ∙ not-false _ (c .before .before .before .before .before .before .if2 .left)))
+returns-3 c =
+    let w = shaped (c .before .before .before .before .before .before .before .before) in
+    let k = near-at (c .before .before .before .before .before) in
+    let col = the-column (c .before .before .before .before .before .before .before .before .before .before .before .before .before .before) in
+    c .search-part .ensures
+    ∙ rw (c .before .block .ensures ∙ block-is blockLimit _, w .target, near-part blockLimit col (c .before .before .before .before .before .before .before .before .before .before .before .before .before .before .args .d) (w .passed) _ _ (k .start) (k .count), k .start)
+    (located-searched blockLimit col _ (w .passed) (sym (c .before .before .before .before .before .before .before .in-range .ensures) ∙ not-false _ (c .before .before .before .before .before .before .if2 .left)))
 
 pub locate-spec : {M : Type 1} → statement M
-locate-spec =
-    tie.close
-    (tie.spec
-    lent-requires
-    not-located-requires
-    returns
-    in-range-requires
-    not-located-requires-2
-    returns-2
-    length-of-requires
-    add-e
-    mul-search-part
-    sub-search-part
-    part-search-part-start
-    part-search-part-end
-    mul-search-part-2
-    sub-search-part-2
-    part-search-part-start-2
-    part-search-part-end-2
-    mul-search-part-3
-    sub-search-part-3
-    part-search-part-start-3
-    part-search-part-end-3
-    shared-slice-read-search-part
-    search-part-requires
-    returns-3)
+locate-spec = tie.close (tie.spec lent-requires not-located-requires returns in-range-requires not-located-requires-2 returns-2 length-of-requires add-e mul-search-part sub-search-part part-search-part-start part-search-part-end mul-search-part-2 sub-search-part-2 part-search-part-start-2 part-search-part-end-2 mul-search-part-3 sub-search-part-3 part-search-part-start-3 part-search-part-end-3 block-requires search-part-requires returns-3)

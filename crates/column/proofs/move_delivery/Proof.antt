@@ -1,21 +1,42 @@
--- `column::move_delivery` meets its contract. Assumes nothing.
-use Prim.Native.Nat.{ℕ}
+-- `column::move_delivery` meets its contract: refused by its checks or its search, or moved from where the search found it to the new grower's partition. Assumes nothing.
 use mathlib.Core.Path.{ap, ap₂, _∙_}
-use native.Mathlib.Omega.{arith}
 use borrow.Author.Needs.{needs}
-use Rattle.model.specs.Bounds.{blockLimit}
-use Rattle.model.specs.Column.{target}
-use Rattle.model.specs.Lent.{columnOf}
-use Rattle.column.proofs.LentColumns.{lent-column, count-lengths, held-directory, held}
-use Rattle.column.proofs.Writing.{ready, move-refused, found, scan-small, move-done}
-use Rattle.column.proofs.Reading.{target-there}
-use Rattle.model.specs.declared.Answer.{Answer}
-use Rattle.column.specs.Answers.{shiftedOf, withoutTotals}
+use native.Mathlib.Omega.{arith}
+use Prim.Native.Nat.{ℕ, _≤_}
+use lib.ListN.{length}
 use Rattle.model.specs.Accesses.{apart}
-use Rattle.model.specs.Deliveries.{delivery}
+use Rattle.directory.proofs.LentColumns.{lent-column, count-lengths, most-shaped}
 use Rattle.model.specs.ColumnCalls.{slotOf}
+use Rattle.model.specs.Deliveries.{delivery}
+use Rattle.model.specs.Lent.{columnOf}
+use Rattle.model.specs.Directory.{directoryOf}
+use Rattle.model.specs.Bounds.{blockLimit}
+use Rattle.model.specs.declared.Answer.{Answer}
+use Rattle.model.specs.Column.{Column, target}
+use Rattle.column.proofs.Reading.{target-there}
+use Rattle.column.specs.Answers.{withoutTotals, shiftedOf}
+use Rattle.column.proofs.Writing.{Found, found, scan-small, move-refused, move-done, ready}
 use Rattle.column.proofs.move_delivery.Statement.{statement}
 use Rattle.column.proofs.move_delivery.Tie as tie
+
+abbrev the-column : tie.Start → Column
+the-column c = let a = c .args in columnOf (a .directory .now) (a .growers .now) (a .weights .now) (a .yields .now)
+
+-- past the checks: what the search found
+is-found : (c : tie.Else1) → Found blockLimit (the-column (c .before .before .before .before .before .before .before .before .before .before .before .before)) (c .before .before .before .before .before .before .before .before .before .before .before .before .args .d) (c .before .before .before .locate .result) (c .before .before .before .locate .ensures)
+is-found c = found blockLimit _ _ _ (c .before .before .before .locate .ensures) (c .if1 .left)
+
+small : (c : tie.Else1) → (c .before .before .before .locate .result .counts .rr ≤ 1) × (c .before .before .before .locate .result .counts .«rw» ≤ 0)
+small c = scan-small blockLimit _ _ _ (c .before .before .before .locate .ensures) (is-found c)
+
+-- two partitions are no further apart than there are partitions
+near : (c : tie.After-apart) → c .apart .result ≤ blockLimit
+near c =
+    let k = the-column (c .before .before .before .before .before .before .before .before .before .before .before .before .before .before .before) in
+    let o = is-found (c .before .before .before) in
+    let l = lent-column blockLimit k (o .lent) in
+    let g = c .before .before .before .before .before .before .before .before .before .before .before .before .before .before .before .args in
+    omega (arith, c .apart .ensures, c .before .partition-of .ensures, o .target-is, target-there blockLimit k (o .lent) (g .new-grower), target-there blockLimit k (o .lent) (g .d .grower), count-lengths blockLimit k l, l .shape .few)
 
 locate-requires : tie.Need-locate-requires
 locate-requires c κs = search needs
@@ -36,25 +57,30 @@ same-length-4 : tie.Need-same-length-4
 same-length-4 c = search needs
 
 returns : tie.Need-returns
-returns c = let g = (c .before .before .before .before .before .before .before .before .before .before .before .before .before .args) in let col = columnOf (g .directory .now) (g .growers .now) (g .weights .now) (g .yields .now) in ap (λ (x : Answer). record { answer = x; column = col }) ((c .without-totals) .ensures) ∙ move-refused blockLimit col (g .d) ((c .before .before .before .before .locate) .result) ((c .before .before .before .before .locate) .ensures) (g .new-grower) ((c .before .if1) .taken)
+returns c = ap (λ (x : Answer). record { answer = x; column = the-column (c .before .before .before .before .before .before .before .before .before .before .before .before .before) }) (c .without-totals .ensures) ∙ move-refused blockLimit (the-column (c .before .before .before .before .before .before .before .before .before .before .before .before .before)) _ _ (c .before .before .before .before .locate .ensures) _ (c .before .if1 .taken)
 
 partition-of-requires : tie.Need-partition-of-requires
-partition-of-requires c κs = let g = (c .before .before .before .before .before .before .before .before .before .before .before .before .before .args) in let col = columnOf (g .directory .now) (g .growers .now) (g .weights .now) (g .yields .now) in let o = found blockLimit col (g .d) ((c .before .before .before .before .locate) .result) ((c .before .before .before .before .locate) .ensures) ((c .before .if1) .left) in let l = lent-column blockLimit col (o .lent) in let hd = held blockLimit col l (target blockLimit col (g .d .grower)) (target-there blockLimit col (o .lent) (g .d .grower)) in let sm = scan-small blockLimit col (g .d) ((c .before .before .before .before .locate) .result) ((c .before .before .before .before .locate) .ensures) o in held-directory blockLimit col l
+partition-of-requires c κs = most-shaped blockLimit _ (lent-column blockLimit (the-column (c .before .before .before .before .before .before .before .before .before .before .before .before .before)) (is-found (c .before) .lent))
 
 apart-requires : tie.Need-apart-requires
 apart-requires c κs = search needs
 
 add-with-more : tie.Need-add-with-more
-add-with-more c = let g = (c .before .before .before .before .before .before .before .before .before .before .before .before .before .before .before .args) in let col = columnOf (g .directory .now) (g .growers .now) (g .weights .now) (g .yields .now) in let o = found blockLimit col (g .d) ((c .before .before .before .before .before .before .locate) .result) ((c .before .before .before .before .before .before .locate) .ensures) ((c .before .before .before .if1) .left) in let l = lent-column blockLimit col (o .lent) in let hd = held blockLimit col l (target blockLimit col (g .d .grower)) (target-there blockLimit col (o .lent) (g .d .grower)) in let sm = scan-small blockLimit col (g .d) ((c .before .before .before .before .before .before .locate) .result) ((c .before .before .before .before .before .before .locate) .ensures) o in let pt = (c .before .partition-of) .ensures in let ht = target-there blockLimit col (o .lent) (g .new-grower) in let n = (c .apart) .ensures in omega (arith, pt, o .target-is, ht, target-there blockLimit col (o .lent) (g .d .grower), count-lengths blockLimit col l, l .shape .few)
+add-with-more c = omega (arith, near c)
 
 add-with-more-2 : tie.Need-add-with-more-2
-add-with-more-2 c = let g = (c .before .before .before .before .before .before .before .before .before .before .before .before .before .before .before .args) in let col = columnOf (g .directory .now) (g .growers .now) (g .weights .now) (g .yields .now) in let o = found blockLimit col (g .d) ((c .before .before .before .before .before .before .locate) .result) ((c .before .before .before .before .before .before .locate) .ensures) ((c .before .before .before .if1) .left) in let l = lent-column blockLimit col (o .lent) in let hd = held blockLimit col l (target blockLimit col (g .d .grower)) (target-there blockLimit col (o .lent) (g .d .grower)) in let sm = scan-small blockLimit col (g .d) ((c .before .before .before .before .before .before .locate) .result) ((c .before .before .before .before .before .before .locate) .ensures) o in let pt = (c .before .partition-of) .ensures in let ht = target-there blockLimit col (o .lent) (g .new-grower) in let n = (c .apart) .ensures in omega (arith, pt, o .target-is, ht, target-there blockLimit col (o .lent) (g .d .grower), count-lengths blockLimit col l, l .shape .few)
+add-with-more-2 c = omega (arith, near c)
 
 with-more-requires : tie.Need-with-more-requires
-with-more-requires c κs = let g = (c .before .before .before .before .before .before .before .before .before .before .before .before .before .before .before .args) in let col = columnOf (g .directory .now) (g .growers .now) (g .weights .now) (g .yields .now) in let o = found blockLimit col (g .d) ((c .before .before .before .before .before .before .locate) .result) ((c .before .before .before .before .before .before .locate) .ensures) ((c .before .before .before .if1) .left) in let l = lent-column blockLimit col (o .lent) in let hd = held blockLimit col l (target blockLimit col (g .d .grower)) (target-there blockLimit col (o .lent) (g .d .grower)) in let sm = scan-small blockLimit col (g .d) ((c .before .before .before .before .before .before .locate) .result) ((c .before .before .before .before .before .before .locate) .ensures) o in let pt = (c .before .partition-of) .ensures in let ht = target-there blockLimit col (o .lent) (g .new-grower) in let n = (c .apart) .ensures in (sm .0, sm .1, omega (arith, pt, o .target-is, ht, target-there blockLimit col (o .lent) (g .d .grower), count-lengths blockLimit col l, l .shape .few), omega (arith, pt, o .target-is, ht, target-there blockLimit col (o .lent) (g .d .grower), count-lengths blockLimit col l, l .shape .few))
+with-more-requires c κs = let s = small (c .before .before .before) in (s .0, s .1, omega (arith, near c), omega (arith, near c))
 
 shift-requires : tie.Need-shift-requires
-shift-requires c κs = let g = (c .before .before .before .before .before .before .before .before .before .before .before .before .before .before .before .before .before .before .before .before .args) in let col = columnOf (g .directory .now) (g .growers .now) (g .weights .now) (g .yields .now) in let o = found blockLimit col (g .d) ((c .before .before .before .before .before .before .before .before .before .before .before .locate) .result) ((c .before .before .before .before .before .before .before .before .before .before .before .locate) .ensures) ((c .before .before .before .before .before .before .before .before .if1) .left) in let l = lent-column blockLimit col (o .lent) in let hd = held blockLimit col l (target blockLimit col (g .d .grower)) (target-there blockLimit col (o .lent) (g .d .grower)) in let sm = scan-small blockLimit col (g .d) ((c .before .before .before .before .before .before .before .before .before .before .before .locate) .result) ((c .before .before .before .before .before .before .before .before .before .before .before .locate) .ensures) o in let pt = (c .before .before .before .before .before .before .partition-of) .ensures in let ht = target-there blockLimit col (o .lent) (g .new-grower) in rw (o .target-is, o .start-is, o .slot-is, pt) (ready blockLimit col (g .d .grower) (o .lent), o .inside, omega (arith, ht, count-lengths blockLimit col l))
+shift-requires c κs =
+    let k = the-column (c .before .before .before .before .before .before .before .before .before .before .before .before .before .before .before .before .before .before .before .before) in
+    let o = is-found (c .before .before .before .before .before .before .before .before) in
+    let l = lent-column blockLimit k (o .lent) in
+    rw (o .target-is, o .start-is, o .slot-is, c .before .before .before .before .before .before .partition-of .ensures)
+    (ready blockLimit k _ (o .lent), o .inside, omega (arith, target-there blockLimit k (o .lent) (c .before .before .before .before .before .before .before .before .before .before .before .before .before .before .before .before .before .before .before .before .args .new-grower), count-lengths blockLimit k l))
 
 without-totals-requires-2 : tie.Need-without-totals-requires-2
 without-totals-requires-2 c κs = search needs
@@ -72,28 +98,17 @@ same-length-8 : tie.Need-same-length-8
 same-length-8 c = search needs
 
 returns-2 : tie.Need-returns-2
-returns-2 c = let g = (c .before .before .before .before .before .before .before .before .before .before .before .before .before .before .before .before .before .before .before .before .before .before .before .before .before .before .before .before .before .before .args) in let col = columnOf (g .directory .now) (g .growers .now) (g .weights .now) (g .yields .now) in let o = found blockLimit col (g .d) ((c .before .before .before .before .before .before .before .before .before .before .before .before .before .before .before .before .before .before .before .before .before .locate) .result) ((c .before .before .before .before .before .before .before .before .before .before .before .before .before .before .before .before .before .before .before .before .before .locate) .ensures) ((c .before .before .before .before .before .before .before .before .before .before .before .before .before .before .before .before .before .before .if1) .left) in let l = lent-column blockLimit col (o .lent) in let hd = held blockLimit col l (target blockLimit col (g .d .grower)) (target-there blockLimit col (o .lent) (g .d .grower)) in let sm = scan-small blockLimit col (g .d) ((c .before .before .before .before .before .before .before .before .before .before .before .before .before .before .before .before .before .before .before .before .before .locate) .result) ((c .before .before .before .before .before .before .before .before .before .before .before .before .before .before .before .before .before .before .before .before .before .locate) .ensures) o in let pt = (c .before .before .before .before .before .before .before .before .before .before .before .before .before .before .before .before .partition-of) .ensures in let ht = target-there blockLimit col (o .lent) (g .new-grower) in let v = delivery (g .new-grower) (g .d .weight) (g .d .«oil_yield») in let e = (c .before .before .before .before .before .before .before .before .before .shift) .ensures ∙ ap₂ (λ (t i : ℕ). shiftedOf blockLimit col t i ((c .before .before .before .before .before .before .before .before .before .before .before .before .before .before .before .before .partition-of) .result) v) (o .target-is) (o .slot-is) ∙ ap (λ (u : ℕ). shiftedOf blockLimit col (target blockLimit col (g .d .grower)) (slotOf blockLimit col (g .d)) u v) pt in let n = (c .before .before .before .before .before .before .before .before .before .before .before .before .before .before .before .apart) .ensures ∙ ap₂ (λ (t u : ℕ). apart t u) (o .target-is) pt in move-done blockLimit col (g .d) ((c .before .before .before .before .before .before .before .before .before .before .before .before .before .before .before .before .before .before .before .before .before .locate) .result) ((c .before .before .before .before .before .before .before .before .before .before .before .before .before .before .before .before .before .before .before .before .before .locate) .ensures) (g .new-grower) o _ _ _ e n ((c .without-totals2) .ensures ∙ ap (withoutTotals 0) ((c .before .before .before .before .before .before .before .before .before .before .before .before .before .before .with-more) .ensures))
+returns-2 c =
+    let a = c .before .before .before .before .before .before .before .before .before .before .before .before .before .before .before .before .before .before .before .before .before .before .before .before .before .before .before .before .before .before .args in
+    let k = the-column (c .before .before .before .before .before .before .before .before .before .before .before .before .before .before .before .before .before .before .before .before .before .before .before .before .before .before .before .before .before .before) in
+    let o = is-found (c .before .before .before .before .before .before .before .before .before .before .before .before .before .before .before .before .before .before) in
+    let u = c .before .before .before .before .before .before .before .before .before .before .before .before .before .before .before .before .partition-of .ensures in
+    let v = delivery (a .new-grower) (a .d .weight) (a .d .«oil_yield») in
+    move-done blockLimit k _ _ (c .before .before .before .before .before .before .before .before .before .before .before .before .before .before .before .before .before .before .before .before .before .locate .ensures) (a .new-grower) o _ _ _
+    (c .before .before .before .before .before .before .before .before .before .shift .ensures
+    ∙ ap₂ (λ (t i : ℕ). shiftedOf blockLimit k t i (c .before .before .before .before .before .before .before .before .before .before .before .before .before .before .before .before .partition-of .result) v) (o .target-is) (o .slot-is)
+    ∙ ap (λ (t : ℕ). shiftedOf blockLimit k (target blockLimit k (a .d .grower)) (slotOf blockLimit k (a .d)) t v) u)
+    (c .before .before .before .before .before .before .before .before .before .before .before .before .before .before .before .apart .ensures ∙ ap₂ apart (o .target-is) u) (c .without-totals2 .ensures ∙ ap (withoutTotals 0) (c .before .before .before .before .before .before .before .before .before .before .before .before .before .before .with-more .ensures))
 
 pub move-delivery-spec : {M : Type 1} → statement M
-move-delivery-spec =
-    tie.close
-    (tie.spec
-    locate-requires
-    without-totals-requires
-    same-length
-    same-length-2
-    same-length-3
-    same-length-4
-    returns
-    partition-of-requires
-    apart-requires
-    add-with-more
-    add-with-more-2
-    with-more-requires
-    shift-requires
-    without-totals-requires-2
-    same-length-5
-    same-length-6
-    same-length-7
-    same-length-8
-    returns-2)
+move-delivery-spec = tie.close (tie.spec locate-requires without-totals-requires same-length same-length-2 same-length-3 same-length-4 returns partition-of-requires apart-requires add-with-more add-with-more-2 with-more-requires shift-requires without-totals-requires-2 same-length-5 same-length-6 same-length-7 same-length-8 returns-2)

@@ -1,66 +1,56 @@
--- `column::open` meets its contract. Assumes nothing.
-use mathlib.Core.Path.{sym, _∙_}
-use native.Mathlib.Omega.{arith}
+-- `column::open` meets its contract: the checks answer, and then what the directory's pass found does. Assumes nothing.
 use borrow.Author.Needs.{needs}
+use native.Mathlib.Omega.{arith}
 use borrow.Author.Tests.{not-true, not-false}
-use Rattle.model.specs.Bounds.{blockLimit}
-use Rattle.model.specs.Questions.{lentChecks}
+use mathlib.Core.Path.{_≡_, sym, _∙_}
+use Rattle.model.specs.Checks.{firstFailed}
 use Rattle.model.specs.Lent.{columnOf}
-use Rattle.checks.proofs.Answers.{shape-refusal, carried}
+use Rattle.model.specs.Bounds.{blockLimit}
+use Rattle.model.specs.Column.{Column}
+use Rattle.model.specs.Questions.{lentChecks}
+use Rattle.directory.proofs.Shapes.{Carried, shape-refusal, carried}
 use Rattle.column.proofs.Writing.{opened-lent, opened-range, opened-full, opened-yes}
 use Rattle.column.proofs.open.Statement.{statement}
 use Rattle.column.proofs.open.Tie as tie
 
+abbrev the-column : tie.Start → Column
+the-column c = let a = c .args in columnOf (a .directory .now) (a .g .now) (a .w .now) (a .y .now)
+
+-- past checks 2, 3 and 6
+shaped : (c : tie.Else1) → (let s = c .before .before .before .before .before .before in Carried blockLimit (lentChecks blockLimit (the-column s)) (s .args .directory .now) (s .args .d .grower) (c .before .lent .result))
+shaped c = carried blockLimit _ _ _ _ (c .before .lent .ensures) (c .if1 .left)
+
+refusal : (c : tie.After-lent) → c .lent .result .refusal ≡ firstFailed (lentChecks blockLimit (the-column (c .before .before .before .before .before)))
+refusal c = shape-refusal blockLimit _ _ _ _ (c .lent .ensures)
+
 lent-requires : tie.Need-lent-requires
 lent-requires c κs = search needs
 
-not-opened-requires : tie.Need-not-opened-requires
-not-opened-requires c κs = search needs
+refused-requires : tie.Need-refused-requires
+refused-requires c κs = search needs
 
 returns : tie.Need-returns
-returns c = let g = c .before .before .before .before .before .before .before .args in let col = columnOf (g .directory .now) (g .g .now) (g .w .now) (g .y .now) in c .not-opened .ensures ∙ opened-lent blockLimit col (g .d) _ (shape-refusal (lentChecks blockLimit col) (g .directory .now) (g .d .grower) _ (c .before .before .lent .ensures)) (c .before .if1 .taken)
+returns c = c .refused .ensures ∙ opened-lent blockLimit _ _ _ (refusal (c .before .before)) (c .before .if1 .taken)
 
 in-range-requires : tie.Need-in-range-requires
 in-range-requires c κs = search needs
 
-not-opened-requires-2 : tie.Need-not-opened-requires-2
-not-opened-requires-2 c κs = search needs
+refused-requires-2 : tie.Need-refused-requires-2
+refused-requires-2 c κs = search needs
 
 returns-2 : tie.Need-returns-2
-returns-2 c = let g = c .before .before .before .before .before .before .before .before .before .args in let col = columnOf (g .directory .now) (g .g .now) (g .w .now) (g .y .now) in let w = carried (lentChecks blockLimit col) (g .directory .now) (g .d .grower) _ (c .before .before .before .before .lent .ensures) (c .before .before .before .if1 .left) in c .not-opened2 .ensures ∙ opened-range blockLimit col (g .d) (w .passed) (sym (c .before .before .in-range .ensures) ∙ not-true _ (c .before .if2 .taken))
+returns-2 c = c .refused2 .ensures ∙ opened-range blockLimit _ _ (shaped (c .before .before .before) .passed) (sym (c .before .before .in-range .ensures) ∙ not-true _ (c .before .if2 .taken))
 
-not-opened-requires-3 : tie.Need-not-opened-requires-3
-not-opened-requires-3 c κs = search needs
+refused-requires-3 : tie.Need-refused-requires-3
+refused-requires-3 c κs = search needs
 
 returns-3 : tie.Need-returns-3
-returns-3 c =
-    let b = c .before .before .before in
-    let l = b .before .before .before in
-    let g = l .before .before .before .before .before .args in
-    let col = columnOf (g .directory .now) (g .g .now) (g .w .now) (g .y .now) in
-    let w = carried (lentChecks blockLimit col) (g .directory .now) (g .d .grower) _ (l .lent .ensures) (b .before .before .if1 .left) in
-    c .not-opened3 .ensures ∙ opened-full blockLimit col (g .d) (w .passed) (sym (b .before .in-range .ensures) ∙ not-false _ (b .if2 .left)) (omega (arith, w .used))
+returns-3 c = let w = shaped (c .before .before .before .before .before) in c .refused3 .ensures ∙ opened-full blockLimit _ _ (w .passed) (sym (c .before .before .before .before .in-range .ensures) ∙ not-false _ (c .before .before .before .if2 .left)) (omega (arith, w .used, c .before .if3 .taken))
 
 returns-4 : tie.Need-returns-4
 returns-4 c =
-    let b = c .before .before in
-    let l = b .before .before .before in
-    let z = b .before .before .if1 .left in
-    let g = l .before .before .before .before .before .args in
-    let col = columnOf (g .directory .now) (g .g .now) (g .w .now) (g .y .now) in
-    let w = carried (lentChecks blockLimit col) (g .directory .now) (g .d .grower) _ (l .lent .ensures) z in
-    opened-yes blockLimit col (g .d) (w .passed) (sym (b .before .in-range .ensures) ∙ not-false _ (b .if2 .left)) (omega (arith, w .used)) _ z (w .used) (w .target) (w .start)
+    let w = shaped (c .before .before .before .before) in
+    opened-yes blockLimit _ _ (w .passed) (sym (c .before .before .before .in-range .ensures) ∙ not-false _ (c .before .before .if2 .left)) (omega (arith, w .used, c .if3 .left)) _ (c .before .before .before .before .if1 .left) (w .used) (w .target) (w .start)
 
 pub open-spec : {M : Type 1} → statement M
-open-spec =
-    tie.close
-    (tie.spec
-    lent-requires
-    not-opened-requires
-    returns
-    in-range-requires
-    not-opened-requires-2
-    returns-2
-    not-opened-requires-3
-    returns-3
-    returns-4)
+open-spec = tie.close (tie.spec lent-requires refused-requires returns in-range-requires refused-requires-2 returns-2 refused-requires-3 returns-3 returns-4)

@@ -1,18 +1,23 @@
--- `column::partition` meets its contract. Assumes nothing.
+-- `column::partition` meets its contract: the checks answer, and then what the directory's pass found does. Assumes nothing.
 use Prim.Native.Nat.{ℕ}
-use mathlib.Core.Path.{ap, _∙_}
-use native.Mathlib.Omega.{arith}
 use borrow.Author.Needs.{needs}
+use native.Mathlib.Omega.{arith}
 use lib.ListN.{getD}
-use Rattle.model.specs.Bounds.{blockLimit}
+use mathlib.Core.Path.{ap, _∙_}
+use Rattle.model.specs.Questions.{partitionChecks}
+use Rattle.directory.proofs.Numbers.{dir-start, dir-fits}
 use Rattle.model.specs.Place.{place}
 use Rattle.model.specs.Directory.{directoryOf}
-use Rattle.model.specs.Questions.{partitionChecks}
-use Rattle.checks.proofs.Answers.{shape-refusal, carried}
-use Rattle.column.proofs.LentColumns.{dir-start, dir-fits}
+use Rattle.model.specs.Bounds.{blockLimit}
+use Rattle.directory.proofs.Shapes.{Carried, shape-refusal, carried}
 use Rattle.column.proofs.Handing.{partition-refused, partition-done, partition-directory, partition-held}
 use Rattle.column.proofs.partition.Statement.{statement}
 use Rattle.column.proofs.partition.Tie as tie
+
+-- past checks 2, 3 and 6
+shaped : (c : tie.Else1)
+    → (let a = c .before .before .before .before .args in Carried blockLimit (partitionChecks blockLimit (a .directory .now) (a .growers .now)) (a .directory .now) (a .grower) (c .before .lent-growers .result))
+shaped c = carried blockLimit _ _ _ _ (c .before .lent-growers .ensures) (c .if1 .left)
 
 lent-growers-requires : tie.Need-lent-growers-requires
 lent-growers-requires c κs = search needs
@@ -21,28 +26,21 @@ no-partition-requires : tie.Need-no-partition-requires
 no-partition-requires c κs = search needs
 
 returns : tie.Need-returns
-returns c = let g = c .before .before .before .before .before .args in c .no-partition .ensures ∙ partition-refused blockLimit (g .directory .now) (g .growers .now) (g .grower) _ (shape-refusal (partitionChecks blockLimit (g .directory .now) (g .growers .now)) (g .directory .now) (g .grower) _ (c .before .before .lent-growers .ensures)) (c .before .if1 .taken)
+returns c = c .no-partition .ensures ∙ partition-refused blockLimit _ _ _ _ (shape-refusal blockLimit _ _ _ _ (c .before .before .lent-growers .ensures)) (c .before .if1 .taken)
 
 length-of-requires : tie.Need-length-of-requires
-length-of-requires c κs = let g = c .before .before .before .before .args in let w = carried (partitionChecks blockLimit (g .directory .now) (g .growers .now)) (g .directory .now) (g .grower) _ (c .before .lent-growers .ensures) (c .if1 .left) in rw (w .target) (partition-held blockLimit (g .directory .now) (g .growers .now) (g .grower) (w .passed))
+length-of-requires c κs = let w = shaped c in rw (w .target) (partition-held blockLimit _ _ _ (w .passed))
 
 cast-t9 : tie.Need-cast-t9
-cast-t9 c = let g = c .before .before .before .before .before .args in let w = carried (partitionChecks blockLimit (g .directory .now) (g .growers .now)) (g .directory .now) (g .grower) _ (c .before .before .lent-growers .ensures) (c .before .if1 .left) in omega (arith, w .start, dir-start blockLimit (g .directory .now) (partition-directory blockLimit (g .directory .now) (g .growers .now) (g .grower) (w .passed)) (place (directoryOf blockLimit (g .directory .now) .fences) (g .grower)))
+cast-t9 c = let w = shaped (c .before) in omega (arith, w .start, dir-start blockLimit _ (partition-directory blockLimit _ (c .before .before .before .before .before .args .growers .now) (c .before .before .before .before .before .args .grower) (w .passed)) (place (directoryOf blockLimit (c .before .before .before .before .before .args .directory .now) .fences) (c .before .before .before .before .before .args .grower)))
 
 cast-t10 : tie.Need-cast-t10
-cast-t10 c = let g = c .before .before .before .before .before .args in let w = carried (partitionChecks blockLimit (g .directory .now) (g .growers .now)) (g .directory .now) (g .grower) _ (c .before .before .lent-growers .ensures) (c .before .if1 .left) in omega (arith, c .length-of .ensures, dir-fits blockLimit (g .directory .now) (partition-directory blockLimit (g .directory .now) (g .growers .now) (g .grower) (w .passed)) (c .before .before .lent-growers .result .target))
+cast-t10 c = let w = shaped (c .before) in omega (arith, c .length-of .ensures, dir-fits blockLimit _ (partition-directory blockLimit _ (c .before .before .before .before .before .args .growers .now) (c .before .before .before .before .before .args .grower) (w .passed)) (c .before .before .lent-growers .result .target))
 
 returns-2 : tie.Need-returns-2
-returns-2 c = let g = c .before .before .before .before .before .args in let w = carried (partitionChecks blockLimit (g .directory .now) (g .growers .now)) (g .directory .now) (g .grower) _ (c .before .before .lent-growers .ensures) (c .before .if1 .left) in partition-done blockLimit (g .directory .now) (g .growers .now) (g .grower) (w .passed) _ _ (w .start) (c .length-of .ensures ∙ ap (λ (t : ℕ). getD (directoryOf blockLimit (g .directory .now) .lengths) t 0) (w .target))
+returns-2 c =
+    let w = shaped (c .before) in
+    partition-done blockLimit _ _ _ (w .passed) _ _ (w .start) (c .length-of .ensures ∙ ap (λ (t : ℕ). getD (directoryOf blockLimit (c .before .before .before .before .before .args .directory .now) .lengths) t 0) (w .target))
 
 pub partition-spec : {M : Type 1} → statement M
-partition-spec =
-    tie.close
-    (tie.spec
-    lent-growers-requires
-    no-partition-requires
-    returns
-    length-of-requires
-    cast-t9
-    cast-t10
-    returns-2)
+partition-spec = tie.close (tie.spec lent-growers-requires no-partition-requires returns length-of-requires cast-t9 cast-t10 returns-2)

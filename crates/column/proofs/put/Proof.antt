@@ -1,39 +1,31 @@
--- `column::put` meets its contract. Assumes nothing.
-use native.Mathlib.Omega.{arith}
+-- `column::put` meets its contract: the ripple moves the slots, and one number of the directory changes. Assumes nothing.
+use Prim.Native.Nat.{ℕ}
 use borrow.Author.Needs.{needs}
-use Rattle.model.specs.Bounds.{blockLimit}
-use Rattle.model.specs.Column.{lengthsOf}
-use Rattle.model.specs.Partitions.{oneMore}
+use mathlib.Core.List.{List}
+use mathlib.Core.Path.{ap, _∙_}
 use Rattle.model.specs.Lent.{columnOf}
-use Rattle.column.proofs.Writing.{column-is}
+use Rattle.model.specs.Partitions.{oneMore}
+use Rattle.model.specs.Bounds.{blockLimit}
+use Rattle.model.specs.Column.{Column, lengthsOf}
+use Rattle.directory.proofs.Numbers.{has-numbered, has-inside}
 use Rattle.model.specs.Moves.{inserted}
-use Rattle.column.proofs.LentColumns.{dir-size, dir-few, dir-lengths, dir-many}
+use Rattle.column.proofs.Writing.{column-is}
 use Rattle.column.proofs.put.Statement.{statement}
 use Rattle.column.proofs.put.Tie as tie
 
-slice-read-l : tie.Need-slice-read-l
-slice-read-l c = let g = (c .before .before .before .before .before .args) in omega (arith, dir-size blockLimit (g .directory .now) (((c .before .before .before .before .before .pre) .0 .here) .shaped), dir-few blockLimit (g .directory .now) (((c .before .before .before .before .before .pre) .0 .here) .shaped))
+abbrev the-column : tie.Start → Column
+the-column c = let a = c .args in columnOf (a .directory .now) (a .g .now) (a .w .now) (a .y .now)
 
-cast-l : tie.Need-cast-l
-cast-l c = let g = (c .before .before .before .before .before .args) in omega (arith, dir-size blockLimit (g .directory .now) (((c .before .before .before .before .before .pre) .0 .here) .shaped), dir-few blockLimit (g .directory .now) (((c .before .before .before .before .before .pre) .0 .here) .shaped))
-
-add-l : tie.Need-add-l
-add-l c = let g = (c .before .before .before .before .before .args) in omega (arith, dir-size blockLimit (g .directory .now) (((c .before .before .before .before .before .pre) .0 .here) .shaped), dir-few blockLimit (g .directory .now) (((c .before .before .before .before .before .pre) .0 .here) .shaped))
-
-sub-insert-slots : tie.Need-sub-insert-slots
-sub-insert-slots c = search needs
-
-part-insert-slots-start : tie.Need-part-insert-slots-start
-part-insert-slots-start c = search needs
-
-part-insert-slots-end : tie.Need-part-insert-slots-end
-part-insert-slots-end c = let g = (c .before .before .before .before .before .before .before .before .before .args) in omega (arith, dir-size blockLimit (g .directory .now) (((c .before .before .before .before .before .before .before .before .before .pre) .0 .here) .shaped), dir-few blockLimit (g .directory .now) (((c .before .before .before .before .before .before .before .before .before .pre) .0 .here) .shaped))
+lengths-requires : tie.Need-lengths-requires
+lengths-requires c κs = has-numbered blockLimit _ _ (c .before .before .before .before .before .before .before .before .pre .0 .here)
 
 insert-slots-requires : tie.Need-insert-slots-requires
-insert-slots-requires c κs = let g = (c .before .before .before .before .before .before .before .before .before .before .args) in let m = dir-many blockLimit (g .directory .now) (((c .before .before .before .before .before .before .before .before .before .before .pre) .0 .here) .shaped) in rw (dir-lengths blockLimit (g .directory .now) (((c .before .before .before .before .before .before .before .before .before .before .pre) .0 .here) .shaped)) (omega (arith, m, ((c .before .before .before .before .before .before .before .before .before .before .pre) .0 .here) .there), (c .before .before .before .before .before .before .before .before .before .before .pre) .0 .start, (c .before .before .before .before .before .before .before .before .before .before .pre) .1, (c .before .before .before .before .before .before .before .before .before .before .pre) .2, (c .before .before .before .before .before .before .before .before .before .before .pre) .0 .even)
+insert-slots-requires c κs =
+    let p = c .before .before .before .before .before .before .before .before .before .pre in
+    rw (c .lengths .ensures) (has-inside blockLimit _ _ (p .0 .here), p .0 .start, p .1, p .2, p .0 .even)
 
 grow-requires : tie.Need-grow-requires
-grow-requires c κs = search needs
+grow-requires c κs = c .before .before .before .before .before .before .before .before .before .before .before .before .before .before .before .before .before .pre .0 .here
 
 same-length : tie.Need-same-length
 same-length c = search needs
@@ -48,22 +40,15 @@ same-length-4 : tie.Need-same-length-4
 same-length-4 c = search needs
 
 returns : tie.Need-returns
-returns c = let g = (c .before .before .before .before .before .before .before .before .before .before .before .before .before .before .before .before .before .before .before .before .before .args) in let col = columnOf (g .directory .now) (g .g .now) (g .w .now) (g .y .now) in let e = rw (dir-lengths blockLimit (g .directory .now) (((c .before .before .before .before .before .before .before .before .before .before .before .before .before .before .before .before .before .before .before .before .before .pre) .0 .here) .shaped)) at ((c .before .before .before .before .before .before .before .before .before .before .insert-slots) .ensures) in column-is (inserted (lengthsOf blockLimit col) (g .partition)) (g .d) (oneMore (g .partition) (lengthsOf blockLimit col)) col _ _ _ _ ((c .before .before .grow) .ensures) (e .0) (e .1) (e .2)
+returns c =
+    let a = c .before .before .before .before .before .before .before .before .before .before .before .before .before .before .before .before .before .before .before .before .args in
+    let k = the-column (c .before .before .before .before .before .before .before .before .before .before .before .before .before .before .before .before .before .before .before .before) in
+    let l = c .before .before .before .before .before .before .before .before .before .before .before .lengths .ensures in
+    let e = c .before .before .before .before .before .before .before .before .before .before .insert-slots .ensures in
+    column-is (inserted (lengthsOf blockLimit k) (a .partition)) (a .d) (oneMore (a .partition) (lengthsOf blockLimit k)) k _ _ _ _ (c .before .before .grow .ensures)
+    (e .0 ∙ ap (λ (ns : List ℕ). inserted ns (a .partition) (a .d .grower) (a .g .now)) l)
+    (e .1 ∙ ap (λ (ns : List ℕ). inserted ns (a .partition) (a .d .weight) (a .w .now)) l)
+    (e .2 ∙ ap (λ (ns : List ℕ). inserted ns (a .partition) (a .d .«oil_yield») (a .y .now)) l)
 
 pub put-spec : {M : Type 1} → statement M
-put-spec =
-    tie.close
-    (tie.spec
-    slice-read-l
-    cast-l
-    add-l
-    sub-insert-slots
-    part-insert-slots-start
-    part-insert-slots-end
-    insert-slots-requires
-    grow-requires
-    same-length
-    same-length-2
-    same-length-3
-    same-length-4
-    returns)
+put-spec = tie.close (tie.spec lengths-requires insert-slots-requires grow-requires same-length same-length-2 same-length-3 same-length-4 returns)

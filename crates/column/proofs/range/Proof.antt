@@ -1,18 +1,29 @@
--- `column::range` meets its contract. Assumes nothing.
-use mathlib.Core.Path.{sym, ap, _∙_}
+-- `column::range` meets its contract: the checks answer, and then the scan does. Assumes nothing.
 use borrow.Author.Needs.{needs}
+use mathlib.Core.Path.{_≡_, sym, ap, _∙_}
+use Rattle.model.specs.Checks.{firstFailed}
+use Rattle.model.specs.Lent.{columnOf}
+use Rattle.model.specs.ColumnCalls.{Called}
+use Rattle.directory.proofs.Shapes.{Carried, shape-refusal, carried}
+use Rattle.model.specs.Partitions.{startOf}
 use Rattle.model.specs.Bounds.{blockLimit}
 use Rattle.model.specs.Questions.{lentChecks}
-use Rattle.model.specs.Lent.{columnOf}
-use Rattle.checks.proofs.Answers.{shape-refusal, carried}
+use Rattle.model.specs.Column.{Column, lengthsOf}
 use Rattle.model.specs.Calls.{range}
-use Rattle.model.specs.Partitions.{startOf}
-use Rattle.model.specs.Column.{lengthsOf}
-use Rattle.model.specs.ColumnCalls.{Called}
-use Rattle.column.proofs.Answering.{lent-no}
 use Rattle.column.proofs.Reading.{range-backwards}
+use Rattle.column.proofs.Answering.{lent-no}
 use Rattle.column.proofs.range.Statement.{statement}
 use Rattle.column.proofs.range.Tie as tie
+
+abbrev the-column : tie.Start → Column
+the-column c = let a = c .args in columnOf (a .directory .now) (a .growers .now) (a .weights .now) (a .yields .now)
+
+-- past checks 2, 3 and 6
+shaped : (c : tie.Else1) → (let s = c .before .before .before .before .before .before in Carried blockLimit (lentChecks blockLimit (the-column s)) (s .args .directory .now) (s .args .lo) (c .before .lent .result))
+shaped c = carried blockLimit _ _ _ _ (c .before .lent .ensures) (c .if1 .left)
+
+refusal : (c : tie.After-lent) → c .lent .result .refusal ≡ firstFailed (lentChecks blockLimit (the-column (c .before .before .before .before .before)))
+refusal c = shape-refusal blockLimit _ _ _ _ (c .lent .ensures)
 
 lent-requires : tie.Need-lent-requires
 lent-requires c κs = search needs
@@ -21,28 +32,19 @@ refused-requires : tie.Need-refused-requires
 refused-requires c κs = search needs
 
 returns : tie.Need-returns
-returns c = let g = c .before .before .before .before .before .before .before .args in let col = columnOf (g .directory .now) (g .growers .now) (g .weights .now) (g .yields .now) in c .refused .ensures ∙ ap (λ (x : Called). x .answer) (lent-no blockLimit col (range (g .lo) (g .hi)) _ (shape-refusal (lentChecks blockLimit col) (g .directory .now) (g .lo) _ (c .before .before .lent .ensures)) (c .before .if1 .taken))
+returns c = c .refused .ensures ∙ ap (λ (x : Called). x .answer) (lent-no blockLimit _ (range _ _) _ (refusal (c .before .before)) (c .before .if1 .taken))
 
 refused-requires-2 : tie.Need-refused-requires-2
 refused-requires-2 c κs = search needs
 
 returns-2 : tie.Need-returns-2
-returns-2 c = let g = c .before .before .before .before .before .before .before .before .args in let col = columnOf (g .directory .now) (g .growers .now) (g .weights .now) (g .yields .now) in let w = carried (lentChecks blockLimit col) (g .directory .now) (g .lo) _ (c .before .before .before .lent .ensures) (c .before .before .if1 .left) in c .refused2 .ensures ∙ range-backwards blockLimit col (w .passed) (g .lo) (g .hi) (c .before .if2 .taken)
+returns-2 c = c .refused2 .ensures ∙ range-backwards blockLimit _ (shaped (c .before .before) .passed) _ _ (c .before .if2 .taken)
 
 read-requires : tie.Need-read-requires
-read-requires c κs = let g = c .before .before .before .before .before .before .before .args in let col = columnOf (g .directory .now) (g .growers .now) (g .weights .now) (g .yields .now) in let w = carried (lentChecks blockLimit col) (g .directory .now) (g .lo) _ (c .before .before .lent .ensures) (c .before .if1 .left) in (w .passed, c .if2 .left, w .target, w .start ∙ ap (startOf (lengthsOf blockLimit col)) (sym (w .target)))
+read-requires c κs = let w = shaped (c .before) in (w .passed, c .if2 .left, w .target, w .start ∙ ap (startOf (lengthsOf blockLimit (the-column (c .before .before .before .before .before .before .before)))) (sym (w .target)))
 
 returns-3 : tie.Need-returns-3
 returns-3 c = search needs
 
 pub range-spec : {M : Type 1} → statement M
-range-spec =
-    tie.close
-    (tie.spec
-    lent-requires
-    refused-requires
-    returns
-    refused-requires-2
-    returns-2
-    read-requires
-    returns-3)
+range-spec = tie.close (tie.spec lent-requires refused-requires returns refused-requires-2 returns-2 read-requires returns-3)

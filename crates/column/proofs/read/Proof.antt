@@ -1,72 +1,65 @@
--- `column::read` meets its contract. Assumes nothing.
-use Prim.Native.Nat.{_+_, _-_}
-use mathlib.Core.Path.{_≡_, _∙_}
-use native.Mathlib.Omega.{arith}
+-- `column::read` meets its contract: one scan of the partitions from lo's to hi's answers the range. Assumes nothing.
 use borrow.Author.Needs.{needs}
-use borrow.Author.Tests.{not-true, not-false}
+use native.Mathlib.Omega.{arith}
+use Prim.Native.Nat.{_+_, _-_}
 use lib.ListN.{getD}
-use Rattle.model.specs.Bounds.{blockLimit}
-use Rattle.model.specs.Column.{slots, lengthsOf, target}
-use Rattle.model.specs.Lent.{columnOf}
+use borrow.Author.Tests.{not-true, not-false}
+use mathlib.Core.Path.{_≡_, _∙_}
 use Rattle.scan.specs.Scans.{scanOf}
-use Rattle.column.proofs.LentColumns.{lent-column, the-lengths, count-lengths, held-directory}
-use Rattle.column.proofs.Reading.{good-scan, blocks-some, target-there, targets-ordered, range-bad, range-good}
+use Rattle.model.specs.Column.{Column, slots, lengthsOf, target}
+use Rattle.directory.proofs.Numbers.{block-is}
+use Rattle.model.specs.Lent.{columnOf}
+use Rattle.model.specs.Bounds.{blockLimit}
+use Rattle.directory.proofs.LentColumns.{LentColumn, lent-column, numbered, count-lengths, most-shaped}
+use Rattle.column.proofs.Reading.{targets-ordered, target-there, good-scan, blocks-some, range-bad, range-good}
 use Rattle.column.proofs.read.Statement.{statement}
 use Rattle.column.proofs.read.Tie as tie
 
-shared-slice-read-l : tie.Need-shared-slice-read-l
-shared-slice-read-l c = let g = c .before .before .before .before .before .args in let col = columnOf (g .directory .now) (g .g .now) (g .w .now) (g .y .now) in let p = c .before .before .before .before .before .pre in let l = lent-column blockLimit col (p .0) in omega (arith, l .shape .size, l .shape .few)
+abbrev the-column : tie.Start → Column
+the-column c = let a = c .args in columnOf (a .directory .now) (a .g .now) (a .w .now) (a .y .now)
 
-cast-l : tie.Need-cast-l
-cast-l c = let g = c .before .before .before .before .before .args in let col = columnOf (g .directory .now) (g .g .now) (g .w .now) (g .y .now) in let p = c .before .before .before .before .before .pre in let l = lent-column blockLimit col (p .0) in omega (arith, l .shape .size, l .shape .few)
+lent : (c : tie.Start) → LentColumn blockLimit (the-column c)
+lent c = lent-column blockLimit _ (c .pre .0)
 
-add-l : tie.Need-add-l
-add-l c = let g = c .before .before .before .before .before .args in let col = columnOf (g .directory .now) (g .g .now) (g .w .now) (g .y .now) in let p = c .before .before .before .before .before .pre in let l = lent-column blockLimit col (p .0) in omega (arith, l .shape .size, l .shape .few)
+-- the scan, in the column's terms
+scanned : (c : tie.After-scan-parts)
+    → (let s = c .before .before .before .before .before .before .before .before in let k = the-column s in let lo = target blockLimit k (s .args .lo) in
+    c .scan-parts .result
+    ≡ scanOf (getD (s .args .directory .now) 0 0) (lengthsOf blockLimit k) lo (target blockLimit k (s .args .hi) + 1 - lo) (s .args .lo) (s .args .hi) (slots k))
+scanned c = rw (c .before .before .lengths .ensures, c .before .before .before .before .before .before .before .before .pre .2, c .before .before .before .partition-of .ensures, c .before .block .ensures ∙ block-is blockLimit _) at (c .scan-parts .ensures)
 
 partition-of-requires : tie.Need-partition-of-requires
-partition-of-requires c κs = let g = c .before .before .before .before .before .args in let col = columnOf (g .directory .now) (g .g .now) (g .w .now) (g .y .now) in let p = c .before .before .before .before .before .pre in let l = lent-column blockLimit col (p .0) in held-directory blockLimit col l
+partition-of-requires c κs = most-shaped blockLimit _ (lent (c .before .before .before .before))
 
-sub-scan-parts : tie.Need-sub-scan-parts
-sub-scan-parts c = search needs
+lengths-requires : tie.Need-lengths-requires
+lengths-requires c κs = numbered blockLimit _ (lent (c .before .before .before .before .before))
 
-part-scan-parts-start : tie.Need-part-scan-parts-start
-part-scan-parts-start c = search needs
-
-part-scan-parts-end : tie.Need-part-scan-parts-end
-part-scan-parts-end c = let g = c .before .before .before .before .before .before .args in let col = columnOf (g .directory .now) (g .g .now) (g .w .now) (g .y .now) in let p = c .before .before .before .before .before .before .pre in let l = lent-column blockLimit col (p .0) in omega (arith, l .shape .size, l .shape .few)
-
-shared-slice-read-scan-parts : tie.Need-shared-slice-read-scan-parts
-shared-slice-read-scan-parts c = let g = c .before .before .before .before .before .before .before .before .args in let col = columnOf (g .directory .now) (g .g .now) (g .w .now) (g .y .now) in let p = c .before .before .before .before .before .before .before .before .pre in let l = lent-column blockLimit col (p .0) in omega (arith, l .shape .size, l .shape .few)
+block-requires : tie.Need-block-requires
+block-requires c κs = lent (c .before .before .before .before .before .before) .shape .size
 
 scan-parts-requires : tie.Need-scan-parts-requires
-scan-parts-requires c κs = let g = c .before .before .before .before .before .before .before .before .args in let col = columnOf (g .directory .now) (g .g .now) (g .w .now) (g .y .now) in let p = c .before .before .before .before .before .before .before .before .pre in let l = lent-column blockLimit col (p .0) in rw (the-lengths blockLimit col l, c .before .before .partition-of .ensures) ((rw (p .2) (targets-ordered blockLimit col (p .0) (g .lo) (g .hi) (p .1)), target-there blockLimit col (p .0) (g .hi), omega (arith, count-lengths blockLimit col l, l .shape .few), l .shape .room, l .block, p .3), (l .most, l .even))
+scan-parts-requires c κs =
+    let s = c .before .before .before .before .before .before .before in
+    let p = s .pre in
+    let l = lent s in
+    rw (c .before .lengths .ensures, c .before .before .partition-of .ensures, c .block .ensures ∙ block-is blockLimit _)
+    ((rw (p .2) (targets-ordered blockLimit _ (p .0) _ _ (p .1)), target-there blockLimit _ (p .0) _, omega (arith, count-lengths blockLimit _ l, l .shape .few), l .shape .room, l .block, p .3), (l .most, l .even))
 
 refused-requires : tie.Need-refused-requires
 refused-requires c κs = search needs
 
 returns : tie.Need-returns
-returns c = let g = c .before .before .before .before .before .before .before .before .before .before .before .before .args in let col = columnOf (g .directory .now) (g .g .now) (g .w .now) (g .y .now) in let p = c .before .before .before .before .before .before .before .before .before .before .before .before .pre in let l = lent-column blockLimit col (p .0) in let e : c .before .before .before .scan-parts .result ≡ scanOf (getD (g .directory .now) 0 0) (lengthsOf blockLimit col) (target blockLimit col (g .lo)) (target blockLimit col (g .hi) + 1 - target blockLimit col (g .lo)) (g .lo) (g .hi) (slots col) = rw (the-lengths blockLimit col l, p .2, c .before .before .before .before .before .before .partition-of .ensures) at (c .before .before .before .scan-parts .ensures) in c .refused .ensures ∙ range-bad blockLimit col (p .0) (g .lo) (g .hi) (p .1) _ e (not-true _ (c .before .if1 .taken))
+returns c = c .refused .ensures ∙ (let p = c .before .before .before .before .before .before .before .before .before .before .before .pre in range-bad blockLimit _ (p .0) _ _ (p .1) _ (scanned (c .before .before .before)) (not-true _ (c .before .if1 .taken)))
 
 reads-of-requires : tie.Need-reads-of-requires
-reads-of-requires c κs = let g = c .before .before .before .before .before .before .before .before .before .before .before .args in let col = columnOf (g .directory .now) (g .g .now) (g .w .now) (g .y .now) in let p = c .before .before .before .before .before .before .before .before .before .before .before .pre in let l = lent-column blockLimit col (p .0) in let e : c .before .before .scan-parts .result ≡ scanOf (getD (g .directory .now) 0 0) (lengthsOf blockLimit col) (target blockLimit col (g .lo)) (target blockLimit col (g .hi) + 1 - target blockLimit col (g .lo)) (g .lo) (g .hi) (slots col) = rw (the-lengths blockLimit col l, p .2, c .before .before .before .before .before .partition-of .ensures) at (c .before .before .scan-parts .ensures) in rw (good-scan _ _ _ _ (g .lo) (g .hi) _ _ e (not-false _ (c .if1 .left)) .blocks) (blocks-some _ (lengthsOf blockLimit col) (target blockLimit col (g .lo)) (target blockLimit col (g .hi)) (targets-ordered blockLimit col (p .0) (g .lo) (g .hi) (p .1)) (target-there blockLimit col (p .0) (g .hi)))
+reads-of-requires c κs =
+    let s = c .before .before .before .before .before .before .before .before .before .before in
+    let p = s .pre in
+    rw (good-scan _ _ _ _ _ _ _ _ (scanned (c .before .before)) (not-false _ (c .if1 .left)) .blocks)
+    (blocks-some _ (lengthsOf blockLimit (the-column s)) _ _ (targets-ordered blockLimit (the-column s) (p .0) _ _ (p .1)) (target-there blockLimit (the-column s) (p .0) _))
 
 returns-2 : tie.Need-returns-2
-returns-2 c = let g = c .before .before .before .before .before .before .before .before .before .before .before .before .before .args in let col = columnOf (g .directory .now) (g .g .now) (g .w .now) (g .y .now) in let p = c .before .before .before .before .before .before .before .before .before .before .before .before .before .pre in let l = lent-column blockLimit col (p .0) in let e : c .before .before .before .before .scan-parts .result ≡ scanOf (getD (g .directory .now) 0 0) (lengthsOf blockLimit col) (target blockLimit col (g .lo)) (target blockLimit col (g .hi) + 1 - target blockLimit col (g .lo)) (g .lo) (g .hi) (slots col) = rw (the-lengths blockLimit col l, p .2, c .before .before .before .before .before .before .before .partition-of .ensures) at (c .before .before .before .before .scan-parts .ensures) in range-good blockLimit col (p .0) (g .lo) (g .hi) (p .1) _ e _ (not-false _ (c .before .before .if1 .left)) (c .before .reads-of .ensures)
+returns-2 c = let p = c .before .before .before .before .before .before .before .before .before .before .before .before .pre in range-good blockLimit _ (p .0) _ _ (p .1) _ (scanned (c .before .before .before .before)) _ (not-false _ (c .before .before .if1 .left)) (c .before .reads-of .ensures)
 
 pub read-spec : {M : Type 1} → statement M
-read-spec =
-    tie.close
-    (tie.spec
-    shared-slice-read-l
-    cast-l
-    add-l
-    partition-of-requires
-    sub-scan-parts
-    part-scan-parts-start
-    part-scan-parts-end
-    shared-slice-read-scan-parts
-    scan-parts-requires
-    refused-requires
-    returns
-    reads-of-requires
-    returns-2)
+read-spec = tie.close (tie.spec partition-of-requires lengths-requires block-requires scan-parts-requires refused-requires returns reads-of-requires returns-2)

@@ -1,23 +1,26 @@
--- `column::shift` meets its contract. Assumes nothing.
-use native.Mathlib.Omega.{arith}
+-- `column::shift` meets its contract: the slots move, one length falls and one rises. Assumes nothing.
 use borrow.Author.Needs.{needs}
-use Rattle.model.specs.Bounds.{blockLimit}
-use Rattle.model.specs.Column.{lengthsOf}
-use Rattle.model.specs.Partitions.{oneMore, oneFewer}
+use native.Mathlib.Omega.{arith}
 use Rattle.model.specs.Lent.{columnOf}
-use Rattle.column.proofs.Writing.{held-after, twice, column-is}
 use Rattle.model.specs.Moves.{moved}
+use Rattle.model.specs.Bounds.{blockLimit}
+use Rattle.model.specs.Column.{Column, lengthsOf}
+use Rattle.model.specs.Partitions.{oneMore, oneFewer}
+use Rattle.column.proofs.Writing.{held-after, twice, column-is}
 use Rattle.column.proofs.shift.Statement.{statement}
 use Rattle.column.proofs.shift.Tie as tie
+
+abbrev the-column : tie.Start → Column
+the-column c = let a = c .args in columnOf (a .directory .now) (a .g .now) (a .w .now) (a .y .now)
 
 shift-slots-requires : tie.Need-shift-slots-requires
 shift-slots-requires c κs = search needs
 
 shrink-requires : tie.Need-shrink-requires
-shrink-requires c κs = (((c .before .before .before .before .before .before .before .before .before .before .before .before .before .before .before .before .pre) .0 .here), omega (arith, (c .before .before .before .before .before .before .before .before .before .before .before .before .before .before .before .before .pre) .1))
+shrink-requires c κs = let p = c .before .before .before .before .before .before .before .before .before .before .before .before .before .before .before .before .pre in (p .0 .here, omega (arith, p .1))
 
 grow-requires : tie.Need-grow-requires
-grow-requires c κs = let g = (c .before .before .before .before .before .before .before .before .before .before .before .before .before .before .before .before .before .before .before .before .args) in rw ((c .before .before .before .shrink) .ensures) (held-after blockLimit (g .directory .now) (g .from) (g .to) ((c .before .before .before .before .before .before .before .before .before .before .before .before .before .before .before .before .before .before .before .before .pre) .0 .here) (omega (arith, (c .before .before .before .before .before .before .before .before .before .before .before .before .before .before .before .before .before .before .before .before .pre) .1)) ((c .before .before .before .before .before .before .before .before .before .before .before .before .before .before .before .before .before .before .before .before .pre) .2))
+grow-requires c κs = let p = c .before .before .before .before .before .before .before .before .before .before .before .before .before .before .before .before .before .before .before .before .pre in rw (c .before .before .before .shrink .ensures) (held-after blockLimit _ _ _ (p .0 .here) (omega (arith, p .1)) (p .2))
 
 same-length : tie.Need-same-length
 same-length c = search needs
@@ -32,17 +35,13 @@ same-length-4 : tie.Need-same-length-4
 same-length-4 c = search needs
 
 returns : tie.Need-returns
-returns c = let g = (c .before .before .before .before .before .before .before .before .before .before .before .before .before .before .before .before .before .before .before .before .before .before .before .args) in let col = columnOf (g .directory .now) (g .g .now) (g .w .now) (g .y .now) in let e = (c .before .before .before .before .before .before .before .before .before .before .before .before .before .before .shift-slots) .ensures in column-is (moved (lengthsOf blockLimit col) (g .from) (g .slot) (g .to)) (g .d) (oneMore (g .to) (oneFewer (g .from) (lengthsOf blockLimit col))) col _ _ _ _ (twice blockLimit (g .directory .now) (g .from) (g .to) ((c .before .before .before .before .before .before .before .before .before .before .before .before .before .before .before .before .before .before .before .before .before .before .before .pre) .0 .here) (omega (arith, (c .before .before .before .before .before .before .before .before .before .before .before .before .before .before .before .before .before .before .before .before .before .before .before .pre) .1)) _ _ ((c .before .before .before .before .before .before .shrink) .ensures) ((c .before .before .grow) .ensures)) (e .0) (e .1) (e .2)
+returns c =
+    let s = c .before .before .before .before .before .before .before .before .before .before .before .before .before .before .before .before .before .before .before .before .before .before .before in
+    let a = s .args in
+    let ns = lengthsOf blockLimit (the-column s) in
+    let e = c .before .before .before .before .before .before .before .before .before .before .before .before .before .before .shift-slots .ensures in
+    column-is (moved ns (a .from) (a .slot) (a .to)) (a .d) (oneMore (a .to) (oneFewer (a .from) ns)) (the-column s) _ _ _ _
+    (twice blockLimit (a .directory .now) (a .from) (a .to) (s .pre .0 .here) (omega (arith, s .pre .1)) _ _ (c .before .before .before .before .before .before .shrink .ensures) (c .before .before .grow .ensures)) (e .0) (e .1) (e .2)
 
 pub shift-spec : {M : Type 1} → statement M
-shift-spec =
-    tie.close
-    (tie.spec
-    shift-slots-requires
-    shrink-requires
-    grow-requires
-    same-length
-    same-length-2
-    same-length-3
-    same-length-4
-    returns)
+shift-spec = tie.close (tie.spec shift-slots-requires shrink-requires grow-requires same-length same-length-2 same-length-3 same-length-4 returns)

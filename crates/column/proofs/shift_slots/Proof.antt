@@ -1,31 +1,25 @@
--- `column::shift_slots` meets its contract. Assumes nothing.
-use native.Mathlib.Omega.{arith}
+-- `column::shift_slots` meets its contract: to a later partition and to an earlier one, the ripple that moves there. Assumes nothing.
+use Prim.Native.Nat.{ℕ}
 use borrow.Author.Needs.{needs}
+use mathlib.Core.List.{List}
+use mathlib.Core.Path.{ap, _∙_}
+use Rattle.directory.specs.Numbers.{HasPartition}
+use Rattle.model.specs.Moves.{moved}
 use Rattle.model.specs.Bounds.{blockLimit}
-use Rattle.column.proofs.LentColumns.{dir-size, dir-few, dir-lengths, dir-many}
+use Rattle.directory.proofs.Numbers.{has-numbered, has-inside}
 use Rattle.column.proofs.shift_slots.Statement.{statement}
 use Rattle.column.proofs.shift_slots.Tie as tie
 
-shared-slice-read-l : tie.Need-shared-slice-read-l
-shared-slice-read-l c = let g = (c .before .before .before .before .before .args) in omega (arith, dir-size blockLimit (g .directory .now) (((c .before .before .before .before .before .pre) .0 .here) .shaped), dir-few blockLimit (g .directory .now) (((c .before .before .before .before .before .pre) .0 .here) .shaped))
+there : (c : tie.Start) → HasPartition blockLimit (c .args .directory .now) (c .args .to)
+there c = record { shaped = c .pre .0 .here .shaped; there = c .pre .2 }
 
-cast-l : tie.Need-cast-l
-cast-l c = let g = (c .before .before .before .before .before .args) in omega (arith, dir-size blockLimit (g .directory .now) (((c .before .before .before .before .before .pre) .0 .here) .shaped), dir-few blockLimit (g .directory .now) (((c .before .before .before .before .before .pre) .0 .here) .shaped))
-
-add-l : tie.Need-add-l
-add-l c = let g = (c .before .before .before .before .before .args) in omega (arith, dir-size blockLimit (g .directory .now) (((c .before .before .before .before .before .pre) .0 .here) .shaped), dir-few blockLimit (g .directory .now) (((c .before .before .before .before .before .pre) .0 .here) .shaped))
-
-sub-forward-slots : tie.Need-sub-forward-slots
-sub-forward-slots c = search needs
-
-part-forward-slots-start : tie.Need-part-forward-slots-start
-part-forward-slots-start c = search needs
-
-part-forward-slots-end : tie.Need-part-forward-slots-end
-part-forward-slots-end c = let g = (c .before .before .before .before .before .before .before .before .before .args) in omega (arith, dir-size blockLimit (g .directory .now) (((c .before .before .before .before .before .before .before .before .before .pre) .0 .here) .shaped), dir-few blockLimit (g .directory .now) (((c .before .before .before .before .before .before .before .before .before .pre) .0 .here) .shaped))
+lengths-requires : tie.Need-lengths-requires
+lengths-requires c κs = has-numbered blockLimit _ _ (c .before .before .before .before .before .before .before .before .pre .0 .here)
 
 forward-slots-requires : tie.Need-forward-slots-requires
-forward-slots-requires c κs = let g = (c .before .before .before .before .before .before .before .before .before .before .args) in let m = dir-many blockLimit (g .directory .now) (((c .before .before .before .before .before .before .before .before .before .before .pre) .0 .here) .shaped) in rw (dir-lengths blockLimit (g .directory .now) (((c .before .before .before .before .before .before .before .before .before .before .pre) .0 .here) .shaped)) ((c .before .before .before .before .if1) .taken, omega (arith, m, (c .before .before .before .before .before .before .before .before .before .before .pre) .2), (c .before .before .before .before .before .before .before .before .before .before .pre) .0 .start, (c .before .before .before .before .before .before .before .before .before .before .pre) .1, (c .before .before .before .before .before .before .before .before .before .before .pre) .0 .room, (c .before .before .before .before .before .before .before .before .before .before .pre) .0 .even)
+forward-slots-requires c κs =
+    let p = c .before .before .before .before .before .before .before .before .before .pre in
+    rw (c .lengths .ensures) (c .before .before .before .before .if1 .taken, has-inside blockLimit _ _ (there (c .before .before .before .before .before .before .before .before .before)), p .0 .start, p .1, p .0 .room, p .0 .even)
 
 same-length : tie.Need-same-length
 same-length c = search needs
@@ -37,22 +31,25 @@ same-length-3 : tie.Need-same-length-3
 same-length-3 c = search needs
 
 returns : tie.Need-returns
-returns c = let g = (c .before .before .before .before .before .before .before .before .before .before .before .before .before .before .before .before .before .args) in rw (dir-lengths blockLimit (g .directory .now) (((c .before .before .before .before .before .before .before .before .before .before .before .before .before .before .before .before .before .pre) .0 .here) .shaped)) at ((c .before .before .before .before .before .before .forward-slots) .ensures)
+returns c =
+    let a = c .before .before .before .before .before .before .before .before .before .before .before .before .before .before .before .before .args in
+    let l = c .before .before .before .before .before .before .before .lengths .ensures in
+    let e = c .before .before .before .before .before .before .forward-slots .ensures in (
+      e .0 ∙ ap (λ (ns : List ℕ). moved ns (a .from) (a .slot) (a .to) (a .d .grower) (a .g .now)) l,
+      e .1 ∙ ap (λ (ns : List ℕ). moved ns (a .from) (a .slot) (a .to) (a .d .weight) (a .w .now)) l,
+      e .2 ∙ ap (λ (ns : List ℕ). moved ns (a .from) (a .slot) (a .to) (a .d .«oil_yield») (a .y .now)) l,
+    )
 
 start-of-requires : tie.Need-start-of-requires
-start-of-requires c κs = record { shaped = ((c .before .before .before .before .before .before .pre) .0 .here) .shaped; there = (c .before .before .before .before .before .before .pre) .2 }
+start-of-requires c κs = there (c .before .before .before .before .before)
 
-sub-backward-slots : tie.Need-sub-backward-slots
-sub-backward-slots c = search needs
-
-part-backward-slots-start : tie.Need-part-backward-slots-start
-part-backward-slots-start c = search needs
-
-part-backward-slots-end : tie.Need-part-backward-slots-end
-part-backward-slots-end c = let g = (c .before .before .before .before .before .before .before .before .before .before .args) in omega (arith, dir-size blockLimit (g .directory .now) (((c .before .before .before .before .before .before .before .before .before .before .pre) .0 .here) .shaped), dir-few blockLimit (g .directory .now) (((c .before .before .before .before .before .before .before .before .before .before .pre) .0 .here) .shaped))
+lengths-requires-2 : tie.Need-lengths-requires-2
+lengths-requires-2 c κs = has-numbered blockLimit _ _ (c .before .before .before .before .before .before .before .before .before .pre .0 .here)
 
 backward-slots-requires : tie.Need-backward-slots-requires
-backward-slots-requires c κs = let g = (c .before .before .before .before .before .before .before .before .before .before .before .args) in let m = dir-many blockLimit (g .directory .now) (((c .before .before .before .before .before .before .before .before .before .before .before .pre) .0 .here) .shaped) in rw (dir-lengths blockLimit (g .directory .now) (((c .before .before .before .before .before .before .before .before .before .before .before .pre) .0 .here) .shaped)) ((c .before .before .before .before .before .if1) .left, omega (arith, m, ((c .before .before .before .before .before .before .before .before .before .before .before .pre) .0 .here) .there), (c .before .before .before .before .before .before .before .before .before .before .before .pre) .0 .start, (c .before .before .before .before .start-of) .ensures, (c .before .before .before .before .before .before .before .before .before .before .before .pre) .1, (c .before .before .before .before .before .before .before .before .before .before .before .pre) .0 .room, (c .before .before .before .before .before .before .before .before .before .before .before .pre) .0 .even)
+backward-slots-requires c κs =
+    let p = c .before .before .before .before .before .before .before .before .before .before .pre in
+    rw (c .lengths2 .ensures) (c .before .before .before .before .before .if1 .left, has-inside blockLimit _ _ (p .0 .here), p .0 .start, c .before .before .before .before .start-of .ensures, p .1, p .0 .room, p .0 .even)
 
 same-length-4 : tie.Need-same-length-4
 same-length-4 c = search needs
@@ -64,29 +61,14 @@ same-length-6 : tie.Need-same-length-6
 same-length-6 c = search needs
 
 returns-2 : tie.Need-returns-2
-returns-2 c = let g = (c .before .before .before .before .before .before .before .before .before .before .before .before .before .before .before .before .before .before .args) in rw (dir-lengths blockLimit (g .directory .now) (((c .before .before .before .before .before .before .before .before .before .before .before .before .before .before .before .before .before .before .pre) .0 .here) .shaped)) at ((c .before .before .before .before .before .before .backward-slots) .ensures)
+returns-2 c =
+    let a = c .before .before .before .before .before .before .before .before .before .before .before .before .before .before .before .before .before .args in
+    let l = c .before .before .before .before .before .before .before .lengths2 .ensures in
+    let e = c .before .before .before .before .before .before .backward-slots .ensures in (
+      e .0 ∙ ap (λ (ns : List ℕ). moved ns (a .from) (a .slot) (a .to) (a .d .grower) (a .g .now)) l,
+      e .1 ∙ ap (λ (ns : List ℕ). moved ns (a .from) (a .slot) (a .to) (a .d .weight) (a .w .now)) l,
+      e .2 ∙ ap (λ (ns : List ℕ). moved ns (a .from) (a .slot) (a .to) (a .d .«oil_yield») (a .y .now)) l,
+    )
 
 pub shift-slots-spec : {M : Type 1} → statement M
-shift-slots-spec =
-    tie.close
-    (tie.spec
-    shared-slice-read-l
-    cast-l
-    add-l
-    sub-forward-slots
-    part-forward-slots-start
-    part-forward-slots-end
-    forward-slots-requires
-    same-length
-    same-length-2
-    same-length-3
-    returns
-    start-of-requires
-    sub-backward-slots
-    part-backward-slots-start
-    part-backward-slots-end
-    backward-slots-requires
-    same-length-4
-    same-length-5
-    same-length-6
-    returns-2)
+shift-slots-spec = tie.close (tie.spec lengths-requires forward-slots-requires same-length same-length-2 same-length-3 returns start-of-requires lengths-requires-2 backward-slots-requires same-length-4 same-length-5 same-length-6 returns-2)

@@ -1,40 +1,33 @@
--- `column::take_out` meets its contract. Assumes nothing.
-use native.Mathlib.Omega.{arith}
+-- `column::take_out` meets its contract: the ripple moves the slots, and one number of the directory changes. Assumes nothing.
+use Prim.Native.Nat.{ℕ}
 use borrow.Author.Needs.{needs}
-use Rattle.model.specs.Bounds.{blockLimit}
-use Rattle.model.specs.Column.{lengthsOf}
-use Rattle.model.specs.Partitions.{oneFewer}
+use native.Mathlib.Omega.{arith}
+use mathlib.Core.List.{List}
+use mathlib.Core.Path.{ap, _∙_}
 use Rattle.model.specs.Lent.{columnOf}
-use Rattle.column.proofs.Writing.{column-is}
+use Rattle.model.specs.Partitions.{oneFewer}
+use Rattle.model.specs.Bounds.{blockLimit}
+use Rattle.model.specs.Column.{Column, lengthsOf}
+use Rattle.directory.proofs.Numbers.{has-numbered, has-inside}
 use Rattle.model.specs.Moves.{deleted}
 use Rattle.model.specs.ColumnCalls.{freed}
-use Rattle.column.proofs.LentColumns.{dir-size, dir-few, dir-lengths, dir-many}
+use Rattle.column.proofs.Writing.{column-is}
 use Rattle.column.proofs.take_out.Statement.{statement}
 use Rattle.column.proofs.take_out.Tie as tie
 
-slice-read-l : tie.Need-slice-read-l
-slice-read-l c = let g = (c .before .before .before .before .before .args) in omega (arith, dir-size blockLimit (g .directory .now) (((c .before .before .before .before .before .pre) .0 .here) .shaped), dir-few blockLimit (g .directory .now) (((c .before .before .before .before .before .pre) .0 .here) .shaped))
+abbrev the-column : tie.Start → Column
+the-column c = let a = c .args in columnOf (a .directory .now) (a .g .now) (a .w .now) (a .y .now)
 
-cast-l : tie.Need-cast-l
-cast-l c = let g = (c .before .before .before .before .before .args) in omega (arith, dir-size blockLimit (g .directory .now) (((c .before .before .before .before .before .pre) .0 .here) .shaped), dir-few blockLimit (g .directory .now) (((c .before .before .before .before .before .pre) .0 .here) .shaped))
-
-add-l : tie.Need-add-l
-add-l c = let g = (c .before .before .before .before .before .args) in omega (arith, dir-size blockLimit (g .directory .now) (((c .before .before .before .before .before .pre) .0 .here) .shaped), dir-few blockLimit (g .directory .now) (((c .before .before .before .before .before .pre) .0 .here) .shaped))
-
-sub-delete-slots : tie.Need-sub-delete-slots
-sub-delete-slots c = search needs
-
-part-delete-slots-start : tie.Need-part-delete-slots-start
-part-delete-slots-start c = search needs
-
-part-delete-slots-end : tie.Need-part-delete-slots-end
-part-delete-slots-end c = let g = (c .before .before .before .before .before .before .before .before .before .args) in omega (arith, dir-size blockLimit (g .directory .now) (((c .before .before .before .before .before .before .before .before .before .pre) .0 .here) .shaped), dir-few blockLimit (g .directory .now) (((c .before .before .before .before .before .before .before .before .before .pre) .0 .here) .shaped))
+lengths-requires : tie.Need-lengths-requires
+lengths-requires c κs = has-numbered blockLimit _ _ (c .before .before .before .before .before .before .before .before .pre .0 .here)
 
 delete-slots-requires : tie.Need-delete-slots-requires
-delete-slots-requires c κs = let g = (c .before .before .before .before .before .before .before .before .before .before .args) in let m = dir-many blockLimit (g .directory .now) (((c .before .before .before .before .before .before .before .before .before .before .pre) .0 .here) .shaped) in rw (dir-lengths blockLimit (g .directory .now) (((c .before .before .before .before .before .before .before .before .before .before .pre) .0 .here) .shaped)) (omega (arith, m, ((c .before .before .before .before .before .before .before .before .before .before .pre) .0 .here) .there), (c .before .before .before .before .before .before .before .before .before .before .pre) .0 .start, (c .before .before .before .before .before .before .before .before .before .before .pre) .1, (c .before .before .before .before .before .before .before .before .before .before .pre) .0 .room, (c .before .before .before .before .before .before .before .before .before .before .pre) .0 .even)
+delete-slots-requires c κs =
+    let p = c .before .before .before .before .before .before .before .before .before .pre in
+    rw (c .lengths .ensures) (has-inside blockLimit _ _ (p .0 .here), p .0 .start, p .1, p .0 .room, p .0 .even)
 
 shrink-requires : tie.Need-shrink-requires
-shrink-requires c κs = let g = (c .before .before .before .before .before .before .before .before .before .before .before .before .before .before .before .before .before .before .args) in (((c .before .before .before .before .before .before .before .before .before .before .before .before .before .before .before .before .before .before .pre) .0 .here), omega (arith, (c .before .before .before .before .before .before .before .before .before .before .before .before .before .before .before .before .before .before .pre) .1))
+shrink-requires c κs = let p = c .before .before .before .before .before .before .before .before .before .before .before .before .before .before .before .before .before .pre in (p .0 .here, omega (arith, p .1))
 
 same-length : tie.Need-same-length
 same-length c = search needs
@@ -49,22 +42,15 @@ same-length-4 : tie.Need-same-length-4
 same-length-4 c = search needs
 
 returns : tie.Need-returns
-returns c = let g = (c .before .before .before .before .before .before .before .before .before .before .before .before .before .before .before .before .before .before .before .before .before .args) in let col = columnOf (g .directory .now) (g .g .now) (g .w .now) (g .y .now) in let e = rw (dir-lengths blockLimit (g .directory .now) (((c .before .before .before .before .before .before .before .before .before .before .before .before .before .before .before .before .before .before .before .before .before .pre) .0 .here) .shaped)) at ((c .before .before .before .before .before .before .before .before .before .before .delete-slots) .ensures) in column-is (deleted (lengthsOf blockLimit col) (g .partition) (g .slot)) freed (oneFewer (g .partition) (lengthsOf blockLimit col)) col _ _ _ _ ((c .before .before .shrink) .ensures) (e .0) (e .1) (e .2)
+returns c =
+    let a = c .before .before .before .before .before .before .before .before .before .before .before .before .before .before .before .before .before .before .before .before .args in
+    let k = the-column (c .before .before .before .before .before .before .before .before .before .before .before .before .before .before .before .before .before .before .before .before) in
+    let l = c .before .before .before .before .before .before .before .before .before .before .before .lengths .ensures in
+    let e = c .before .before .before .before .before .before .before .before .before .before .delete-slots .ensures in
+    column-is (deleted (lengthsOf blockLimit k) (a .partition) (a .slot)) freed (oneFewer (a .partition) (lengthsOf blockLimit k)) k _ _ _ _ (c .before .before .shrink .ensures)
+    (e .0 ∙ ap (λ (ns : List ℕ). deleted ns (a .partition) (a .slot) 0 (a .g .now)) l)
+    (e .1 ∙ ap (λ (ns : List ℕ). deleted ns (a .partition) (a .slot) 0 (a .w .now)) l)
+    (e .2 ∙ ap (λ (ns : List ℕ). deleted ns (a .partition) (a .slot) 0 (a .y .now)) l)
 
 pub take-out-spec : {M : Type 1} → statement M
-take-out-spec =
-    tie.close
-    (tie.spec
-    slice-read-l
-    cast-l
-    add-l
-    sub-delete-slots
-    part-delete-slots-start
-    part-delete-slots-end
-    delete-slots-requires
-    shrink-requires
-    same-length
-    same-length-2
-    same-length-3
-    same-length-4
-    returns)
+take-out-spec = tie.close (tie.spec lengths-requires delete-slots-requires shrink-requires same-length same-length-2 same-length-3 same-length-4 returns)
