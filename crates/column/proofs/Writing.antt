@@ -4,8 +4,8 @@ use mathlib.Core.Path.{_≡_, refl, sym, ap, ap₂, _∙_, subst}
 use mathlib.Core.Bool.{Bool, true, false, cond, _&&_}
 use mathlib.Core.List.{List, [], _∷_, _++_}
 use native.Mathlib.Omega.{arith}
-use lib.ListN.{length, getD, take, drop, set, length-set, take-append-drop}
-use lib.Seq.{set-append-left, length-take-le, drop-at}
+use lib.ListN.{length, getD, drop, length-set}
+use lib.Seq.{drop-at}
 use lib.Dec.{ltb, eqb}
 use borrow.Author.Tests.{lt-ltb, le-ltb, ltb-true, ne-eqb}
 use Rattle.model.specs.declared.Delivery.{Delivery}
@@ -17,9 +17,9 @@ use Rattle.model.specs.Checks.{firstFailed}
 use Rattle.model.specs.Deliveries.{delivery, inRange}
 use Rattle.model.specs.Calls.{insert, delete, move}
 use Rattle.model.specs.Partitions.{startOf, oneMore, oneFewer}
-use Rattle.model.specs.Directory.{directorySize, partitionCount, directoryOf, withLengths}
+use Rattle.model.specs.Directory.{partitionCount, directoryOf, withLengths}
 use Rattle.model.specs.Column.{Column, lengthsOf, target, recordsNear, scannedOk, hasFreeSlot, isHeld}
-use Rattle.model.specs.Accesses.{counts, noCounts, andAlso, onward, apart, readsOf, scanNear, scanCounts, callCounts, missCounts}
+use Rattle.model.specs.Accesses.{counts, noCounts, andAlso, onward, apart, scanNear, scanCounts, callCounts, missCounts}
 use Rattle.model.specs.Questions.{lentChecks, callChecks, columnChecks}
 use Rattle.model.specs.ColumnCalls.{Called, columnRefusal, columnAfter, columnCall, callTotals, refusedCounts, slotOf, moveSlices}
 use Rattle.model.proofs.DirectoryLaws.{Shaped, Kept, with-lengths, shaped, shaped-passes, shaped-with, length-lengths}

@@ -1,21 +1,20 @@
 -- A refusal, and where a delivery lies that delete or move names.
-use Prim.Native.Nat.{ℕ, _+_, _*_, _≤_, _<_}
+use Prim.Native.Nat.{ℕ, _+_, _*_, _≤_}
 use mathlib.Core.Path.{_≡_}
 use mathlib.Core.Bool.{cond}
 use mathlib.Core.List.{List}
 use lib.ListN.{length, take, drop}
-use lib.Dec.{T, ltb, eqb}
+use lib.Dec.{ltb, eqb}
 use Rattle.model.specs.declared.Delivery.{Delivery}
 use Rattle.model.specs.declared.Counts.{Counts}
 use Rattle.model.specs.declared.Answer.{Answer}
 use Rattle.model.specs.declared.PartitionSlice.{PartitionSlice}
-use Rattle.model.specs.Bounds.{mostSlots}
 use Rattle.model.specs.Lists.{sumOf, every}
 use Rattle.model.specs.Deliveries.{inRange, noTotals, firstMatch}
 use Rattle.model.specs.Calls.{insert, delete}
 use Rattle.model.specs.Partitions.{startOf, oneMore, oneFewer}
 use Rattle.model.specs.Moves.{inserted, deleted, moved}
-use Rattle.model.specs.Directory.{partitionCount, directoryOf, directoryOk}
+use Rattle.model.specs.Directory.{directoryOf}
 use Rattle.model.specs.Lent.{Even}
 use Rattle.model.specs.Column.{Column, lengthsOf, target}
 use Rattle.model.specs.Accesses.{noCounts, blocksOf, readsOf, scanNear}

@@ -1,18 +1,17 @@
 -- What a recorder call answers: the checks ahead of 10, and the slots of each call. Assumes nothing.
-use Prim.Native.Nat.{ℕ, zero, suc, _+_, _-_, _*_, _≤_, _<_}
+use Prim.Native.Nat.{ℕ, _+_, _-_, _*_, _≤_, _<_}
 use mathlib.Core.Path.{_≡_, refl, sym, ap, _∙_}
 use mathlib.Core.Bool.{Bool, true, false, cond, _&&_}
 use mathlib.Core.List.{List, [], _∷_, _++_, map}
 use native.Mathlib.Omega.{arith}
 use borrow.Author.Tests.{le-leb, lt-leb, eq-eqb, ne-eqb}
 use lib.Dec.{T, ltb, eqb}
-use lib.ListN.{length, getD, take}
+use lib.ListN.{length, take}
 use lib.Seq.{length-take-le}
 use Rattle.model.specs.declared.Delivery.{Delivery}
-use Rattle.model.specs.Lists.{every, upFrom}
 use Rattle.model.specs.Checks.{Check, ask, firstFailed}
 use Rattle.model.specs.Deliveries.{rows, among, firstMatch}
-use Rattle.model.specs.Blocks.{Set, held, blocks, lastGrower, blockOf, valuesOk}
+use Rattle.model.specs.Blocks.{Set, held, blockOf, valuesOk}
 use Rattle.model.specs.Calls.{Call, find, range, insert, delete, move, ordered, offeredOk}
 use Rattle.model.specs.Histograms.{position, slot, histogramsSize, raises, rangeRaises, moveRaises, raiseAll, countsOk, roomToRaise}
 use Rattle.model.specs.Lent.{Even}
@@ -20,7 +19,7 @@ use Rattle.model.specs.Questions.{recorderChecks}
 use Rattle.model.specs.Recorder.{recorderRefusal, recordCall}
 use Rattle.model.proofs.Tests.{yes-first, first-passed, is-true}
 use Rattle.model.proofs.Deliveries.{rows-part, length-rows, first-among}
-use Rattle.model.proofs.SetLaws.{spot-of, spot-only, block-rises}
+use Rattle.model.proofs.SetLaws.{spot-of, block-rises}
 use Rattle.checks.proofs.Answers.{failed-first}
 use Rattle.histograms.specs.Raising.{recorded, raiseSlots, roomAt, raisedAt, spanSlots}
 use Rattle.histograms.proofs.Counts.{counts-long}

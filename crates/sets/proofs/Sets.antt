@@ -1,13 +1,13 @@
 -- The checks of an unpartitioned set, and of a layout of its blocks, test by test. Assumes nothing.
 use Prim.Native.Nat.{ℕ, _+_, _-_, _*_, _≤_, _<_}
 use mathlib.Core.Path.{_≡_, sym, ap, _∙_}
-use mathlib.Core.Bool.{Bool, true, false, not, _&&_}
+use mathlib.Core.Bool.{true, false, not, _&&_}
 use mathlib.Core.List.{List, _++_}
 use native.Mathlib.Omega.{arith}
 use borrow.Author.Tests.{lt-leb, le-leb, le-ltb, lt-ltb, eq-eqb, ne-eqb}
-use lib.Dec.{leb, eqb, leb→le, eqb→eq}
+use lib.Dec.{leb, eqb, leb→le}
 use lib.ListN.{length, getD, take}
-use Rattle.model.specs.Bounds.{mostBlockLength, mostSlots}
+use Rattle.model.specs.Bounds.{mostBlockLength}
 use Rattle.model.specs.Lists.{every, rising, ceilDiv}
 use Rattle.model.specs.Checks.{Check, firstFailed}
 use Rattle.model.specs.Deliveries.{inRange}

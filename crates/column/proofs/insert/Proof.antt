@@ -1,7 +1,7 @@
 -- `column::insert` meets its contract: refused by its checks, or put where the directory's pass found its partition. Assumes nothing.
 use borrow.Author.Needs.{needs}
 use native.Mathlib.Omega.{arith}
-use Prim.Native.Nat.{ℕ, _≤_}
+use Prim.Native.Nat.{ℕ}
 use mathlib.Core.Path.{refl, ap, _∙_}
 use Rattle.directory.proofs.Numbers.{has-onward}
 use Rattle.model.specs.Lent.{columnOf}

@@ -3,13 +3,11 @@ use mathlib.Core.Path.{ap, ap₂, _∙_}
 use borrow.Author.Needs.{needs}
 use native.Mathlib.Omega.{arith}
 use Prim.Native.Nat.{ℕ, _≤_}
-use lib.ListN.{length}
 use Rattle.model.specs.Accesses.{apart}
 use Rattle.directory.proofs.LentColumns.{lent-column, count-lengths, most-shaped}
 use Rattle.model.specs.ColumnCalls.{slotOf}
 use Rattle.model.specs.Deliveries.{delivery}
 use Rattle.model.specs.Lent.{columnOf}
-use Rattle.model.specs.Directory.{directoryOf}
 use Rattle.model.specs.Bounds.{blockLimit}
 use Rattle.model.specs.declared.Answer.{Answer}
 use Rattle.model.specs.Column.{Column, target}

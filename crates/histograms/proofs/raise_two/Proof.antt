@@ -1,6 +1,6 @@
 -- `histograms::raise_two` meets its contract: where one of the two has no room nothing is raised; the second stands behind the first, which leaves it as it was. Assumes nothing.
 use Prim.Native.Nat.{ℕ, _+_, _*_, _<_}
-use mathlib.Core.List.{List, [], _∷_}
+use mathlib.Core.List.{[], _∷_}
 use lib.ListN.{length}
 use native.Mathlib.Omega.{arith}
 use mathlib.Core.Path.{_≡_, ap₂, _∙_}
