@@ -83,7 +83,14 @@ module _ (L : ℕ) where
 
     -- the directory is one for at most 262,144 slots
     pub held-directory : T (directoryOk L mostSlots (c .directory))
-    held-directory = shaped-passes L mostSlots (c .directory) (record { size = l .shape .size; some = l .shape .some; few = l .shape .few; unused = l .shape .unused; rises = l .shape .rises; room = omega (arith, l .shape .room, l .most) })
+    held-directory = shaped-passes L mostSlots (c .directory) (record {
+      size = l .shape .size;
+      some = l .shape .some;
+      few = l .shape .few;
+      unused = l .shape .unused;
+      rises = l .shape .rises;
+      room = omega (arith, l .shape .room, l .most);
+    })
 
     pub held : (t : ℕ) → t < length (lengthsOf L c) → InDirectory L (c .directory) t
     held t h = record { shaped = held-directory; there = omega (arith, count-lengths) }

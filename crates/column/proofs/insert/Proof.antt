@@ -35,16 +35,44 @@ same-length-4 : tie.Need-same-length-4
 same-length-4 c = search needs
 
 returns : tie.Need-returns
-returns c = let g = (c .before .before .before .before .before .before .before .before .before .before .before .args) in let col = columnOf (g .directory .now) (g .growers .now) (g .weights .now) (g .yields .now) in ap (λ (x : Answer). record { answer = x; column = col }) ((c .refused) .ensures) ∙ insert-refused blockLimit col (g .d) ((c .before .before .«open») .result) ((c .before .before .«open») .ensures) ((c .before .if1) .taken)
+returns c =
+    let b₁ = c .before .before in
+    let b₂ = b₁ .before .before .before .before .before .before .before .before .before in
+    let g = b₂ .args in
+    let col = columnOf (g .directory .now) (g .growers .now) (g .weights .now) (g .yields .now) in
+    ap (λ (x : Answer). record { answer = x; column = col }) (c .refused .ensures) ∙ insert-refused blockLimit col (g .d) (b₁ .«open» .result) (b₁ .«open» .ensures) (c .before .if1 .taken)
 
 onward-requires : tie.Need-onward-requires
-onward-requires c κs = let g = (c .before .before .before .before .before .before .before .before .before .before .before .args) in let col = columnOf (g .directory .now) (g .growers .now) (g .weights .now) (g .yields .now) in let o = insert-open blockLimit col (g .d) ((c .before .before .«open») .result) ((c .before .before .«open») .ensures) ((c .before .if1) .left) in let l = lent-column blockLimit col (o .lent) in let hd = held blockLimit col l (target blockLimit col (g .d .grower)) (target-there blockLimit col (o .lent) (g .d .grower)) in rw (o .target-is) hd
+onward-requires c κs =
+    let b₁ = c .before .before in
+    let b₂ = b₁ .before .before .before .before .before .before .before .before .before in
+    let g = b₂ .args in
+    let col = columnOf (g .directory .now) (g .growers .now) (g .weights .now) (g .yields .now) in
+    let o = insert-open blockLimit col (g .d) (b₁ .«open» .result) (b₁ .«open» .ensures) (c .before .if1 .left) in
+    let l = lent-column blockLimit col (o .lent) in
+    let hd = held blockLimit col l (target blockLimit col (g .d .grower)) (target-there blockLimit col (o .lent) (g .d .grower)) in
+    rw (o .target-is) hd
 
 add-each : tie.Need-add-each
-add-each c = let g = (c .before .before .before .before .before .before .before .before .before .before .before .before .args) in let col = columnOf (g .directory .now) (g .growers .now) (g .weights .now) (g .yields .now) in let o = insert-open blockLimit col (g .d) ((c .before .before .before .«open») .result) ((c .before .before .before .«open») .ensures) ((c .before .before .if1) .left) in let l = lent-column blockLimit col (o .lent) in let hd = held blockLimit col l (target blockLimit col (g .d .grower)) (target-there blockLimit col (o .lent) (g .d .grower)) in omega (arith, (c .onward) .ensures, count-fences blockLimit col l, l .shape .few)
+add-each c =
+    let b₁ = c .before .before .before in
+    let b₂ = b₁ .before .before .before .before .before .before .before .before .before in
+    let g = b₂ .args in
+    let col = columnOf (g .directory .now) (g .growers .now) (g .weights .now) (g .yields .now) in
+    let o = insert-open blockLimit col (g .d) (b₁ .«open» .result) (b₁ .«open» .ensures) (c .before .before .if1 .left) in
+    let l = lent-column blockLimit col (o .lent) in
+    let hd = held blockLimit col l (target blockLimit col (g .d .grower)) (target-there blockLimit col (o .lent) (g .d .grower)) in
+    omega (arith, c .onward .ensures, count-fences blockLimit col l, l .shape .few)
 
 put-requires : tie.Need-put-requires
-put-requires c κs = let g = (c .before .before .before .before .before .before .before .before .before .before .before .before .before .before .before .before .args) in let col = columnOf (g .directory .now) (g .growers .now) (g .weights .now) (g .yields .now) in let o = insert-open blockLimit col (g .d) ((c .before .before .before .before .before .before .before .«open») .result) ((c .before .before .before .before .before .before .before .«open») .ensures) ((c .before .before .before .before .before .before .if1) .left) in let l = lent-column blockLimit col (o .lent) in let hd = held blockLimit col l (target blockLimit col (g .d .grower)) (target-there blockLimit col (o .lent) (g .d .grower)) in rw (o .target-is, o .start-is, o .used-is) (ready blockLimit col (g .d .grower) (o .lent), refl, o .free)
+put-requires c κs =
+    let b₁ = c .before .before .before .before .before .before in
+    let b₂ = b₁ .before in
+    let b₃ = b₂ .before .before .before .before .before .before .before .before .before in
+    let g = b₃ .args in
+    let col = columnOf (g .directory .now) (g .growers .now) (g .weights .now) (g .yields .now) in
+    let o = insert-open blockLimit col (g .d) (b₂ .«open» .result) (b₂ .«open» .ensures) (b₁ .if1 .left) in
+    rw (o .target-is, o .start-is, o .used-is) (ready blockLimit col (g .d .grower) (o .lent), refl, o .free)
 
 without-totals-requires : tie.Need-without-totals-requires
 without-totals-requires c κs = search needs
@@ -62,7 +90,18 @@ same-length-8 : tie.Need-same-length-8
 same-length-8 c = search needs
 
 returns-2 : tie.Need-returns-2
-returns-2 c = let g = (c .before .before .before .before .before .before .before .before .before .before .before .before .before .before .before .before .before .before .before .before .before .before .before .before .before .before .args) in let col = columnOf (g .directory .now) (g .growers .now) (g .weights .now) (g .yields .now) in let o = insert-open blockLimit col (g .d) ((c .before .before .before .before .before .before .before .before .before .before .before .before .before .before .before .before .before .«open») .result) ((c .before .before .before .before .before .before .before .before .before .before .before .before .before .before .before .before .before .«open») .ensures) ((c .before .before .before .before .before .before .before .before .before .before .before .before .before .before .before .before .if1) .left) in let l = lent-column blockLimit col (o .lent) in let hd = held blockLimit col l (target blockLimit col (g .d .grower)) (target-there blockLimit col (o .lent) (g .d .grower)) in let e = (c .before .before .before .before .before .before .before .before .before .put) .ensures ∙ ap (λ (t : ℕ). putOf blockLimit col t (g .d)) (o .target-is) in let n = (c .before .before .before .before .before .before .before .before .before .before .before .before .before .before .onward) .ensures ∙ ap (onward (directoryOf blockLimit (g .directory .now))) (o .target-is) in insert-done blockLimit col (g .d) ((c .before .before .before .before .before .before .before .before .before .before .before .before .before .before .before .before .before .«open») .result) ((c .before .before .before .before .before .before .before .before .before .before .before .before .before .before .before .before .before .«open») .ensures) o _ _ _ e n ((c .without-totals) .ensures)
+returns-2 c =
+    let b₁ = c .before .before .before .before .before .before .before .before .before in
+    let b₂ = b₁ .before .before .before .before .before in
+    let b₃ = b₂ .before .before in
+    let b₄ = b₃ .before in
+    let b₅ = b₄ .before .before .before .before .before .before .before .before .before in
+    let g = b₅ .args in
+    let col = columnOf (g .directory .now) (g .growers .now) (g .weights .now) (g .yields .now) in
+    let o = insert-open blockLimit col (g .d) (b₄ .«open» .result) (b₄ .«open» .ensures) (b₃ .if1 .left) in
+    let e = b₁ .put .ensures ∙ ap (λ (t : ℕ). putOf blockLimit col t (g .d)) (o .target-is) in
+    let n = b₂ .onward .ensures ∙ ap (onward (directoryOf blockLimit (g .directory .now))) (o .target-is) in
+    insert-done blockLimit col (g .d) (b₄ .«open» .result) (b₄ .«open» .ensures) o _ _ _ e n (c .without-totals .ensures)
 
 pub insert-spec : {M : Type 1} → statement M
 insert-spec =

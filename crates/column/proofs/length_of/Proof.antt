@@ -13,7 +13,10 @@ mul-result : tie.Need-mul-result
 mul-result c = let g = c .args in let p = c .pre in omega (arith, p .there, dir-size blockLimit (g .directory .now) (p .shaped), dir-few blockLimit (g .directory .now) (p .shaped))
 
 shared-slice-read-result : tie.Need-shared-slice-read-result
-shared-slice-read-result c = let g = c .before .args in let p = c .before .pre in omega (arith, p .there, dir-size blockLimit (g .directory .now) (p .shaped), dir-few blockLimit (g .directory .now) (p .shaped))
+shared-slice-read-result c =
+    let g = c .before .args in
+    let p = c .before .pre in
+    omega (arith, p .there, dir-size blockLimit (g .directory .now) (p .shaped), dir-few blockLimit (g .directory .now) (p .shaped))
 
 cast-result : tie.Need-cast-result
 cast-result c = let g = c .before .args in omega (arith, c .shared-slice-known .given (2 + g .partition))

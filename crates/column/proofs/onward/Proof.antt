@@ -7,10 +7,14 @@ use Rattle.column.proofs.onward.Statement.{statement}
 use Rattle.column.proofs.onward.Tie as tie
 
 shared-slice-read-result : tie.Need-shared-slice-read-result
-shared-slice-read-result c = let g = (c .before .args) in omega (arith, (c .before .pre) .there, dir-size blockLimit (g .directory .now) ((c .before .pre) .shaped), dir-few blockLimit (g .directory .now) ((c .before .pre) .shaped))
+shared-slice-read-result c =
+    let g = c .before .args in
+    omega (arith, c .before .pre .there, dir-size blockLimit (g .directory .now) (c .before .pre .shaped), dir-few blockLimit (g .directory .now) (c .before .pre .shaped))
 
 cast-result : tie.Need-cast-result
-cast-result c = let g = (c .before .args) in omega (arith, (c .before .pre) .there, dir-size blockLimit (g .directory .now) ((c .before .pre) .shaped), dir-few blockLimit (g .directory .now) ((c .before .pre) .shaped))
+cast-result c =
+    let g = c .before .args in
+    omega (arith, c .before .pre .there, dir-size blockLimit (g .directory .now) (c .before .pre .shaped), dir-few blockLimit (g .directory .now) (c .before .pre .shaped))
 
 sub-result : tie.Need-sub-result
 sub-result c = search needs

@@ -18,7 +18,12 @@ not-opened-requires : tie.Need-not-opened-requires
 not-opened-requires c κs = search needs
 
 returns : tie.Need-returns
-returns c = let g = c .before .before .before .before .before .before .before .args in let col = columnOf (g .directory .now) (g .g .now) (g .w .now) (g .y .now) in c .not-opened .ensures ∙ opened-lent blockLimit col (g .d) _ (shape-refusal (lentChecks blockLimit col) (g .directory .now) (g .d .grower) _ (c .before .before .lent .ensures)) (c .before .if1 .taken)
+returns c =
+    let b = c .before .before .before .before .before .before .before in
+    let g = b .args in
+    let col = columnOf (g .directory .now) (g .g .now) (g .w .now) (g .y .now) in
+    c .not-opened .ensures ∙ opened-lent blockLimit col (g .d) _ (shape-refusal (lentChecks blockLimit col) (g .directory .now) (g .d .grower) _ (c .before .before .lent .ensures))
+    (c .before .if1 .taken)
 
 in-range-requires : tie.Need-in-range-requires
 in-range-requires c κs = search needs
@@ -27,7 +32,13 @@ not-opened-requires-2 : tie.Need-not-opened-requires-2
 not-opened-requires-2 c κs = search needs
 
 returns-2 : tie.Need-returns-2
-returns-2 c = let g = c .before .before .before .before .before .before .before .before .before .args in let col = columnOf (g .directory .now) (g .g .now) (g .w .now) (g .y .now) in let w = carried (lentChecks blockLimit col) (g .directory .now) (g .d .grower) _ (c .before .before .before .before .lent .ensures) (c .before .before .before .if1 .left) in c .not-opened2 .ensures ∙ opened-range blockLimit col (g .d) (w .passed) (sym (c .before .before .in-range .ensures) ∙ not-true _ (c .before .if2 .taken))
+returns-2 c =
+    let b₁ = c .before .before .before .before in
+    let b₂ = b₁ .before .before .before .before .before in
+    let g = b₂ .args in
+    let col = columnOf (g .directory .now) (g .g .now) (g .w .now) (g .y .now) in
+    let w = carried (lentChecks blockLimit col) (g .directory .now) (g .d .grower) _ (b₁ .lent .ensures) (c .before .before .before .if1 .left) in
+    c .not-opened2 .ensures ∙ opened-range blockLimit col (g .d) (w .passed) (sym (c .before .before .in-range .ensures) ∙ not-true _ (c .before .if2 .taken))
 
 not-opened-requires-3 : tie.Need-not-opened-requires-3
 not-opened-requires-3 c κs = search needs

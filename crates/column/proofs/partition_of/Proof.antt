@@ -11,7 +11,10 @@ use Rattle.column.proofs.partition_of.Statement.{statement}
 use Rattle.column.proofs.partition_of.Tie as tie
 
 shared-slice-read-f : tie.Need-shared-slice-read-f
-shared-slice-read-f c = let g = c .before .before .args in omega (arith, dir-size blockLimit (g .directory .now) (c .before .before .pre), dir-few blockLimit (g .directory .now) (c .before .before .pre))
+shared-slice-read-f c =
+    let b = c .before .before in
+    let g = b .args in
+    omega (arith, dir-size blockLimit (g .directory .now) (b .pre), dir-few blockLimit (g .directory .now) (b .pre))
 
 cast-f : tie.Need-cast-f
 cast-f c = let g = c .before .before .args in omega (arith, dir-size blockLimit (g .directory .now) (c .before .before .pre), dir-few blockLimit (g .directory .now) (c .before .before .pre))
@@ -26,13 +29,27 @@ part-place-of-start : tie.Need-part-place-of-start
 part-place-of-start c = search needs
 
 part-place-of-end : tie.Need-part-place-of-end
-part-place-of-end c = let g = c .before .before .args in omega (arith, dir-size blockLimit (g .directory .now) (c .before .before .pre), dir-few blockLimit (g .directory .now) (c .before .before .pre))
+part-place-of-end c =
+    let b = c .before .before in
+    let g = b .args in
+    omega (arith, dir-size blockLimit (g .directory .now) (b .pre), dir-few blockLimit (g .directory .now) (b .pre))
 
 place-of-requires : tie.Need-place-of-requires
-place-of-requires c κs = let g = c .before .before .before .args in let ns = g .directory .now in rw (dir-fences blockLimit ns (c .before .before .before .pre)) (omega (arith, dir-count blockLimit ns (c .before .before .before .pre), dir-some blockLimit ns (c .before .before .before .pre)), omega (arith, dir-count blockLimit ns (c .before .before .before .pre), dir-few blockLimit ns (c .before .before .before .pre)), dir-rises blockLimit ns (c .before .before .before .pre))
+place-of-requires c κs =
+    let b = c .before .before .before in
+    let g = b .args in
+    let ns = g .directory .now in
+    rw (dir-fences blockLimit ns (b .pre)) (
+      omega (arith, dir-count blockLimit ns (b .pre), dir-some blockLimit ns (b .pre)),
+      omega (arith, dir-count blockLimit ns (b .pre), dir-few blockLimit ns (b .pre)),
+      dir-rises blockLimit ns (b .pre),
+    )
 
 returns : tie.Need-returns
-returns c = let g = c .before .before .before .before .args in c .place-of .ensures ∙ ap (λ (l : List ℕ). place l (g .grower)) (dir-fences blockLimit (g .directory .now) (c .before .before .before .before .pre))
+returns c =
+    let b = c .before .before .before .before in
+    let g = b .args in
+    c .place-of .ensures ∙ ap (λ (l : List ℕ). place l (g .grower)) (dir-fences blockLimit (g .directory .now) (b .pre))
 
 pub partition-of-spec : {M : Type 1} → statement M
 partition-of-spec =

@@ -12,13 +12,22 @@ use Rattle.column.proofs.put.Statement.{statement}
 use Rattle.column.proofs.put.Tie as tie
 
 slice-read-l : tie.Need-slice-read-l
-slice-read-l c = let g = (c .before .before .before .before .before .args) in omega (arith, dir-size blockLimit (g .directory .now) (((c .before .before .before .before .before .pre) .0 .here) .shaped), dir-few blockLimit (g .directory .now) (((c .before .before .before .before .before .pre) .0 .here) .shaped))
+slice-read-l c =
+    let b = c .before .before .before .before .before in
+    let g = b .args in
+    omega (arith, dir-size blockLimit (g .directory .now) (b .pre .0 .here .shaped), dir-few blockLimit (g .directory .now) (b .pre .0 .here .shaped))
 
 cast-l : tie.Need-cast-l
-cast-l c = let g = (c .before .before .before .before .before .args) in omega (arith, dir-size blockLimit (g .directory .now) (((c .before .before .before .before .before .pre) .0 .here) .shaped), dir-few blockLimit (g .directory .now) (((c .before .before .before .before .before .pre) .0 .here) .shaped))
+cast-l c =
+    let b = c .before .before .before .before .before in
+    let g = b .args in
+    omega (arith, dir-size blockLimit (g .directory .now) (b .pre .0 .here .shaped), dir-few blockLimit (g .directory .now) (b .pre .0 .here .shaped))
 
 add-l : tie.Need-add-l
-add-l c = let g = (c .before .before .before .before .before .args) in omega (arith, dir-size blockLimit (g .directory .now) (((c .before .before .before .before .before .pre) .0 .here) .shaped), dir-few blockLimit (g .directory .now) (((c .before .before .before .before .before .pre) .0 .here) .shaped))
+add-l c =
+    let b = c .before .before .before .before .before in
+    let g = b .args in
+    omega (arith, dir-size blockLimit (g .directory .now) (b .pre .0 .here .shaped), dir-few blockLimit (g .directory .now) (b .pre .0 .here .shaped))
 
 sub-insert-slots : tie.Need-sub-insert-slots
 sub-insert-slots c = search needs
@@ -27,10 +36,17 @@ part-insert-slots-start : tie.Need-part-insert-slots-start
 part-insert-slots-start c = search needs
 
 part-insert-slots-end : tie.Need-part-insert-slots-end
-part-insert-slots-end c = let g = (c .before .before .before .before .before .before .before .before .before .args) in omega (arith, dir-size blockLimit (g .directory .now) (((c .before .before .before .before .before .before .before .before .before .pre) .0 .here) .shaped), dir-few blockLimit (g .directory .now) (((c .before .before .before .before .before .before .before .before .before .pre) .0 .here) .shaped))
+part-insert-slots-end c =
+    let b = c .before .before .before .before .before .before .before .before .before in
+    let g = b .args in
+    omega (arith, dir-size blockLimit (g .directory .now) (b .pre .0 .here .shaped), dir-few blockLimit (g .directory .now) (b .pre .0 .here .shaped))
 
 insert-slots-requires : tie.Need-insert-slots-requires
-insert-slots-requires c κs = let g = (c .before .before .before .before .before .before .before .before .before .before .args) in let m = dir-many blockLimit (g .directory .now) (((c .before .before .before .before .before .before .before .before .before .before .pre) .0 .here) .shaped) in rw (dir-lengths blockLimit (g .directory .now) (((c .before .before .before .before .before .before .before .before .before .before .pre) .0 .here) .shaped)) (omega (arith, m, ((c .before .before .before .before .before .before .before .before .before .before .pre) .0 .here) .there), (c .before .before .before .before .before .before .before .before .before .before .pre) .0 .start, (c .before .before .before .before .before .before .before .before .before .before .pre) .1, (c .before .before .before .before .before .before .before .before .before .before .pre) .2, (c .before .before .before .before .before .before .before .before .before .before .pre) .0 .even)
+insert-slots-requires c κs =
+    let b = c .before .before .before .before .before .before .before .before .before .before in
+    let g = b .args in
+    let m = dir-many blockLimit (g .directory .now) (b .pre .0 .here .shaped) in
+    rw (dir-lengths blockLimit (g .directory .now) (b .pre .0 .here .shaped)) (omega (arith, m, b .pre .0 .here .there), b .pre .0 .start, b .pre .1, b .pre .2, b .pre .0 .even)
 
 grow-requires : tie.Need-grow-requires
 grow-requires c κs = search needs
@@ -48,7 +64,13 @@ same-length-4 : tie.Need-same-length-4
 same-length-4 c = search needs
 
 returns : tie.Need-returns
-returns c = let g = (c .before .before .before .before .before .before .before .before .before .before .before .before .before .before .before .before .before .before .before .before .before .args) in let col = columnOf (g .directory .now) (g .g .now) (g .w .now) (g .y .now) in let e = rw (dir-lengths blockLimit (g .directory .now) (((c .before .before .before .before .before .before .before .before .before .before .before .before .before .before .before .before .before .before .before .before .before .pre) .0 .here) .shaped)) at ((c .before .before .before .before .before .before .before .before .before .before .insert-slots) .ensures) in column-is (inserted (lengthsOf blockLimit col) (g .partition)) (g .d) (oneMore (g .partition) (lengthsOf blockLimit col)) col _ _ _ _ ((c .before .before .grow) .ensures) (e .0) (e .1) (e .2)
+returns c =
+    let b₁ = c .before .before .before .before .before .before .before .before .before .before in
+    let b₂ = b₁ .before .before .before .before .before .before .before .before .before .before .before in
+    let g = b₂ .args in
+    let col = columnOf (g .directory .now) (g .g .now) (g .w .now) (g .y .now) in
+    let e = rw (dir-lengths blockLimit (g .directory .now) (b₂ .pre .0 .here .shaped)) at (b₁ .insert-slots .ensures) in
+    column-is (inserted (lengthsOf blockLimit col) (g .partition)) (g .d) (oneMore (g .partition) (lengthsOf blockLimit col)) col _ _ _ _ (c .before .before .grow .ensures) (e .0) (e .1) (e .2)
 
 pub put-spec : {M : Type 1} → statement M
 put-spec =

@@ -21,16 +21,31 @@ refused-requires : tie.Need-refused-requires
 refused-requires c κs = search needs
 
 returns : tie.Need-returns
-returns c = let g = c .before .before .before .before .before .before .before .args in let col = columnOf (g .directory .now) (g .growers .now) (g .weights .now) (g .yields .now) in c .refused .ensures ∙ ap (λ (x : Called). x .answer) (lent-no blockLimit col (range (g .lo) (g .hi)) _ (shape-refusal (lentChecks blockLimit col) (g .directory .now) (g .lo) _ (c .before .before .lent .ensures)) (c .before .if1 .taken))
+returns c =
+    let b = c .before .before .before .before .before .before .before in
+    let g = b .args in
+    let col = columnOf (g .directory .now) (g .growers .now) (g .weights .now) (g .yields .now) in
+    c .refused .ensures ∙ ap (λ (x : Called). x .answer) (lent-no blockLimit col (range (g .lo) (g .hi)) _
+    (shape-refusal (lentChecks blockLimit col) (g .directory .now) (g .lo) _ (c .before .before .lent .ensures)) (c .before .if1 .taken))
 
 refused-requires-2 : tie.Need-refused-requires-2
 refused-requires-2 c κs = search needs
 
 returns-2 : tie.Need-returns-2
-returns-2 c = let g = c .before .before .before .before .before .before .before .before .args in let col = columnOf (g .directory .now) (g .growers .now) (g .weights .now) (g .yields .now) in let w = carried (lentChecks blockLimit col) (g .directory .now) (g .lo) _ (c .before .before .before .lent .ensures) (c .before .before .if1 .left) in c .refused2 .ensures ∙ range-backwards blockLimit col (w .passed) (g .lo) (g .hi) (c .before .if2 .taken)
+returns-2 c =
+    let b = c .before .before .before .before .before .before .before .before in
+    let g = b .args in
+    let col = columnOf (g .directory .now) (g .growers .now) (g .weights .now) (g .yields .now) in
+    let w = carried (lentChecks blockLimit col) (g .directory .now) (g .lo) _ (c .before .before .before .lent .ensures) (c .before .before .if1 .left) in
+    c .refused2 .ensures ∙ range-backwards blockLimit col (w .passed) (g .lo) (g .hi) (c .before .if2 .taken)
 
 read-requires : tie.Need-read-requires
-read-requires c κs = let g = c .before .before .before .before .before .before .before .args in let col = columnOf (g .directory .now) (g .growers .now) (g .weights .now) (g .yields .now) in let w = carried (lentChecks blockLimit col) (g .directory .now) (g .lo) _ (c .before .before .lent .ensures) (c .before .if1 .left) in (w .passed, c .if2 .left, w .target, w .start ∙ ap (startOf (lengthsOf blockLimit col)) (sym (w .target)))
+read-requires c κs =
+    let b = c .before .before .before .before .before .before .before in
+    let g = b .args in
+    let col = columnOf (g .directory .now) (g .growers .now) (g .weights .now) (g .yields .now) in
+    let w = carried (lentChecks blockLimit col) (g .directory .now) (g .lo) _ (c .before .before .lent .ensures) (c .before .if1 .left) in
+    (w .passed, c .if2 .left, w .target, w .start ∙ ap (startOf (lengthsOf blockLimit col)) (sym (w .target)))
 
 returns-3 : tie.Need-returns-3
 returns-3 c = search needs

@@ -14,10 +14,15 @@ shift-slots-requires : tie.Need-shift-slots-requires
 shift-slots-requires c κs = search needs
 
 shrink-requires : tie.Need-shrink-requires
-shrink-requires c κs = (((c .before .before .before .before .before .before .before .before .before .before .before .before .before .before .before .before .pre) .0 .here), omega (arith, (c .before .before .before .before .before .before .before .before .before .before .before .before .before .before .before .before .pre) .1))
+shrink-requires c κs =
+    let b = c .before .before .before .before .before .before .before .before .before .before .before .before .before .before .before .before in
+    ((b .pre .0 .here), omega (arith, b .pre .1))
 
 grow-requires : tie.Need-grow-requires
-grow-requires c κs = let g = (c .before .before .before .before .before .before .before .before .before .before .before .before .before .before .before .before .before .before .before .before .args) in rw ((c .before .before .before .shrink) .ensures) (held-after blockLimit (g .directory .now) (g .from) (g .to) ((c .before .before .before .before .before .before .before .before .before .before .before .before .before .before .before .before .before .before .before .before .pre) .0 .here) (omega (arith, (c .before .before .before .before .before .before .before .before .before .before .before .before .before .before .before .before .before .before .before .before .pre) .1)) ((c .before .before .before .before .before .before .before .before .before .before .before .before .before .before .before .before .before .before .before .before .pre) .2))
+grow-requires c κs =
+    let b = c .before .before .before .before .before .before .before .before .before .before .before .before .before .before .before .before .before .before .before .before in
+    let g = b .args in
+    rw (c .before .before .before .shrink .ensures) (held-after blockLimit (g .directory .now) (g .from) (g .to) (b .pre .0 .here) (omega (arith, b .pre .1)) (b .pre .2))
 
 same-length : tie.Need-same-length
 same-length c = search needs
@@ -32,7 +37,15 @@ same-length-4 : tie.Need-same-length-4
 same-length-4 c = search needs
 
 returns : tie.Need-returns
-returns c = let g = (c .before .before .before .before .before .before .before .before .before .before .before .before .before .before .before .before .before .before .before .before .before .before .before .args) in let col = columnOf (g .directory .now) (g .g .now) (g .w .now) (g .y .now) in let e = (c .before .before .before .before .before .before .before .before .before .before .before .before .before .before .shift-slots) .ensures in column-is (moved (lengthsOf blockLimit col) (g .from) (g .slot) (g .to)) (g .d) (oneMore (g .to) (oneFewer (g .from) (lengthsOf blockLimit col))) col _ _ _ _ (twice blockLimit (g .directory .now) (g .from) (g .to) ((c .before .before .before .before .before .before .before .before .before .before .before .before .before .before .before .before .before .before .before .before .before .before .before .pre) .0 .here) (omega (arith, (c .before .before .before .before .before .before .before .before .before .before .before .before .before .before .before .before .before .before .before .before .before .before .before .pre) .1)) _ _ ((c .before .before .before .before .before .before .shrink) .ensures) ((c .before .before .grow) .ensures)) (e .0) (e .1) (e .2)
+returns c =
+    let b₁ = c .before .before .before .before .before .before in
+    let b₂ = b₁ .before .before .before .before .before .before .before .before in
+    let b₃ = b₂ .before .before .before .before .before .before .before .before .before in
+    let g = b₃ .args in
+    let col = columnOf (g .directory .now) (g .g .now) (g .w .now) (g .y .now) in
+    let e = b₂ .shift-slots .ensures in
+    column-is (moved (lengthsOf blockLimit col) (g .from) (g .slot) (g .to)) (g .d) (oneMore (g .to) (oneFewer (g .from) (lengthsOf blockLimit col))) col _ _ _ _
+    (twice blockLimit (g .directory .now) (g .from) (g .to) (b₃ .pre .0 .here) (omega (arith, b₃ .pre .1)) _ _ (b₁ .shrink .ensures) (c .before .before .grow .ensures)) (e .0) (e .1) (e .2)
 
 pub shift-spec : {M : Type 1} → statement M
 shift-spec =

@@ -21,10 +21,18 @@ part-total-end : tie.Need-part-total-end
 part-total-end c = let g = c .before .args in let p = c .before .pre in omega (arith, p .there, dir-size blockLimit (g .directory .now) (p .shaped), dir-few blockLimit (g .directory .now) (p .shaped))
 
 total-requires : tie.Need-total-requires
-total-requires c κs = let g = c .before .before .args in let p = c .before .before .pre in simp length-take (omega (arith, p .there, dir-size blockLimit (g .directory .now) (p .shaped), dir-few blockLimit (g .directory .now) (p .shaped)))
+total-requires c κs =
+    let b = c .before .before in
+    let g = b .args in
+    let p = b .pre in
+    simp length-take (omega (arith, p .there, dir-size blockLimit (g .directory .now) (p .shaped), dir-few blockLimit (g .directory .now) (p .shaped)))
 
 returns : tie.Need-returns
-returns c = let g = c .before .before .before .args in let p = c .before .before .before .pre in c .total .ensures ∙ dir-ahead blockLimit (g .directory .now) (p .shaped) (g .partition) (omega (arith, p .there))
+returns c =
+    let b = c .before .before .before in
+    let g = b .args in
+    let p = b .pre in
+    c .total .ensures ∙ dir-ahead blockLimit (g .directory .now) (p .shaped) (g .partition) (omega (arith, p .there))
 
 pub start-of-spec : {M : Type 1} → statement M
 start-of-spec =
