@@ -95,7 +95,8 @@ module _ (L : ℕ) where
       pub range-bad : s .good ≡ false → withoutTotals 8 noCounts ≡ columnCall L c (range lo hi) .answer
       unfolding scannedOk between
       range-bad f =
-          ap (λ (r : Rattle.model.specs.ColumnCalls.Called). r .answer) (refused-call L c (range lo hi) 8 (answered false (bad-scan _ _ _ _ lo hi (slots c) s e f)) (λ z. omega arith) (λ z. omega arith))
+          ap (λ (r : Rattle.model.specs.ColumnCalls.Called). r .answer) (refused-call L c (range lo hi) 8 (answered false (bad-scan _ _ _ _ lo hi (slots c) s e f)) (λ z. omega arith)
+          (λ z. omega arith))
 
       -- accepted
       pub range-good : (n : Counts) → s .good ≡ true → n ≡ readsOf (s .blocks) → _≡_ {A = Answer} (record { refusal = 0; totals = s .totals; counts = n }) (columnCall L c (range lo hi) .answer)

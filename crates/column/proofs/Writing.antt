@@ -175,7 +175,8 @@ module _ (L : ℕ) where
             start-is = ap (λ (v : Shape). v .start) x;
             used-is = ap (λ (v : Shape). v .used) x;
             free = by-test (inRange d) _
-                (λ p. by-test (ltb (sumOf (lengthsOf L c)) (length (c .growers))) _ (λ q. ltb-true (sumOf (lengthsOf L c)) (length (c .growers)) q) (λ q. absurd (omega (arith, e, insert-refusal c d l true false p q))))
+                (λ p. by-test (ltb (sumOf (lengthsOf L c)) (length (c .growers))) _ (λ q. ltb-true (sumOf (lengthsOf L c)) (length (c .growers)) q)
+                (λ q. absurd (omega (arith, e, insert-refusal c d l true false p q))))
                 (λ p. absurd (omega (arith, e, insert-refusal c d l false (hasFreeSlot L c) p refl)));
           }
 

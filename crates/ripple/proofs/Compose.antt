@@ -124,7 +124,18 @@ module _ {A : Type 0} where
       = drop-drop 1 b _ ∙ carry-up d s b i (omega arith) ∙ rw (drop-drop, e₀) in
       let e₁ : flatten (drop (t + 1) (parts ns s)) ++ drop (sumOf ns) s ≡ drop n r = rest-of (t + 1) ns s ∙ rw (hn, drop-drop) in
       let e₂ : drop (i + 1) (take n r) ++ drop n r ≡ drop (i + 1) r = drop-rest (i + 1) n r (omega arith) (omega (arith, length-drop b s)) in
-      simp (moveAt-backward t i u x (parts ns s) j, take-parts, parts-set (take t ns) s (b + i) (getD s b d) (omega arith), c, flatten-at, part-parts, take-take i n r (omega arith), append-assoc, e₁, e₂)
+      simp (
+        moveAt-backward t i u x (parts ns s) j,
+        take-parts,
+        parts-set (take t ns) s (b + i) (getD s b d) (omega arith),
+        c,
+        flatten-at,
+        part-parts,
+        take-take i n r (omega arith),
+        append-assoc,
+        e₁,
+        e₂,
+      )
 
   -- a column whose part from a on was lent, and has come back
   tail-back : (a : ℕ) (g ys : List A) → take a g ++ (ys ++ drop (length g - a) (drop a g)) ≡ take a g ++ ys

@@ -5,7 +5,8 @@ use mathlib.Core.List.{List, [], _∷_, _++_, append-assoc, append-nil, map, fla
 use native.Mathlib.Omega.{arith}
 use native.Mathlib.Numerals.{add-one}
 use lib.ListN.{length, getD, take, drop, set, length-drop, length-set, length-append}
-use lib.Seq.{take-suc, drop-cons, drop-append-le, drop-drop, set-split, set-getD, getD-drop, take-set-le, drop-set-lt, length-take-le, take-take, take-length, drop-length, take-append-add, take-append-seam, drop-append-seam}
+use lib.Seq.{take-suc, take-take, take-length, take-set-le, take-append-add, take-append-seam, drop-cons, drop-drop, drop-length, drop-set-lt, drop-append-le, drop-append-seam}
+use lib.Seq.{set-split, set-getD, getD-drop, length-take-le}
 use Rattle.model.specs.Lists.{sumOf}
 use Rattle.model.specs.Partitions.{parts, free}
 use Rattle.model.specs.Moves.{rotateLeft, rotateRight, fillFromEnd, insertAt, deleteAt, inserted, deleted}

@@ -92,9 +92,17 @@ module _ (b : ℕ) (ns : List ℕ) (p lo hi : ℕ) (ds : List Delivery) where
       rw (records-next n h, every-joined, totals-joined, blocks-next n h, sym (length-part (p + n) ns ds h room)) (go (every inRange x) (every inRange y))
     where
       go : (s t : Bool)
-          → cond (s && t) (record { good = true; totals = plusTotals (totalsBetween lo hi (recordsIn ns p n ds)) (totalsBetween lo hi (part (p + n) (parts ns ds))); blocks = sumOf (map (blocksOf b) (take n (drop p ns))) + blocksOf b (length (part (p + n) (parts ns ds))) }) badScan
+          → cond (s && t) (record {
+            good = true;
+            totals = plusTotals (totalsBetween lo hi (recordsIn ns p n ds)) (totalsBetween lo hi (part (p + n) (parts ns ds)));
+            blocks = sumOf (map (blocksOf b) (take n (drop p ns))) + blocksOf b (length (part (p + n) (parts ns ds)));
+          }) badScan
           ≡ (let q : Scan = cond s (record { good = true; totals = totalsBetween lo hi (recordsIn ns p n ds); blocks = sumOf (map (blocksOf b) (take n (drop p ns))) }) badScan in
-          cond (q .good && t) (record { good = true; totals = plusTotals (q .totals) (totalsBetween lo hi (part (p + n) (parts ns ds))); blocks = q .blocks + blocksOf b (length (part (p + n) (parts ns ds))) }) badScan)
+          cond (q .good && t) (record {
+            good = true;
+            totals = plusTotals (q .totals) (totalsBetween lo hi (part (p + n) (parts ns ds)));
+            blocks = q .blocks + blocksOf b (length (part (p + n) (parts ns ds)));
+          }) badScan)
       go true t = refl
       go false t = refl
 
@@ -104,7 +112,8 @@ blocks-sum b [] h = omega arith
 blocks-sum b (n ∷ l) h = omega (arith, blocks-most b n h, blocks-sum b l h)
 
 -- the counters stay small
-scan-light : (b : ℕ) (ns : List ℕ) (p n lo hi : ℕ) (ds : List Delivery) → 1 ≤ b → sumOf ns ≤ length ds → length ds ≤ mostSlots → length ns ≤ blockLimit → Light mostSlots blockLimit (scanOf b ns p n lo hi ds)
+scan-light : (b : ℕ) (ns : List ℕ) (p n lo hi : ℕ) (ds : List Delivery) → 1 ≤ b → sumOf ns ≤ length ds → length ds ≤ mostSlots
+    → length ns ≤ blockLimit → Light mostSlots blockLimit (scanOf b ns p n lo hi ds)
 unfolding scanOf
 scan-light b ns p n lo hi ds h room few short = go (every inRange (recordsIn ns p n ds)) refl
   where
@@ -153,7 +162,8 @@ module _ (b : ℕ) (ns : List ℕ) (p q lo hi : ℕ) (g w y : List ℕ) (at i : 
         from = omega (arith, w₀ .from);
         till = omega arith;
         here = omega (arith, w₀ .here, start-next ns i (omega arith));
-        so-far = e ∙ ap (scanMore b lo hi s) lent-part ∙ ap (λ (z : Scan). scanMore b lo hi z (part i (parts ns (rows g w y)))) (w₀ .so-far) ∙ sym x ∙ ap (λ (n : ℕ). scanOf b ns p n lo hi (rows g w y)) (sym v);
+        so-far = e ∙ ap (scanMore b lo hi s) lent-part ∙ ap (λ (z : Scan). scanMore b lo hi z (part i (parts ns (rows g w y)))) (w₀ .so-far) ∙ sym x
+            ∙ ap (λ (n : ℕ). scanOf b ns p n lo hi (rows g w y)) (sym v);
       }
 
   pub scanning-light : 1 ≤ b → sumOf ns ≤ length (rows g w y) → length (rows g w y) ≤ mostSlots → length ns ≤ blockLimit → Light mostSlots blockLimit s

@@ -29,7 +29,8 @@ unfolding firstMatch
 first-left d [] b h = let z : ⊥ = omega arith in absurd z
 first-left d (r ∷ a) b h = go (same d r) (first-left d a b) h
   where
-    go : (t : Bool) → (firstMatch d a < length a → firstMatch d (a ++ b) ≡ firstMatch d a) → cond t 0 (firstMatch d a + 1) < length (r ∷ a) → cond t 0 (firstMatch d (a ++ b) + 1) ≡ cond t 0 (firstMatch d a + 1)
+    go : (t : Bool) → (firstMatch d a < length a → firstMatch d (a ++ b) ≡ firstMatch d a) → cond t 0 (firstMatch d a + 1) < length (r ∷ a)
+        → cond t 0 (firstMatch d (a ++ b) + 1) ≡ cond t 0 (firstMatch d a + 1)
     go true e k = refl
     go false e k = ap (λ (n : ℕ). n + 1) (e (omega arith))
 
@@ -38,7 +39,8 @@ unfolding firstMatch
 first-right d [] b h = omega arith
 first-right d (r ∷ a) b h = go (same d r) (first-right d a b) h
   where
-    go : (t : Bool) → (length a ≤ firstMatch d a → firstMatch d (a ++ b) ≡ length a + firstMatch d b) → length (r ∷ a) ≤ cond t 0 (firstMatch d a + 1) → cond t 0 (firstMatch d (a ++ b) + 1) ≡ length (r ∷ a) + firstMatch d b
+    go : (t : Bool) → (length a ≤ firstMatch d a → firstMatch d (a ++ b) ≡ length a + firstMatch d b) → length (r ∷ a) ≤ cond t 0 (firstMatch d a + 1)
+        → cond t 0 (firstMatch d (a ++ b) + 1) ≡ length (r ∷ a) + firstMatch d b
     go true e k = let z : ⊥ = omega arith in absurd z
     go false e k = omega (arith, e (omega arith))
 

@@ -92,7 +92,8 @@ unfolding keep
 keep-full f [] e = refl
 keep-full f (d ∷ l) e = go (f d) (keep-full f l) (keep-fewer f l) e
   where
-    go : (t : Bool) → (length (keep f l) ≡ length l → keep f l ≡ l) → length (keep f l) ≤ length l → length (cond t (d ∷ keep f l) (keep f l)) ≡ length (d ∷ l) → cond t (d ∷ keep f l) (keep f l) ≡ d ∷ l
+    go : (t : Bool) → (length (keep f l) ≡ length l → keep f l ≡ l) → length (keep f l) ≤ length l → length (cond t (d ∷ keep f l) (keep f l)) ≡ length (d ∷ l)
+        → cond t (d ∷ keep f l) (keep f l) ≡ d ∷ l
     go true r h k = ap (λ (x : List Delivery). d ∷ x) (r (omega arith))
     go false r h k = let z : ⊥ = omega arith in absurd z
 

@@ -12,7 +12,11 @@ range-requires : tie.Need-range-requires
 range-requires c κs = search needs
 
 returns : tie.Need-returns
-returns c = let g = (c .before .before .before .before .before .args) in let col = columnOf (g .directory .now) (g .growers .now) (g .weights .now) (g .yields .now) in (c .range) .ensures ∙ find-is-range blockLimit col (g .grower)
+returns c =
+    let b = c .before .before .before .before .before in
+    let g = b .args in
+    let col = columnOf (g .directory .now) (g .growers .now) (g .weights .now) (g .yields .now) in
+    c .range .ensures ∙ find-is-range blockLimit col (g .grower)
 
 pub find-spec : {M : Type 1} → statement M
 find-spec = tie.close (tie.spec range-requires returns)

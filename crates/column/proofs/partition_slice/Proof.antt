@@ -31,7 +31,11 @@ part-result-start : tie.Need-part-result-start
 part-result-start c = search needs
 
 part-result-end : tie.Need-part-result-end
-part-result-end c = let g = (c .before .before .before .before .before .args) in omega (arith, handed-inside blockLimit (g .directory .now) (g .growers .now) (g .grower) ((c .before .before .partition) .result) ((c .before .before .partition) .ensures))
+part-result-end c =
+    let b₁ = c .before .before in
+    let b₂ = b₁ .before .before .before in
+    let g = b₂ .args in
+    omega (arith, handed-inside blockLimit (g .directory .now) (g .growers .now) (g .grower) (b₁ .partition .result) (b₁ .partition .ensures))
 
 returns : tie.Need-returns
 returns c =

@@ -8,7 +8,8 @@ use Rattle.ripple.proofs.Compose.{ahead, back-law}
 use Rattle.ripple.proofs.backward_slots.Statement.{statement}
 use Rattle.ripple.proofs.backward_slots.Tie as tie
 
-inside : (s : tie.Start) → (s .args .to-start ≤ length (s .args .g .now)) × (s .args .to-start ≤ length (s .args .w .now)) × (s .args .to-start ≤ length (s .args .y .now)) × (s .args .to-start ≤ s .args .from-start)
+inside : (s : tie.Start) → (s .args .to-start ≤ length (s .args .g .now)) × (s .args .to-start ≤ length (s .args .w .now))
+    × (s .args .to-start ≤ length (s .args .y .now)) × (s .args .to-start ≤ s .args .from-start)
 inside s = omega (arith, start-le (s .args .lens .now) (s .args .from), start-mono (s .args .lens .now) (s .args .to) (s .args .from) (omega arith))
 
 sub-n : tie.Need-sub-n

@@ -21,7 +21,10 @@ none-requires : tie.Need-none-requires Inv-loop μ-loop
 none-requires c κs = search needs
 
 loop-holds : tie.Need-loop-holds Inv-loop μ-loop
-loop-holds c = let g = c .before .before .before .before .before .args in rw (c .none .ensures) (scanning-start (g .block) (g .lens .now) (g .from) (g .to) (g .lo) (g .hi) (rows (g .g .now) (g .w .now) (g .y .now)) (g .start) (omega arith) (c .before .before .before .before .before .pre .0 .5))
+loop-holds c =
+    let b = c .before .before .before .before .before in
+    let g = b .args in
+    rw (c .none .ensures) (scanning-start (g .block) (g .lens .now) (g .from) (g .to) (g .lo) (g .hi) (rows (g .g .now) (g .w .now) (g .y .now)) (g .start) (omega arith) (b .pre .0 .5))
 
 mul-e : tie.Need-mul-e Inv-loop μ-loop
 mul-e c = search needs
@@ -36,48 +39,103 @@ add-e : tie.Need-add-e Inv-loop μ-loop
 add-e c = let g = c .before .before .before .before .before .before .before .before .args in let w = c .before .before .loop in omega (arith, w .inv .here, stop-le (g .lens .now) (w .i) (omega arith))
 
 mul-scan-more : tie.Need-mul-scan-more Inv-loop μ-loop
-mul-scan-more c = let g = c .before .before .before .before .before .before .before .before .args in let w = c .before .before .loop in omega (arith, w .inv .here, stop-le (g .lens .now) (w .i) (omega arith))
+mul-scan-more c =
+    let b = c .before .before .before .before .before .before .before .before in
+    let g = b .args in
+    let w = c .before .before .loop in
+    omega (arith, w .inv .here, stop-le (g .lens .now) (w .i) (omega arith))
 
 sub-scan-more : tie.Need-sub-scan-more Inv-loop μ-loop
-sub-scan-more c = let g = c .before .before .before .before .before .before .before .before .args in let w = c .before .before .loop in omega (arith, w .inv .here, stop-le (g .lens .now) (w .i) (omega arith))
+sub-scan-more c =
+    let b = c .before .before .before .before .before .before .before .before in
+    let g = b .args in
+    let w = c .before .before .loop in
+    omega (arith, w .inv .here, stop-le (g .lens .now) (w .i) (omega arith))
 
 part-scan-more-start : tie.Need-part-scan-more-start Inv-loop μ-loop
-part-scan-more-start c = let g = c .before .before .before .before .before .before .before .before .args in let w = c .before .before .loop in omega (arith, w .inv .here, stop-le (g .lens .now) (w .i) (omega arith))
+part-scan-more-start c =
+    let b = c .before .before .before .before .before .before .before .before in
+    let g = b .args in
+    let w = c .before .before .loop in
+    omega (arith, w .inv .here, stop-le (g .lens .now) (w .i) (omega arith))
 
 part-scan-more-end : tie.Need-part-scan-more-end Inv-loop μ-loop
-part-scan-more-end c = let g = c .before .before .before .before .before .before .before .before .args in let w = c .before .before .loop in omega (arith, w .inv .here, stop-le (g .lens .now) (w .i) (omega arith))
+part-scan-more-end c =
+    let b = c .before .before .before .before .before .before .before .before in
+    let g = b .args in
+    let w = c .before .before .loop in
+    omega (arith, w .inv .here, stop-le (g .lens .now) (w .i) (omega arith))
 
 mul-scan-more-2 : tie.Need-mul-scan-more-2 Inv-loop μ-loop
-mul-scan-more-2 c = let g = c .before .before .before .before .before .before .before .before .before .args in let w = c .before .before .before .loop in omega (arith, w .inv .here, stop-le (g .lens .now) (w .i) (omega arith))
+mul-scan-more-2 c =
+    let b = c .before .before .before .before .before .before .before .before .before in
+    let g = b .args in
+    let w = c .before .before .before .loop in
+    omega (arith, w .inv .here, stop-le (g .lens .now) (w .i) (omega arith))
 
 sub-scan-more-2 : tie.Need-sub-scan-more-2 Inv-loop μ-loop
-sub-scan-more-2 c = let g = c .before .before .before .before .before .before .before .before .before .args in let w = c .before .before .before .loop in omega (arith, w .inv .here, stop-le (g .lens .now) (w .i) (omega arith))
+sub-scan-more-2 c =
+    let b = c .before .before .before .before .before .before .before .before .before in
+    let g = b .args in
+    let w = c .before .before .before .loop in
+    omega (arith, w .inv .here, stop-le (g .lens .now) (w .i) (omega arith))
 
 part-scan-more-start-2 : tie.Need-part-scan-more-start-2 Inv-loop μ-loop
-part-scan-more-start-2 c = let g = c .before .before .before .before .before .before .before .before .before .args in let w = c .before .before .before .loop in omega (arith, w .inv .here, stop-le (g .lens .now) (w .i) (omega arith))
+part-scan-more-start-2 c =
+    let b = c .before .before .before .before .before .before .before .before .before in
+    let g = b .args in
+    let w = c .before .before .before .loop in
+    omega (arith, w .inv .here, stop-le (g .lens .now) (w .i) (omega arith))
 
 part-scan-more-end-2 : tie.Need-part-scan-more-end-2 Inv-loop μ-loop
-part-scan-more-end-2 c = let g = c .before .before .before .before .before .before .before .before .before .args in let w = c .before .before .before .loop in omega (arith, w .inv .here, stop-le (g .lens .now) (w .i) (omega arith))
+part-scan-more-end-2 c =
+    let b = c .before .before .before .before .before .before .before .before .before in
+    let g = b .args in
+    let w = c .before .before .before .loop in
+    omega (arith, w .inv .here, stop-le (g .lens .now) (w .i) (omega arith))
 
 mul-scan-more-3 : tie.Need-mul-scan-more-3 Inv-loop μ-loop
-mul-scan-more-3 c = let g = c .before .before .before .before .before .before .before .before .before .before .args in let w = c .before .before .before .before .loop in omega (arith, w .inv .here, stop-le (g .lens .now) (w .i) (omega arith))
+mul-scan-more-3 c =
+    let b₁ = c .before .before .before .before in
+    let b₂ = b₁ .before .before .before .before .before .before in
+    let g = b₂ .args in
+    let w = b₁ .loop in
+    omega (arith, w .inv .here, stop-le (g .lens .now) (w .i) (omega arith))
 
 sub-scan-more-3 : tie.Need-sub-scan-more-3 Inv-loop μ-loop
-sub-scan-more-3 c = let g = c .before .before .before .before .before .before .before .before .before .before .args in let w = c .before .before .before .before .loop in omega (arith, w .inv .here, stop-le (g .lens .now) (w .i) (omega arith))
+sub-scan-more-3 c =
+    let b₁ = c .before .before .before .before in
+    let b₂ = b₁ .before .before .before .before .before .before in
+    let g = b₂ .args in
+    let w = b₁ .loop in
+    omega (arith, w .inv .here, stop-le (g .lens .now) (w .i) (omega arith))
 
 part-scan-more-start-3 : tie.Need-part-scan-more-start-3 Inv-loop μ-loop
-part-scan-more-start-3 c = let g = c .before .before .before .before .before .before .before .before .before .before .args in let w = c .before .before .before .before .loop in omega (arith, w .inv .here, stop-le (g .lens .now) (w .i) (omega arith))
+part-scan-more-start-3 c =
+    let b₁ = c .before .before .before .before in
+    let b₂ = b₁ .before .before .before .before .before .before in
+    let g = b₂ .args in
+    let w = b₁ .loop in
+    omega (arith, w .inv .here, stop-le (g .lens .now) (w .i) (omega arith))
 
 part-scan-more-end-3 : tie.Need-part-scan-more-end-3 Inv-loop μ-loop
-part-scan-more-end-3 c = let g = c .before .before .before .before .before .before .before .before .before .before .args in let w = c .before .before .before .before .loop in omega (arith, w .inv .here, stop-le (g .lens .now) (w .i) (omega arith))
+part-scan-more-end-3 c =
+    let b₁ = c .before .before .before .before in
+    let b₂ = b₁ .before .before .before .before .before .before in
+    let g = b₂ .args in
+    let w = b₁ .loop in
+    omega (arith, w .inv .here, stop-le (g .lens .now) (w .i) (omega arith))
 
 scan-more-requires : tie.Need-scan-more-requires Inv-loop μ-loop
 scan-more-requires c κs =
     let g = c .before .before .before .before .before .before .before .before .before .before .before .args in
     let w = c .before .before .before .before .before .loop in
-    let r = length-rows (g .g .now) (g .w .now) (g .y .now) (c .before .before .before .before .before .before .before .before .before .before .before .pre .1 .1 .weights) (c .before .before .before .before .before .before .before .before .before .before .before .pre .1 .1 .yields) in
-    let e = even-part (g .g .now) (g .w .now) (g .y .now) (w .at + getD (g .lens .now) (w .i) 0 - w .at) (w .at) (c .before .before .before .before .before .before .before .before .before .before .before .pre .1 .1) in
-    let l = scanning-light (g .block) (g .lens .now) (g .from) (g .to) (g .lo) (g .hi) (g .g .now) (g .w .now) (g .y .now) (w .at) (w .i) (w .s) (w .inv) (omega arith) (omega arith) (omega arith) (omega arith) in
+    let r = length-rows (g .g .now) (g .w .now) (g .y .now) (c .before .before .before .before .before .before .before .before .before .before .before .pre .1 .1 .weights)
+    (c .before .before .before .before .before .before .before .before .before .before .before .pre .1 .1 .yields) in
+    let e = even-part (g .g .now) (g .w .now) (g .y .now) (w .at + getD (g .lens .now) (w .i) 0 - w .at) (w .at)
+    (c .before .before .before .before .before .before .before .before .before .before .before .pre .1 .1) in
+    let l = scanning-light (g .block) (g .lens .now) (g .from) (g .to) (g .lo) (g .hi) (g .g .now) (g .w .now) (g .y .now) (w .at) (w .i) (w .s) (w .inv) (omega arith) (omega arith) (omega arith)
+    (omega arith) in
     (simp (length-take, length-drop) (omega arith), e, omega arith, l)
 
 add-i : tie.Need-add-i Inv-loop μ-loop
@@ -90,11 +148,16 @@ loop-again : tie.Need-loop-again Inv-loop μ-loop
 loop-again c =
     let g = c .before .before .before .before .before .before .before .before .before .before .before .before .args in
     let w = c .before .before .before .before .before .before .loop in
-    let r = length-rows (g .g .now) (g .w .now) (g .y .now) (c .before .before .before .before .before .before .before .before .before .before .before .before .pre .1 .1 .weights) (c .before .before .before .before .before .before .before .before .before .before .before .before .pre .1 .1 .yields) in
-    scanning-next (g .block) (g .lens .now) (g .from) (g .to) (g .lo) (g .hi) (g .g .now) (g .w .now) (g .y .now) (w .at) (w .i) (w .s) (w .inv) (omega arith) (omega arith) (omega arith) _ (c .scan-more .ensures)
+    let r = length-rows (g .g .now) (g .w .now) (g .y .now) (c .before .before .before .before .before .before .before .before .before .before .before .before .pre .1 .1 .weights)
+    (c .before .before .before .before .before .before .before .before .before .before .before .before .pre .1 .1 .yields) in
+    scanning-next (g .block) (g .lens .now) (g .from) (g .to) (g .lo) (g .hi) (g .g .now) (g .w .now) (g .y .now) (w .at) (w .i) (w .s) (w .inv) (omega arith) (omega arith) (omega arith) _
+    (c .scan-more .ensures)
 
 returns : tie.Need-returns Inv-loop μ-loop
-returns c = let g = c .before .before .before .before .before .before .before .args in scanning-end (g .block) (g .lens .now) (g .from) (g .to) (g .lo) (g .hi) (g .g .now) (g .w .now) (g .y .now) _ _ _ (c .before .loop .inv) (c .loop-test .left)
+returns c =
+    let b = c .before .before .before .before .before .before .before in
+    let g = b .args in
+    scanning-end (g .block) (g .lens .now) (g .from) (g .to) (g .lo) (g .hi) (g .g .now) (g .w .now) (g .y .now) _ _ _ (c .before .loop .inv) (c .loop-test .left)
 
 pub scan-parts-spec : {M : Type 1} → statement M
 scan-parts-spec =

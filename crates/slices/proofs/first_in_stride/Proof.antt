@@ -9,7 +9,11 @@ count-between-requires : tie.Need-count-between-requires
 count-between-requires c κs = search needs
 
 returns : tie.Need-returns
-returns c = let g = c .before .before .before .before .before .args in let p = c .before .before .before .before .before .pre in grower-missing (g .d) (g .g .now) (g .w .now) (g .y .now) (p .1 .weights) (p .1 .yields) (omega (arith, c .before .count-between .ensures, c .if1 .taken))
+returns c =
+    let b = c .before .before .before .before .before in
+    let g = b .args in
+    let p = b .pre in
+    grower-missing (g .d) (g .g .now) (g .w .now) (g .y .now) (p .1 .weights) (p .1 .yields) (omega (arith, c .before .count-between .ensures, c .if1 .taken))
 
 first-tested-requires : tie.Need-first-tested-requires
 first-tested-requires c κs = search needs

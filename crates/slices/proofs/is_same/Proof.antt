@@ -29,7 +29,11 @@ shared-slice-read-result : tie.Need-shared-slice-read-result
 shared-slice-read-result c = search needs
 
 returns-3 : tie.Need-returns-3
-returns-3 c = let g = c .before .before .before .before .before .before .before .before .args in yield-decides (g .d) (g .g .now) (g .w .now) (g .y .now) (g .i) (c .before .before .before .before .before .if1 .left) (c .before .before .if2 .left)
+returns-3 c =
+    let b₁ = c .before .before .before .before .before in
+    let b₂ = b₁ .before .before .before in
+    let g = b₂ .args in
+    yield-decides (g .d) (g .g .now) (g .w .now) (g .y .now) (g .i) (b₁ .if1 .left) (c .before .before .if2 .left)
 
 pub is-same-spec : {M : Type 1} → statement M
 is-same-spec =

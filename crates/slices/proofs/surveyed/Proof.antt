@@ -54,19 +54,40 @@ add-target : tie.Need-add-target Inv-loop μ-loop
 add-target c = omega (arith, c .before .before .before .before .before .before .loop .inv .target-most)
 
 add-start : tie.Need-add-start Inv-loop μ-loop
-add-start c = omega (arith, c .before .before .before .before .before .before .loop .inv .start-most, c .before .before .before .before .shared-slice-known .given (c .before .before .before .before .before .before .loop .i))
+add-start c =
+    let b₁ = c .before .before .before .before in
+    let b₂ = b₁ .before .before in
+    omega (arith, b₂ .loop .inv .start-most, b₁ .shared-slice-known .given (b₂ .loop .i))
 
 loop-less : tie.Need-loop-less Inv-loop μ-loop
 loop-less c = omega arith
 
 loop-again : tie.Need-loop-again Inv-loop μ-loop
-loop-again c = let l = c .before .before .before .before .before .before .loop in survey-less _ _ _ _ _ _ _ _ (c .before .before .before .before .before .loop-test .taken) (c .before .before .before .before .before .before .before .pre .2) (l .inv) (c .before .if1 .rising) (⊎-elim (λ v. chain-by _ _ _ _ (c .before .before .before .before .before .loop-test .taken) (l .inv .chained) false _ (le-ltb _ _ (v .0 .taken)) (v .1)) (λ v. chain-by _ _ _ _ (c .before .before .before .before .before .loop-test .taken) (l .inv .chained) true _ (lt-ltb _ _ (v .0 .left)) (v .1)) (c .before .if1 .came)) (omega (arith, c .before .before .before .before .shared-slice-known .given (l .i))) (c .if2 .taken)
+loop-again c =
+    let b₁ = c .before .before .before .before in
+    let b₂ = b₁ .before in
+    let b₃ = b₂ .before in
+    let b₄ = b₃ .before in
+    let l = b₃ .loop in
+    survey-less _ _ _ _ _ _ _ _ (b₂ .loop-test .taken) (b₄ .pre .2) (l .inv) (c .before .if1 .rising)
+    (⊎-elim (λ v. chain-by _ _ _ _ (b₂ .loop-test .taken) (l .inv .chained) false _ (le-ltb _ _ (v .0 .taken)) (v .1))
+    (λ v. chain-by _ _ _ _ (b₂ .loop-test .taken) (l .inv .chained) true _ (lt-ltb _ _ (v .0 .left)) (v .1)) (c .before .if1 .came)) (omega (arith, b₁ .shared-slice-known .given (l .i)))
+    (c .if2 .taken)
 
 loop-less-2 : tie.Need-loop-less-2 Inv-loop μ-loop
 loop-less-2 c = omega arith
 
 loop-again-2 : tie.Need-loop-again-2 Inv-loop μ-loop
-loop-again-2 c = let l = c .before .before .before .before .before .before .loop in survey-not _ _ _ _ _ _ _ _ (c .before .before .before .before .before .loop-test .taken) (c .before .before .before .before .before .before .before .pre .2) (l .inv) (c .before .if1 .rising) (⊎-elim (λ v. chain-by _ _ _ _ (c .before .before .before .before .before .loop-test .taken) (l .inv .chained) false _ (le-ltb _ _ (v .0 .taken)) (v .1)) (λ v. chain-by _ _ _ _ (c .before .before .before .before .before .loop-test .taken) (l .inv .chained) true _ (lt-ltb _ _ (v .0 .left)) (v .1)) (c .before .if1 .came)) (omega (arith, c .before .before .before .before .shared-slice-known .given (l .i))) (c .if2 .left)
+loop-again-2 c =
+    let b₁ = c .before .before .before .before in
+    let b₂ = b₁ .before in
+    let b₃ = b₂ .before in
+    let b₄ = b₃ .before in
+    let l = b₃ .loop in
+    survey-not _ _ _ _ _ _ _ _ (b₂ .loop-test .taken) (b₄ .pre .2) (l .inv) (c .before .if1 .rising)
+    (⊎-elim (λ v. chain-by _ _ _ _ (b₂ .loop-test .taken) (l .inv .chained) false _ (le-ltb _ _ (v .0 .taken)) (v .1))
+    (λ v. chain-by _ _ _ _ (b₂ .loop-test .taken) (l .inv .chained) true _ (lt-ltb _ _ (v .0 .left)) (v .1)) (c .before .if1 .came)) (omega (arith, b₁ .shared-slice-known .given (l .i)))
+    (c .if2 .left)
 
 mul-t19 : tie.Need-mul-t19 Inv-loop μ-loop
 mul-t19 c = search needs

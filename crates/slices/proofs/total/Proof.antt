@@ -39,7 +39,9 @@ loop-less : tie.Need-loop-less Inv-loop μ-loop
 loop-less c = omega arith
 
 loop-again : tie.Need-loop-again Inv-loop μ-loop
-loop-again c = (omega arith, omega (arith, sum-take-next (c .before .before .before .args .s .now) (c .before .before .loop .i) (omega arith)), omega (arith, c .shared-slice-known .given (c .before .before .loop .i)))
+loop-again c =
+    let b = c .before .before in
+    (omega arith, omega (arith, sum-take-next (c .before .before .before .args .s .now) (b .loop .i) (omega arith)), omega (arith, c .shared-slice-known .given (b .loop .i)))
 
 returns : tie.Need-returns Inv-loop μ-loop
 returns c = c .before .loop .inv .1 ∙ ap sumOf (take-all (c .before .loop .i) (c .before .before .args .s .now) (omega arith))

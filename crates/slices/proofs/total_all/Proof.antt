@@ -43,10 +43,16 @@ add-i : tie.Need-add-i Inv-loop μ-loop
 add-i c = omega arith
 
 add-weight : tie.Need-add-weight Inv-loop μ-loop
-add-weight c = omega (arith, c .before .before .before .before .pre .few, c .before .before .before .loop .inv .light, c .before .before .before .loop .inv .at, modest _ _ _ (c .before .before .before .loop .i) (c .before .before .before .before .pre) .weight)
+add-weight c =
+    let b₁ = c .before .before .before in
+    let b₂ = b₁ .before in
+    omega (arith, b₂ .pre .few, b₁ .loop .inv .light, b₁ .loop .inv .at, modest _ _ _ (b₁ .loop .i) (b₂ .pre) .weight)
 
 add-oil : tie.Need-add-oil Inv-loop μ-loop
-add-oil c = omega (arith, c .before .before .before .before .pre .few, c .before .before .before .loop .inv .little, c .before .before .before .loop .inv .at, modest _ _ _ (c .before .before .before .loop .i) (c .before .before .before .before .pre) .oil)
+add-oil c =
+    let b₁ = c .before .before .before in
+    let b₂ = b₁ .before in
+    omega (arith, b₂ .pre .few, b₁ .loop .inv .little, b₁ .loop .inv .at, modest _ _ _ (b₁ .loop .i) (b₂ .pre) .oil)
 
 loop-less : tie.Need-loop-less Inv-loop μ-loop
 loop-less c = omega arith
@@ -55,7 +61,10 @@ loop-again : tie.Need-loop-again Inv-loop μ-loop
 loop-again c = running-take any _ _ _ (c .before .before .before .before .pre) _ _ _ _ (c .before .before .loop-test .taken) (c .before .before .before .loop .inv) refl
 
 returns : tie.Need-returns Inv-loop μ-loop
-returns c = let g = c .before .before .args in let l = c .before .loop in running-end any (g .g .now) (g .w .now) (g .y .now) (l .i) (l .weight) (l .oil) (l .i) (c .loop-test .left) (l .inv) ∙ ap totalsOf (keep-any (rows (g .g .now) (g .w .now) (g .y .now)))
+returns c =
+    let g = c .before .before .args in
+    let l = c .before .loop in
+    running-end any (g .g .now) (g .w .now) (g .y .now) (l .i) (l .weight) (l .oil) (l .i) (c .loop-test .left) (l .inv) ∙ ap totalsOf (keep-any (rows (g .g .now) (g .w .now) (g .y .now)))
 
 pub total-all-spec : {M : Type 1} → statement M
 total-all-spec =

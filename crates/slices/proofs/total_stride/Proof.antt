@@ -13,13 +13,21 @@ none-requires : tie.Need-none-requires
 none-requires c κs = search needs
 
 returns : tie.Need-returns
-returns c = let g = c .before .before .before .before .before .before .args in let m = c .before .before .before .before .before .before .pre in c .none .ensures ∙ none-between (g .lo) (g .hi) (g .g .now) (g .w .now) (g .y .now) m (omega (arith, c .before .before .count-between .ensures, c .before .if1 .taken))
+returns c =
+    let b = c .before .before .before .before .before .before in
+    let g = b .args in
+    let m = b .pre in
+    c .none .ensures ∙ none-between (g .lo) (g .hi) (g .g .now) (g .w .now) (g .y .now) m (omega (arith, c .before .before .count-between .ensures, c .before .if1 .taken))
 
 total-all-requires : tie.Need-total-all-requires
 total-all-requires c κs = search needs
 
 returns-2 : tie.Need-returns-2
-returns-2 c = let g = c .before .before .before .before .before .before .before .args in let m = c .before .before .before .before .before .before .before .pre in c .total-all .ensures ∙ all-between (g .lo) (g .hi) (g .g .now) (g .w .now) (g .y .now) m (sym (c .before .before .before .count-between .ensures) ∙ c .before .if2 .taken)
+returns-2 c =
+    let b = c .before .before .before .before .before .before .before in
+    let g = b .args in
+    let m = b .pre in
+    c .total-all .ensures ∙ all-between (g .lo) (g .hi) (g .g .now) (g .w .now) (g .y .now) m (sym (c .before .before .before .count-between .ensures) ∙ c .before .if2 .taken)
 
 total-tested-requires : tie.Need-total-tested-requires
 total-tested-requires c κs = search needs

@@ -48,34 +48,58 @@ add-i : tie.Need-add-i Inv-loop μ-loop
 add-i c = omega arith
 
 add-records : tie.Need-add-records Inv-loop μ-loop
-add-records c = omega (arith, c .before .before .before .before .before .before .before .pre .few, c .before .before .before .before .before .before .loop .inv .few, c .before .before .before .before .before .before .loop .inv .at)
+add-records c =
+    let b₁ = c .before .before .before .before .before .before in
+    let b₂ = b₁ .before in
+    omega (arith, b₂ .pre .few, b₁ .loop .inv .few, b₁ .loop .inv .at)
 
 add-weight : tie.Need-add-weight Inv-loop μ-loop
-add-weight c = omega (arith, c .before .before .before .before .before .before .before .pre .few, c .before .before .before .before .before .before .loop .inv .light, c .before .before .before .before .before .before .loop .inv .at, modest _ _ _ (c .before .before .before .before .before .before .loop .i) (c .before .before .before .before .before .before .before .pre) .weight)
+add-weight c =
+    let b₁ = c .before .before .before .before .before .before in
+    let b₂ = b₁ .before in
+    omega (arith, b₂ .pre .few, b₁ .loop .inv .light, b₁ .loop .inv .at, modest _ _ _ (b₁ .loop .i) (b₂ .pre) .weight)
 
 add-oil : tie.Need-add-oil Inv-loop μ-loop
-add-oil c = omega (arith, c .before .before .before .before .before .before .before .pre .few, c .before .before .before .before .before .before .loop .inv .little, c .before .before .before .before .before .before .loop .inv .at, modest _ _ _ (c .before .before .before .before .before .before .loop .i) (c .before .before .before .before .before .before .before .pre) .oil)
+add-oil c =
+    let b₁ = c .before .before .before .before .before .before in
+    let b₂ = b₁ .before in
+    omega (arith, b₂ .pre .few, b₁ .loop .inv .little, b₁ .loop .inv .at, modest _ _ _ (b₁ .loop .i) (b₂ .pre) .oil)
 
 loop-less : tie.Need-loop-less Inv-loop μ-loop
 loop-less c = omega arith
 
 loop-again : tie.Need-loop-again Inv-loop μ-loop
-loop-again c = running-take _ _ _ _ (c .before .before .before .before .before .before .before .pre) _ _ _ _ (c .before .before .before .before .before .loop-test .taken) (c .before .before .before .before .before .before .loop .inv) (is-inside _ _ _ (c .before .if1 .taken) (c .if2 .taken))
+loop-again c =
+    let b₁ = c .before .before .before .before .before in
+    let b₂ = b₁ .before in
+    let b₃ = b₂ .before in
+    running-take _ _ _ _ (b₃ .pre) _ _ _ _ (b₁ .loop-test .taken) (b₂ .loop .inv) (is-inside _ _ _ (c .before .if1 .taken) (c .if2 .taken))
 
 loop-less-2 : tie.Need-loop-less-2 Inv-loop μ-loop
 loop-less-2 c = omega arith
 
 loop-again-2 : tie.Need-loop-again-2 Inv-loop μ-loop
-loop-again-2 c = running-pass _ _ _ _ (c .before .before .before .before .before .before .before .pre) _ _ _ _ (c .before .before .before .before .before .loop-test .taken) (c .before .before .before .before .before .before .loop .inv) (is-above _ _ _ (c .before .if1 .taken) (c .if2 .left))
+loop-again-2 c =
+    let b₁ = c .before .before .before .before .before in
+    let b₂ = b₁ .before in
+    let b₃ = b₂ .before in
+    running-pass _ _ _ _ (b₃ .pre) _ _ _ _ (b₁ .loop-test .taken) (b₂ .loop .inv) (is-above _ _ _ (c .before .if1 .taken) (c .if2 .left))
 
 loop-less-3 : tie.Need-loop-less-3 Inv-loop μ-loop
 loop-less-3 c = omega arith
 
 loop-again-3 : tie.Need-loop-again-3 Inv-loop μ-loop
-loop-again-3 c = running-pass _ _ _ _ (c .before .before .before .before .before .before .pre) _ _ _ _ (c .before .before .before .before .loop-test .taken) (c .before .before .before .before .before .loop .inv) (is-below _ _ _ (c .if1 .left))
+loop-again-3 c =
+    let b₁ = c .before .before .before .before in
+    let b₂ = b₁ .before in
+    let b₃ = b₂ .before in
+    running-pass _ _ _ _ (b₃ .pre) _ _ _ _ (b₁ .loop-test .taken) (b₂ .loop .inv) (is-below _ _ _ (c .if1 .left))
 
 returns : tie.Need-returns Inv-loop μ-loop
-returns c = let g = c .before .before .args in let l = c .before .loop in running-end (matches (g .lo) (g .hi)) (g .g .now) (g .w .now) (g .y .now) (l .records) (l .weight) (l .oil) (l .i) (c .loop-test .left) (l .inv)
+returns c =
+    let g = c .before .before .args in
+    let l = c .before .loop in
+    running-end (matches (g .lo) (g .hi)) (g .g .now) (g .w .now) (g .y .now) (l .records) (l .weight) (l .oil) (l .i) (c .loop-test .left) (l .inv)
 
 pub total-tested-spec : {M : Type 1} → statement M
 total-tested-spec =
