@@ -24,11 +24,11 @@ use Rattle.model.specs.Planner.{PlanResult, costCall, plannedEnds, plannerRefus
 use Rattle.model.proofs.Integers.{is-sub, eq-is}
 use Rattle.model.proofs.LayoutLaws.{laid}
 use Rattle.model.proofs.PlanLaws.{permitted-listed, listed-permitted, cheapest-chosen, chosen-cheapest, none-permitted}
-use Rattle.search.specs.Task.{Covers, Least}
-use Rattle.search.specs.Terms.{taskOf, Numbered}
-use Rattle.search.specs.Answer.{answer, Answered, nothing, tight, found}
-use Rattle.terms.specs.Terms.{Loaded}
-use Rattle.terms.proofs.LayoutCost.{cut-covers, layout-cost}
+use Rattle.layout_search.specs.Task.{Covers, Least}
+use Rattle.layout_search.specs.Terms.{taskOf, Numbered}
+use Rattle.layout_search.specs.Answer.{answer, Answered, nothing, tight, found}
+use Rattle.block_costs.specs.Terms.{Loaded}
+use Rattle.block_costs.proofs.LayoutCost.{cut-covers, layout-cost}
 use Rattle.planner.specs.Given.{givenChecks, Marked}
 use Rattle.planner.proofs.Given.{plan-failed, plan-passed}
 use Rattle.planner.proofs.Permitted.{task, permitted-allowed, allowed-permitted, cost-by-terms, least-cheapest, cheapest-least}

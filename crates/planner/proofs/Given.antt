@@ -24,7 +24,7 @@ use Rattle.model.proofs.Tests.{and-fst, and-snd, yes-first, first-passed}
 use Rattle.model.proofs.ListLaws.{ceil-least, ceil-most}
 use Rattle.checks.specs.Lent.{Sized, setOf}
 use Rattle.checks.proofs.Sets.{Whole, whole, set-passed, failed-first}
-use Rattle.terms.specs.Terms.{PricesPass, Counted}
+use Rattle.block_costs.specs.Terms.{PricesPass, Counted}
 use Rattle.planner.specs.Given.{givenChecks, Marked}
 
 -- check 1, test by test

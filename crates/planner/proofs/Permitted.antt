@@ -18,11 +18,11 @@ use Rattle.model.proofs.Tests.{and-fst, and-snd, and-mk, is-true, of-true}
 use Rattle.model.proofs.Integers.{Is, is-sub, eq-is}
 use Rattle.model.proofs.Order.{comesBefore-intro, comesBefore-elim}
 use Rattle.model.proofs.LayoutLaws.{Cut, layout-cut, cut-is-layout}
-use Rattle.search.specs.Task.{Task, Layout, Covers, adds, takes, Allowed, Least}
-use Rattle.search.specs.Terms.{taskOf}
-use Rattle.search.proofs.TermLaws.{ok-yes}
-use Rattle.terms.specs.Terms.{Loaded}
-use Rattle.terms.proofs.LayoutCost.{covers-cut, layout-cost}
+use Rattle.layout_search.specs.Task.{Task, Layout, Covers, adds, takes, Allowed, Least}
+use Rattle.layout_search.specs.Terms.{taskOf}
+use Rattle.layout_search.proofs.TermLaws.{ok-yes}
+use Rattle.block_costs.specs.Terms.{Loaded}
+use Rattle.block_costs.proofs.LayoutCost.{covers-cut, layout-cost}
 
 both : (b c : Bool) → cond b c false ≡ true → T b × T c
 both true c e = (tt, of-true c e)

@@ -10,7 +10,7 @@ ghost use Rattle.model.specs.Layouts.{mostPartitions, longestPartition};
 ghost use Rattle.model.specs.Questions.{costChecks};
 ghost use Rattle.model.specs.Planner.{costCall, planCall};
 ghost use Rattle.checks.specs.Lent.{Sized, setOf};
-ghost use Rattle.terms.specs.Terms.{PricesPass};
+ghost use Rattle.block_costs.specs.Terms.{PricesPass};
 ghost use Rattle.planner.specs.Given.{givenChecks, Marked};
 use model::Costed;
 use model::Limits;
@@ -200,7 +200,7 @@ pub fn plan(
     let mut rows = [0u64; 4096];
     terms::load(card, histograms, n, &mut terms[..]);
     mark(block, used, growers, n, &mut fits[..]);
-    search::cheapest(&terms[..], &fits[..], longest, most, n, &mut rows[..], ends)
+    layout_search::cheapest(&terms[..], &fits[..], longest, most, n, &mut rows[..], ends)
 }
 
 // The cost of a given layout.
@@ -232,7 +232,7 @@ pub fn cost(
     let blocks = checks::block_count(block, used) as usize;
     let mut terms = [0u64; 320];
     terms::load(card, histograms, blocks, &mut terms[..]);
-    let m = search::layout_number(&terms[..], ends);
-    let cost = search::unbiased(m);
+    let m = layout_search::layout_number(&terms[..], ends);
+    let cost = layout_search::unbiased(m);
     Costed { refusal: 0, cost }
 }

@@ -2,8 +2,8 @@
 use mathlib.Core.Path.{sym, _∙_}
 use native.Mathlib.Omega.{arith}
 use Rattle.checks.specs.Lent.{setOf}
-use Rattle.search.proofs.Bias.{held-cost}
-use Rattle.terms.proofs.TermLaws.{loaded-holds}
+use Rattle.layout_search.proofs.Bias.{held-cost}
+use Rattle.block_costs.proofs.TermLaws.{loaded-holds}
 use Rattle.planner.proofs.Given.{cost-given}
 use Rattle.planner.proofs.Answers.{cost-refused, layout-covers-blocks, cost-answered}
 use borrow.Author.Needs.{needs}

@@ -4,7 +4,7 @@ use mathlib.Core.Path.{sym, _∙_}
 use native.Mathlib.Omega.{arith}
 use native.Mathlib.Nat.{mul-le-mul}
 use Rattle.checks.specs.Lent.{setOf}
-use Rattle.terms.proofs.TermLaws.{loaded-holds}
+use Rattle.block_costs.proofs.TermLaws.{loaded-holds}
 use Rattle.planner.proofs.Given.{plan-given}
 use Rattle.planner.proofs.Answers.{plan-not-given, answered-plan}
 use borrow.Author.Needs.{needs}
