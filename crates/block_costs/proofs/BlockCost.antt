@@ -88,9 +88,12 @@ module _ (L : ℕ) (p : PriceCard) (ends hs : List ℕ) (i : ℕ) where
       let i4 = times s (n sc) in
       let i5 = is-shift _ _ _ ((r + w) * n de + s * n de * b + s * n de * f + (r + w) * n de * t) 0 (times (r + s * (b + f) + w + (r + w) * t) (n de)) (omega (arith, removed r s w b f t (n de))) in
       let i6 = is-shift _ _ _ ((r + w) * n ins + (r + w) * n ins * t) 0 (times ((r + w) * (1 + t)) (n ins)) (omega (arith, opened r s w b f t (n ins))) in
-      let i7 = is-shift _ _ _ (2 * ((r + w) * n udf) + s * n udf * b + s * n udf * f + (r + w) * n udf * t) 0 (times (r + s * (b + f) + r + 2 * w + (r + w) * t) (n udf)) (omega (arith, moved-on r s w b f t (n udf))) in
+      let i7 = is-shift _ _ _ (2 * ((r + w) * n udf) + s * n udf * b + s * n udf * f + (r + w) * n udf * t) 0
+      (times (r + s * (b + f) + r + 2 * w + (r + w) * t) (n udf)) (omega (arith, moved-on r s w b f t (n udf))) in
       let i8 = is-shift _ _ _ 0 ((r + w) * n utf * t) (is-mul _ _ _ (n utf) (is-neg _ _ _ (is-pos ((r + w) * t)))) (omega (arith, ripple r s w b f t (n utf))) in
-      let i9 = is-shift _ _ _ (2 * ((r + w) * n udb) + s * n udb * b + s * n udb * f) ((r + w) * n udb * t) (is-mul _ _ _ (n udb) (diff (r + s * (b + f) + r + 2 * w) ((r + w) * t))) (omega (arith, moved r s w b f t (n udb), ripple r s w b f t (n udb))) in
+      let i9 = is-shift _ _ _ (2 * ((r + w) * n udb) + s * n udb * b + s * n udb * f) ((r + w) * n udb * t)
+      (is-mul _ _ _ (n udb) (diff (r + s * (b + f) + r + 2 * w) ((r + w) * t))) (omega (arith, moved r s w b f t (n udb), ripple r s w b f t (n udb))) in
       let i10 = is-shift _ _ _ ((r + w) * n utb * t) 0 (times ((r + w) * t) (n utb)) (omega (arith, ripple r s w b f t (n utb))) in
-      is-shift _ _ _ _ _ (is-add _ _ _ _ _ _ i1 (is-add _ _ _ _ _ _ i2 (is-add _ _ _ _ _ _ i3 (is-add _ _ _ _ _ _ i4 (is-add _ _ _ _ _ _ i5 (is-add _ _ _ _ _ _ i6 (is-add _ _ _ _ _ _ i7 (is-add _ _ _ _ _ _ i8 (is-add _ _ _ _ _ _ i9 (is-add _ _ _ _ _ _ i10 (is-pos 0)))))))))))
+      is-shift _ _ _ _ _ (is-add _ _ _ _ _ _ i1 (is-add _ _ _ _ _ _ i2 (is-add _ _ _ _ _ _ i3 (is-add _ _ _ _ _ _ i4 (is-add _ _ _ _ _ _ i5
+      (is-add _ _ _ _ _ _ i6 (is-add _ _ _ _ _ _ i7 (is-add _ _ _ _ _ _ i8 (is-add _ _ _ _ _ _ i9 (is-add _ _ _ _ _ _ i10 (is-pos 0)))))))))))
       (sorted r s (r + w) b f t (n pq) (n rs) (n re) (n sc) (n de) (n ins) (n udf) (n utf) (n udb) (n utb))

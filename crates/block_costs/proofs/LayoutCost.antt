@@ -87,9 +87,12 @@ sum-is f p m (suc n) h =
 
 -- the cost is what the terms add, less what they take off
 module _ (L : ℕ) (c : PriceCard) (hs : List ℕ) (n : ℕ) (old terms : List ℕ) (l : Loaded L c hs (n * termsPerBlock) old terms) (ends : List ℕ) where
-  at-block : (i : ℕ) → i < n → Is (sumHistograms histograms (λ (h : Histogram). price c ends h i *ℤ pos (count L hs (at h i)))) (atPlace (addsOf terms) 0 ends i) (atPlace (λ i b f k. takesOf terms i k) 0 ends i)
+  at-block : (i : ℕ) → i < n
+      → Is (sumHistograms histograms (λ (h : Histogram). price c ends h i *ℤ pos (count L hs (at h i)))) (atPlace (addsOf terms) 0 ends i) (atPlace (λ i b f k. takesOf terms i k) 0 ends i)
   unfolding atPlace addsOf takesOf before
-  at-block i g = rw (is-fixed L c hs n old terms l i g, is-before L c hs n old terms l i g, is-after L c hs n old terms l i g, is-added L c hs n old terms l i g, is-saved L c hs n old terms l i g) (block-cost L c ends hs i)
+  at-block i g =
+      rw (is-fixed L c hs n old terms l i g, is-before L c hs n old terms l i g, is-after L c hs n old terms l i g, is-added L c hs n old terms l i g, is-saved L c hs n old terms l i g)
+      (block-cost L c ends hs i)
 
   pub layout-cost : Cut 0 ends n → Is (costOf L c n ends hs) (spans (addsOf terms) 0 ends) (spans (λ i b f k. takesOf terms i k) 0 ends)
   unfolding costOf

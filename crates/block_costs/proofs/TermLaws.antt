@@ -15,9 +15,12 @@ use Rattle.layout_search.specs.Terms.{termsPerBlock, fixed, perBlockBefore, per
 use Rattle.block_costs.specs.Terms.{fixedOf, perBlockBeforeOf, perBlockAfterOf, perPartitionAddedOf, perPartitionSavedOf, pick, termAt, PricesPass, Counted, Loaded}
 
 module _ (L : ℕ) (c : PriceCard) (hs : List ℕ) (i y : ℕ) (at-block : y / termsPerBlock ≡ i) where
-  term-as : (j : ℕ) → y % termsPerBlock ≡ j → termAt L c hs y ≡ pick j (fixedOf L c hs i) (perBlockBeforeOf L c hs i) (perBlockAfterOf L c hs i) (perPartitionAddedOf L c hs i) (perPartitionSavedOf L c hs i)
+  abbrev nth : ℕ → ℕ → ℕ
+  nth k j = pick j (fixedOf L c hs k) (perBlockBeforeOf L c hs k) (perBlockAfterOf L c hs k) (perPartitionAddedOf L c hs k) (perPartitionSavedOf L c hs k)
+
+  term-as : (j : ℕ) → y % termsPerBlock ≡ j → termAt L c hs y ≡ nth i j
   unfolding termAt
-  term-as j v = ap₂ (λ (k l : ℕ). pick l (fixedOf L c hs k) (perBlockBeforeOf L c hs k) (perBlockAfterOf L c hs k) (perPartitionAddedOf L c hs k) (perPartitionSavedOf L c hs k)) at-block v
+  term-as j v = ap₂ nth at-block v
 
   pub term-fixed : y % termsPerBlock ≡ 0 → fixedOf L c hs i ≡ termAt L c hs y
   term-fixed v = sym (term-as 0 v)
@@ -111,7 +114,8 @@ module _ (L : ℕ) (c : PriceCard) (hs : List ℕ) (n : ℕ) (old terms : List �
   pub is-saved : perPartitionSaved terms i ≡ perPartitionSavedOf L c hs i
   is-saved = at-place 4 (omega arith) ∙ sym (term-saved L c hs i (i * termsPerBlock + 4) (omega arith) (omega arith))
 
-pub loaded-holds : (L : ℕ) (c : PriceCard) (hs : List ℕ) (n : ℕ) (old terms : List ℕ) → Loaded L c hs (n * termsPerBlock) old terms → PricesPass c → Counted L hs → n ≤ searchLimit → n * termsPerBlock ≤ length old → Holds terms n
+pub loaded-holds : (L : ℕ) (c : PriceCard) (hs : List ℕ) (n : ℕ) (old terms : List ℕ) → Loaded L c hs (n * termsPerBlock) old terms → PricesPass c → Counted L hs → n ≤ searchLimit
+    → n * termsPerBlock ≤ length old → Holds terms n
 loaded-holds L c hs n old terms l q k few room = record {
   few = few;
   long = omega (arith, l .long);

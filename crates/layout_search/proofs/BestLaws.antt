@@ -31,21 +31,21 @@ more t a k e m m′ s le at d es h l p = go (decLt d e)
         subst (λ (v : ℕ). (es : List ℕ) → Layout t a (v ∷ es) → length es ≡ k → Low t a m′ (v ∷ es)) x at es l p
 
 -- nothing ends there
-pub scan-without : (t : Task) (a k e m : ℕ) → Scan t a k e m → ((es : List ℕ) → Layout t a (e ∷ es) → length es ≡ k → ⊥) → Scan t a k (e + 1) m
+scan-without : (t : Task) (a k e m : ℕ) → Scan t a k e m → ((es : List ℕ) → Layout t a (e ∷ es) → length es ≡ k → ⊥) → Scan t a k (e + 1) m
 scan-without t a k e m s f = record {
   low = more t a k e m m s (λ g. omega arith) (λ es l p. absurd (f es l p));
   hit = s .hit;
   near = s .near;
 }
 
-pub scan-drop : (t : Task) (a k e m x : ℕ) → Scan t a k e m → ((es : List ℕ) → Layout t a (e ∷ es) → length es ≡ k → ⊥) → 2 ^ 62 ≤ x → x < m → Scan t a k (e + 1) x
+scan-drop : (t : Task) (a k e m x : ℕ) → Scan t a k e m → ((es : List ℕ) → Layout t a (e ∷ es) → length es ≡ k → ⊥) → 2 ^ 62 ≤ x → x < m → Scan t a k (e + 1) x
 scan-drop t a k e m x s f h g = record {
   low = more t a k e m x s (λ u. omega arith) (λ es l p. absurd (f es l p));
   hit = λ u. let z : ⊥ = omega arith in absurd z;
   near = λ u. let z : ⊥ = omega arith in absurd z;
 }
 
-pub cand-low : (t : Task) (a k e y x : ℕ) → Cand t a k e y x → (es : List ℕ) → Layout t a (e ∷ es) → length es ≡ k → Low t a x (e ∷ es)
+cand-low : (t : Task) (a k e y x : ℕ) → Cand t a k e y x → (es : List ℕ) → Layout t a (e ∷ es) → length es ≡ k → Low t a x (e ∷ es)
 cand-low t a k e y x c es l p =
     let r = c .rest .low es (l .3) p in
     let g = c .rest .near (c .some) in
@@ -53,7 +53,7 @@ cand-low t a k e y x c es l p =
     let d : span (t .down) a e (length es + 1) ≡ span (t .down) a e (k + 1) = ap (λ (v : ℕ). span (t .down) a e (v + 1)) p in
     (omega arith, omega arith)
 
-pub cand-hit : (t : Task) (a k e y x : ℕ) → Cand t a k e y x → Hit t a (k + 1) x
+cand-hit : (t : Task) (a k e y x : ℕ) → Cand t a k e y x → Hit t a (k + 1) x
 cand-hit t a k e y x c =
     let r = c .rest .hit (c .some) in
     let u : span (t .up) a e (length (r .0) + 1) ≡ span (t .up) a e (k + 1) = ap (λ (v : ℕ). span (t .up) a e (v + 1)) (r .2) in
@@ -65,14 +65,14 @@ cand-near t a k e y x c =
     let g = c .rest .near (c .some) in
     (omega arith, omega arith)
 
-pub scan-keep : (t : Task) (a k e m y x : ℕ) → Scan t a k e m → Cand t a k e y x → m ≤ x → Scan t a k (e + 1) m
+scan-keep : (t : Task) (a k e m y x : ℕ) → Scan t a k e m → Cand t a k e y x → m ≤ x → Scan t a k (e + 1) m
 scan-keep t a k e m y x s c h = record {
   low = more t a k e m m s (λ g. omega arith) (λ es l p. let r = cand-low t a k e y x c es l p in (omega arith, omega arith));
   hit = s .hit;
   near = s .near;
 }
 
-pub scan-take : (t : Task) (a k e m y x : ℕ) → Scan t a k e m → Cand t a k e y x → x < m → Scan t a k (e + 1) x
+scan-take : (t : Task) (a k e m y x : ℕ) → Scan t a k e m → Cand t a k e y x → x < m → Scan t a k (e + 1) x
 scan-take t a k e m y x s c h = record {
   low = more t a k e m x s (λ g. omega arith) (cand-low t a k e y x c);
   hit = λ g. cand-hit t a k e y x c;

@@ -22,7 +22,10 @@ module _ (t : Task) (val : ℕ → ℕ → ℕ) (a k e m b x : ℕ) (s : Tried t
 
   -- of equal numbers the earlier end was kept
   pub tried-take : x < m → Tried t val a k (e + 1) x e
-  tried-take h = record { scan = scan-take-offer t a k e m _ x (s .scan) o h; first = λ g. record { cand = go o g; passed = record { more = λ d ds u l p. omega (arith, s .scan .low d ds u l p .1) } } }
+  tried-take h = record {
+    scan = scan-take-offer t a k e m _ x (s .scan) o h;
+    first = λ g. record { cand = go o g; passed = record { more = λ d ds u l p. omega (arith, s .scan .low d ds u l p .1) } };
+  }
     where
       go : Offer t a k e (val k (e + 1)) x → x < 2 ^ 62 → Cand t a k e (val k (e + 1)) x
       go (nothing q f) g = let z : ⊥ = omega arith in absurd z
@@ -49,7 +52,9 @@ chose-first t val a k m e v c b h =
 -- es is cheaper than each layout in as many partitions that comes before it in the order of the ends
 abbrev pub Earliest : Task → ℕ → List ℕ → Type 0
 Earliest t a [] = Unit {0}
-Earliest t a (e ∷ es) = ((d : ℕ) (ds : List ℕ) → d < e → Layout t a (d ∷ ds) → length ds ≡ length es → adds t a (e ∷ es) + takes t a (d ∷ ds) < adds t a (d ∷ ds) + takes t a (e ∷ es)) × Earliest t (e + 1) es
+Earliest t a (e ∷ es) =
+    ((d : ℕ) (ds : List ℕ) → d < e → Layout t a (d ∷ ds) → length ds ≡ length es → adds t a (e ∷ es) + takes t a (d ∷ ds) < adds t a (d ∷ ds) + takes t a (e ∷ es))
+    × Earliest t (e + 1) es
 
 pub chosen-layout : (t : Task) (val : ℕ → ℕ → ℕ) (a : ℕ) (es : List ℕ) → Chosen t val a es → Layout t a es
 chosen-layout t val a [] c = c .0

@@ -24,8 +24,11 @@ layout-count t a (e ∷ es) l = let r = layout-count t (e + 1) es (l .3) in omeg
 
 -- the order among layouts in as many partitions
 
+abbrev InOrder : Task → ℕ → List ℕ → List ℕ → Type 0
+InOrder t a es ds = Layout t a ds → Layout t a es → length ds ≡ length es → adds t a es + takes t a ds ≡ adds t a ds + takes t a es → T (endsBefore es ds)
+
 -- of equal costs the earliest layout comes first
-earliest-first : (t : Task) (a : ℕ) (es ds : List ℕ) → Earliest t a es → Layout t a ds → Layout t a es → length ds ≡ length es → adds t a es + takes t a ds ≡ adds t a ds + takes t a es → T (endsBefore es ds)
+earliest-first : (t : Task) (a : ℕ) (es ds : List ℕ) → Earliest t a es → InOrder t a es ds
 earliest-first t a [] ds x l m p q = tt
 earliest-first t a (e ∷ es) [] x l m p q = let z : ⊥ = omega (arith, p) in absurd z
 earliest-first t a (e ∷ es) (d ∷ ds) x l m p q = decide-intro e d _ (go (earliest-first t (e + 1) es ds (x .1)) (decLt e d) (decLt d e))
@@ -33,7 +36,7 @@ earliest-first t a (e ∷ es) (d ∷ ds) x l m p q = decide-intro e d _ (go (ear
     same : length ds ≡ length es
     same = omega (arith, p)
 
-    tail : e ≡ d → (Layout t (e + 1) ds → Layout t (e + 1) es → length ds ≡ length es → adds t (e + 1) es + takes t (e + 1) ds ≡ adds t (e + 1) ds + takes t (e + 1) es → T (endsBefore es ds)) → T (endsBefore es ds)
+    tail : e ≡ d → InOrder t (e + 1) es ds → T (endsBefore es ds)
     tail h ih =
         let u : span (t .up) a d (length ds + 1) ≡ span (t .up) a e (length es + 1) = ap₂ (λ (v w : ℕ). span (t .up) a v (w + 1)) (sym h) same in
         let w : span (t .down) a d (length ds + 1) ≡ span (t .down) a e (length es + 1) = ap₂ (λ (v w : ℕ). span (t .down) a v (w + 1)) (sym h) same in
@@ -41,7 +44,7 @@ earliest-first t a (e ∷ es) (d ∷ ds) x l m p q = decide-intro e d _ (go (ear
         let z : takes t (d + 1) ds ≡ takes t (e + 1) ds = ap (λ (v : ℕ). takes t (v + 1) ds) (sym h) in
         ih (subst (λ (v : ℕ). Layout t (v + 1) ds) (sym h) (l .3)) (m .3) same (omega (arith, u, w, y, z, q))
 
-    go : (Layout t (e + 1) ds → Layout t (e + 1) es → length ds ≡ length es → adds t (e + 1) es + takes t (e + 1) ds ≡ adds t (e + 1) ds + takes t (e + 1) es → T (endsBefore es ds)) → Dec (e < d) → Dec (d < e) → (e < d) ⊎ ((e ≡ d) × T (endsBefore es ds))
+    go : InOrder t (e + 1) es ds → Dec (e < d) → Dec (d < e) → (e < d) ⊎ ((e ≡ d) × T (endsBefore es ds))
     go ih (yes h) k = inl h
     go ih (no h) (yes k) = let g = x .0 d ds k l same in let z : ⊥ = omega (arith, q) in absurd z
     go ih (no h) (no k) = let r : e ≡ d = omega arith in inr (r, tail r ih)
@@ -83,16 +86,16 @@ module _ (t : Task) (most top : ℕ) (val : ℕ → ℕ → ℕ) (b : ℕ) (w : 
           let f : adds t 0 es + takes t 0 ds ≡ adds t 0 ds + takes t 0 es = omega (arith, x, y, z) in
           inr (f, inr (sym e, earliest-first t 0 es ds (chosen-earliest t val 0 es c) (l .0) (chosen-layout t val 0 es c) e f))
 
-  pub chosen-least : (es : List ℕ) → length es ≡ b → Chosen t val 0 es → Least t most es
+  chosen-least : (es : List ℕ) → length es ≡ b → Chosen t val 0 es → Least t most es
   chosen-least es p c = record { allowed = (chosen-layout t val 0 es c, omega (arith, w .inside, w .fits)); ahead = chosen-ahead es p c }
 
-  pub chosen-cost : (es : List ℕ) → length es ≡ b → Chosen t val 0 es → subℕ (val b 0) (2 ^ 60) ≡ subℕ (adds t 0 es) (takes t 0 es)
+  chosen-cost : (es : List ℕ) → length es ≡ b → Chosen t val 0 es → subℕ (val b 0) (2 ^ 60) ≡ subℕ (adds t 0 es) (takes t 0 es)
   chosen-cost es p c =
       let x : val b 0 + takes t 0 es ≡ 2 ^ 60 + adds t 0 es = subst (λ (v : ℕ). val v 0 + takes t 0 es ≡ 2 ^ 60 + adds t 0 es) p (chosen-number t val 0 es c) in
       eq-is _ _ _ _ _ _ (is-sub (val b 0) (2 ^ 60)) (is-sub (adds t 0 es) (takes t 0 es)) (omega arith)
 
   -- nothing is allowed
-  pub none-allowed : 2 ^ 62 ≤ val b 0 → (es : List ℕ) → Allowed t most es → ⊥
+  none-allowed : 2 ^ 62 ≤ val b 0 → (es : List ℕ) → Allowed t most es → ⊥
   none-allowed h es l = omega (arith, low-number es l .0, w .low (length es) (in-top es l))
 
   module _ (h : val b 0 < 2 ^ 62) where
@@ -100,11 +103,11 @@ module _ (t : Task) (most top : ℕ) (val : ℕ → ℕ → ℕ) (b : ℕ) (w : 
     hit = w .rows b (w .inside) .hit h
 
     -- something is
-    pub one-allowed : (es : List ℕ) × Allowed t most es
+    one-allowed : (es : List ℕ) × Allowed t most es
     one-allowed = (hit .0, (hit .1, omega (arith, hit .2, w .inside, w .fits)))
 
     -- how many partitions the least layout has, without its ends
-    pub least-count : (z : List ℕ) → Least t most z → length z ≡ b
+    least-count : (z : List ℕ) → Least t most z → length z ≡ b
     unfolding hit one-allowed
     least-count z l = cases (l .ahead (hit .0) (one-allowed .1)) (decLt (length z) b)
       where
@@ -121,7 +124,8 @@ module _ (t : Task) (most top : ℕ) (val : ℕ → ℕ → ℕ) (b : ℕ) (w : 
         cases (inr (u, inr v)) (no d) = omega (arith, hit .2, v .0)
 
 -- the numbers of a table
-pub settled : (t : Task) (most top b : ℕ) (table : List ℕ) → top ≡ min most (t .n) → Rows t top table → Lowest (λ k. valOf (t .n) table k 0) (top + 1) b (valOf (t .n) table b 0) → Settled t most top (valOf (t .n) table) b
+pub settled : (t : Task) (most top b : ℕ) (table : List ℕ) → top ≡ min most (t .n) → Rows t top table
+    → Lowest (λ k. valOf (t .n) table k 0) (top + 1) b (valOf (t .n) table b 0) → Settled t most top (valOf (t .n) table) b
 settled t most top b table h r l = record {
   rows = λ j g. r j g 0 (omega arith);
   fits = omega arith;
@@ -146,4 +150,5 @@ module _ (t : Task) (most top b : ℕ) (table old : List ℕ) (w : Settled t mos
       let x : out ≡ take b out ++ drop b old = sym (take-append-drop b out) ∙ ap (λ (l : List ℕ). take b out ++ l) (v .kept) in
       let y = chosen-cost t most top (valOf (t .n) table) b w (take b out) (v .count) (v .chosen) in
       let n = v .count in
-      found (take b out) (chosen-least t most top (valOf (t .n) table) b w (take b out) n (v .chosen)) (omega arith) (f ∙ ap₂ {C = Planned} (λ (k : ℕ) (c : ℤ). answer 0 k c) (sym n) (e ∙ y)) (x ∙ ap (λ (k : ℕ). take b out ++ drop k old) (sym n))
+      found (take b out) (chosen-least t most top (valOf (t .n) table) b w (take b out) n (v .chosen)) (omega arith)
+      (f ∙ ap₂ {C = Planned} (λ (k : ℕ) (c : ℤ). answer 0 k c) (sym n) (e ∙ y)) (x ∙ ap (λ (k : ℕ). take b out ++ drop k old) (sym n))

@@ -10,7 +10,7 @@ use Rattle.layout_search.specs.Sums.{span, spans}
 use Rattle.layout_search.specs.Task.{Covers}
 use Rattle.layout_search.specs.Terms.{addsOf, takesOf, Holds, Priced, Laid, Numbered}
 
-pub covers-count : (n a : ℕ) (es : List ℕ) → Covers n a es → length es + a ≤ n
+covers-count : (n a : ℕ) (es : List ℕ) → Covers n a es → length es + a ≤ n
 covers-count n a [] c = omega (arith, c)
 covers-count n a (e ∷ es) c = omega (arith, c .0, covers-count n (e + 1) es (c .2))
 
@@ -27,7 +27,17 @@ pub record Costing (terms ends : List ℕ) (s a p : ℕ) : Type 0 where
   pub low : 2 ^ 60 ≤ s + a * 2 ^ 43
 
 pub costing-start : (terms ends : List ℕ) → Laid terms ends → Costing terms ends (2 ^ 60) 0 0
-costing-start terms ends l = record { n = l .n; holds = l .holds; count = omega arith; few = omega (arith, covers-count (l .n) 0 ends (l .covers)); rest = l .covers; inside = omega arith; same = omega arith; high = omega arith; low = omega arith }
+costing-start terms ends l = record {
+  n = l .n;
+  holds = l .holds;
+  count = omega arith;
+  few = omega (arith, covers-count (l .n) 0 ends (l .covers));
+  rest = l .covers;
+  inside = omega arith;
+  same = omega arith;
+  high = omega arith;
+  low = omega arith;
+}
 
 module _ (terms ends : List ℕ) (s a p : ℕ) (c : Costing terms ends s a p) (h : p < length ends) where
   next : drop p ends ≡ getD ends p 0 ∷ drop (p + 1) ends

@@ -49,7 +49,7 @@ place-below n j k a p h g =
     let y : (j - 1 + 1) * n ≡ j * n = ap (λ (v : ℕ). v * n) x in
     omega (arith, row-place n (j - 1) a g, rows-below n j k h)
 
-pub row-zero : (t : Task) (table : List ℕ) → Row t 0 table
+row-zero : (t : Task) (table : List ℕ) → Row t 0 table
 row-zero t table a h = go (ℕ-discrete a (t .n))
   where
     go : Dec (a ≡ t .n) → Best t a 0 (valOf (t .n) table 0 a)
@@ -59,11 +59,12 @@ row-zero t table a h = go (ℕ-discrete a (t .n))
 pub rows-zero : (t : Task) (table : List ℕ) → Rows t 0 table
 rows-zero t table j h = let x : 0 ≡ j = omega arith in subst (λ (v : ℕ). Row t v table) x (row-zero t table)
 
-pub val-kept : (n k j a : ℕ) (old new : List ℕ) → Kept n k old new → j ≤ k → a ≤ n → valOf n new j a ≡ valOf n old j a
+val-kept : (n k j a : ℕ) (old new : List ℕ) → Kept n k old new → j ≤ k → a ≤ n → valOf n new j a ≡ valOf n old j a
 unfolding valOf
 val-kept n k j a old new r h g = go (eqb a n) (eqb j 0) refl refl
   where
-    go : (b c : Bool) → eqb a n ≡ b → eqb j 0 ≡ c → cond b (cond c (2 ^ 60) (2 ^ 62)) (cond c (2 ^ 62) (getD new ((j - 1) * n + a) 0)) ≡ cond b (cond c (2 ^ 60) (2 ^ 62)) (cond c (2 ^ 62) (getD old ((j - 1) * n + a) 0))
+    go : (b c : Bool) → eqb a n ≡ b → eqb j 0 ≡ c
+        → cond b (cond c (2 ^ 60) (2 ^ 62)) (cond c (2 ^ 62) (getD new ((j - 1) * n + a) 0)) ≡ cond b (cond c (2 ^ 60) (2 ^ 62)) (cond c (2 ^ 62) (getD old ((j - 1) * n + a) 0))
     go true true u v = refl
     go true false u v = refl
     go false true u v = refl

@@ -57,7 +57,8 @@ run-more f g a e b i s t d r h n m p u q v =
     let y = upto-step g a i (r .from) in
     omega arith
 
-pub run-done : (f g : ℕ → ℕ) (a e b i s : ℕ) → Run f g a e b i s → e < i → (s + upto g a (e + 1) ≡ b + upto f a (e + 1)) × ((upto g a (e + 1) ≤ (e + 1 - a) * 2 ^ 43) × (upto f a (e + 1) ≤ (e + 1 - a) * 2 ^ 43))
+pub run-done : (f g : ℕ → ℕ) (a e b i s : ℕ) → Run f g a e b i s → e < i
+    → (s + upto g a (e + 1) ≡ b + upto f a (e + 1)) × ((upto g a (e + 1) ≤ (e + 1 - a) * 2 ^ 43) × (upto f a (e + 1) ≤ (e + 1 - a) * 2 ^ 43))
 run-done f g a e b i s r h =
     let x : i ≡ e + 1 = omega (arith, r .till) in
     let q : Run f g a e b (e + 1) s = rw x at r in

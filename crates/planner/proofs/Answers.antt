@@ -55,7 +55,7 @@ unfolding firstFailed
 last-two a b n e = e
 
 module _ (L : ℕ) (p : PriceCard) (l : Limits) (s : Set) (hs out : List ℕ) where
-  pub plan-refused : (n : ℕ) → plannerRefusal L p l s hs (length out) ≡ n → (n ≡ 0 → ⊥) → _≡_ {A = PlanResult} (record { answer = answer n 0 (pos 0); ends = out }) (planCall L p l s hs out)
+  plan-refused : (n : ℕ) → plannerRefusal L p l s hs (length out) ≡ n → (n ≡ 0 → ⊥) → _≡_ {A = PlanResult} (record { answer = answer n 0 (pos 0); ends = out }) (planCall L p l s hs out)
   unfolding planCall
   plan-refused n e h = rw (e, ne-eqb n 0 h)
 
@@ -69,7 +69,8 @@ module _ (L : ℕ) (p : PriceCard) (l : Limits) (s : Set) (hs out : List ℕ) wh
   ends-planned es e = ap (valueOr []) e
 
   -- a refusal by the checks of what was given
-  pub plan-not-given : (n : ℕ) (r : Planned) → n ≡ firstFailed (givenChecks L p l s hs) → (n ≡ 0 → ⊥) → r ≡ answer n 0 (pos 0) → _≡_ {A = PlanResult} (record { answer = r; ends = out }) (planCall L p l s hs out)
+  pub plan-not-given : (n : ℕ) (r : Planned) → n ≡ firstFailed (givenChecks L p l s hs) → (n ≡ 0 → ⊥) → r ≡ answer n 0 (pos 0)
+      → _≡_ {A = PlanResult} (record { answer = r; ends = out }) (planCall L p l s hs out)
   unfolding plannerRefusal
   plan-not-given n r e h q =
       let f = plan-refused n (sym (e ∙ plan-failed L p s hs l (length (plannedEnds L p l s hs)) (length out) (λ f. h (e ∙ f)))) h in
@@ -80,12 +81,14 @@ module _ (L : ℕ) (p : PriceCard) (l : Limits) (s : Set) (hs out : List ℕ) wh
     unfolding plannerRefusal
     refusal-is n e = plan-passed L p s hs l (length (plannedEnds L p l s hs)) (length out) given ∙ last-two _ _ n e
 
-    module _ (old terms : List ℕ) (fits : List Bool) (loaded : Loaded L p hs (blocks s * termsPerBlock) old terms) (marks : (i : ℕ) → i < blocks s → getD fits i false ≡ separatesNone s i) (few : 1 ≤ blocks s) where
+    module _ (old terms : List ℕ) (fits : List Bool) (loaded : Loaded L p hs (blocks s * termsPerBlock) old terms)
+        (marks : (i : ℕ) → i < blocks s → getD fits i false ≡ separatesNone s i) (few : 1 ≤ blocks s) where
       abbrev goal : Planned → List ℕ → Type 0
       goal r new = _≡_ {A = PlanResult} (record { answer = r; ends = new }) (planCall L p l s hs out)
 
       -- room for fewer ends than the cheapest has
-      too-tight : (o : Option (List ℕ)) → cheapest L p l s hs ≡ o → (es : List ℕ) → T (permitted p l s es) → ((ds : List ℕ) → Least (task L p l s hs old terms fits loaded marks few) (mostPartitions p l) ds → length out < length ds) → plannerRefusal L p l s hs (length out) ≡ 15
+      too-tight : (o : Option (List ℕ)) → cheapest L p l s hs ≡ o → (es : List ℕ) → T (permitted p l s es)
+          → ((ds : List ℕ) → Least (task L p l s hs old terms fits loaded marks few) (mostPartitions p l) ds → length out < length ds) → plannerRefusal L p l s hs (length out) ≡ 15
       too-tight none e es t f = absurd (none-permitted p l s L hs few e es t)
       too-tight (some ds) e es t f =
           let g = f ds (cheapest-least L p l s hs old terms fits loaded marks few ds (cheapest-chosen p l s L hs ds few e)) in
@@ -103,11 +106,14 @@ module _ (L : ℕ) (p : PriceCard) (l : Limits) (s : Set) (hs out : List ℕ) wh
           let f = ends-planned es (chosen-cheapest p l s L hs es few c) in
           let z = cost-by-terms L p l s hs old terms fits loaded marks few es (h .allowed .0) in
           subst (λ (v : List ℕ). goal r v) (sym q) (subst (λ (v : Planned). goal v (es ++ drop (length es) out)) (sym e)
-          (subst (λ (v : ℤ). goal (answer 0 (length es) v) (es ++ drop (length es) out)) z (plan-accepted es (refusal-is 0 (rw (any-so p l s es (c .allowed) few, f, le-leb (length es) (length out) room) refl)) f)))
+          (subst (λ (v : ℤ). goal (answer 0 (length es) v) (es ++ drop (length es) out)) z
+          (plan-accepted es (refusal-is 0 (rw (any-so p l s es (c .allowed) few, f, le-leb (length es) (length out) room) refl)) f)))
 
     -- the search's answer, where n, longest and most are what they must be
-    pub answered-plan : (n longest most : ℕ) (old terms : List ℕ) (were fits : List Bool) (new : List ℕ) (r : Planned) → n ≡ blocks s → longest ≡ longestPartition p l → most ≡ mostPartitions p l → 1 ≤ blocks s
-        → Loaded L p hs (n * termsPerBlock) old terms → Marked (s .block) (s .used) (s .growers) n were fits → Answered (taskOf terms fits longest n) most out new r → _≡_ {A = PlanResult} (record { answer = r; ends = new }) (planCall L p l s hs out)
+    pub answered-plan : (n longest most : ℕ) (old terms : List ℕ) (were fits : List Bool) (new : List ℕ) (r : Planned)
+        → n ≡ blocks s → longest ≡ longestPartition p l → most ≡ mostPartitions p l → 1 ≤ blocks s
+        → Loaded L p hs (n * termsPerBlock) old terms → Marked (s .block) (s .used) (s .growers) n were fits → Answered (taskOf terms fits longest n) most out new r
+        → _≡_ {A = PlanResult} (record { answer = r; ends = new }) (planCall L p l s hs out)
     answered-plan n longest most old terms were fits new r a b c few load marks h =
         answered-task old terms fits (rw a at load) (λ i g. marks .here i (omega arith)) few new r (rw (a, b, c) at h)
 
@@ -120,7 +126,8 @@ module _ (L : ℕ) (p : PriceCard) (s : Set) (ends hs : List ℕ) where
   unfolding costCall
   cost-refused n e h = rw (sym e, ne-eqb n 0 h)
 
-  pub cost-answered : (n m : ℕ) (old terms : List ℕ) (z : ℤ) → firstFailed (costChecks L p s ends hs) ≡ 0 → T (layoutOk s ends) → n ≡ blocks s → Loaded L p hs (n * termsPerBlock) old terms → Numbered terms ends m → z ≡ subℕ m (2 ^ 60)
+  pub cost-answered : (n m : ℕ) (old terms : List ℕ) (z : ℤ) → firstFailed (costChecks L p s ends hs) ≡ 0 → T (layoutOk s ends) → n ≡ blocks s
+      → Loaded L p hs (n * termsPerBlock) old terms → Numbered terms ends m → z ≡ subℕ m (2 ^ 60)
       → _≡_ {A = Costed} (record { refusal = 0; cost = z }) (costCall L p s ends hs)
   unfolding costCall
   cost-answered n m old terms z e t a load num f =

@@ -172,7 +172,8 @@ module _ (block used : ℕ) (growers : List ℕ) where
   pub marked-start : (old : List Bool) → Marked block used growers 0 old old
   marked-start old = record { long = refl; here = λ x g. let z : ⊥ = omega arith in absurd z }
 
-  pub marked-more : (i : ℕ) (v : Bool) (old fits : List Bool) → Marked block used growers i old fits → i < length old → v ≡ separatesNone (setOf block used growers [] []) i → Marked block used growers (i + 1) old (set fits i v)
+  pub marked-more : (i : ℕ) (v : Bool) (old fits : List Bool) → Marked block used growers i old fits → i < length old
+      → v ≡ separatesNone (setOf block used growers [] []) i → Marked block used growers (i + 1) old (set fits i v)
   marked-more i v old fits l g e = record { long = length-set fits i v ∙ l .long; here = λ x k. go x k (ℕ-discrete x i) }
     where
       go : (x : ℕ) → x < i + 1 → Dec (x ≡ i) → getD (set fits i v) x false ≡ separatesNone (setOf block used growers [] []) x

@@ -79,7 +79,8 @@ fn plan_refusal(
     yields: &[u32],
     histograms: &[u32],
 ) -> u32
-    ensures { λ r. ⌜ r ≡ firstFailed (givenChecks blockLimit card limits (setIn block used growers weights yields) (now (histograms .entry))) ⌝ }
+    ensures { λ r. ⌜ r ≡ firstFailed (givenChecks blockLimit card limits (setIn block used growers weights yields)
+        (now (histograms .entry))) ⌝ }
 {
     if !given_ok(card, limits) {
         return 1;
@@ -107,7 +108,8 @@ fn cost_refusal(
     ends: &[u32],
     histograms: &[u32],
 ) -> u32
-    ensures { λ r. ⌜ r ≡ firstFailed (costChecks blockLimit card (setIn block used growers weights yields) (now (ends .entry)) (now (histograms .entry))) ⌝ }
+    ensures { λ r. ⌜ r ≡ firstFailed (costChecks blockLimit card (setIn block used growers weights yields)
+        (now (ends .entry)) (now (histograms .entry))) ⌝ }
 {
     if !prices_ok(card) {
         return 1;
@@ -181,7 +183,9 @@ pub fn plan(
     histograms: &[u32],
     ends: &mut [u32],
 ) -> Planned
-    ensures { λ r. ⌜ record { answer = r; ends = now (ends .exit) } ≡ planCall blockLimit card limits (setIn block used growers weights yields) (now (histograms .entry)) (now (ends .entry)) ⌝ }
+    ensures { λ r. ⌜ record { answer = r; ends = now (ends .exit) }
+        ≡ planCall blockLimit card limits (setIn block used growers weights yields)
+        (now (histograms .entry)) (now (ends .entry)) ⌝ }
 {
     let refusal = plan_refusal(
         card,
@@ -226,7 +230,8 @@ pub fn cost(
     ends: &[u32],
     histograms: &[u32],
 ) -> Costed
-    ensures { λ r. ⌜ r ≡ costCall blockLimit card (setIn block used growers weights yields) (now (ends .entry)) (now (histograms .entry)) ⌝ }
+    ensures { λ r. ⌜ r ≡ costCall blockLimit card (setIn block used growers weights yields)
+        (now (ends .entry)) (now (histograms .entry)) ⌝ }
 {
     let refusal = cost_refusal(
         card,

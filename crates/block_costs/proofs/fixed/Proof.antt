@@ -49,9 +49,12 @@ add-result-3 c = search needs
 returns : tie.Need-returns
 unfolding fixedOf slot position
 returns c =
-    four-products _ _ _ _ _ _ _ _ (product-is _ _ _ _ _ (c .before .before .before .before .before .before .product .ensures .0) (omega arith) (omega (arith, c .before .before .before .before .before .before .before .counts .ensures .0)))
-    (product-is _ _ _ _ _ (c .before .before .before .before .product2 .ensures .0) (omega arith) (omega (arith, c .before .before .before .before .before .counts2 .ensures .0)))
-    (product-is _ _ _ _ _ (c .before .before .product3 .ensures .0) (omega arith) (omega (arith, c .before .before .before .counts3 .ensures .0)))
+    let writes = c .before .before in
+    let scans = writes .before .before in
+    let reads = scans .before .before in
+    four-products _ _ _ _ _ _ _ _ (product-is _ _ _ _ _ (reads .product .ensures .0) (omega arith) (omega (arith, reads .before .counts .ensures .0)))
+    (product-is _ _ _ _ _ (scans .product2 .ensures .0) (omega arith) (omega (arith, scans .before .counts2 .ensures .0)))
+    (product-is _ _ _ _ _ (writes .product3 .ensures .0) (omega arith) (omega (arith, writes .before .counts3 .ensures .0)))
     (product-is _ _ _ _ _ (c .product4 .ensures .0) (omega arith) (omega (arith, c .before .counts4 .ensures .0)))
 
 pub fixed-spec : {M : Type 1} → statement M

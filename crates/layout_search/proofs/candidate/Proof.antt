@@ -57,7 +57,17 @@ returns-3 c =
     let g = b .near (omega (arith, entry .ensures)) in
     let p = priced-as _ _ _ _ (s .args .k + 1) _ (omega arith) (c .price .ensures) in
     offered
-    (record { start = omega arith; inside = omega arith; okay = sym (partition-ok .ensures) ∙ not-false (partition-ok .result) (if1 .left); rest = b; some = omega (arith, entry .ensures); is = omega (arith, p .is, p .up, p .down, entry .ensures); up = p .up; down = p .down; blocks = s .pre .0 .few })
+    (record {
+      start = omega arith;
+      inside = omega arith;
+      okay = sym (partition-ok .ensures) ∙ not-false (partition-ok .result) (if1 .left);
+      rest = b;
+      some = omega (arith, entry .ensures);
+      is = omega (arith, p .is, p .up, p .down, entry .ensures);
+      up = p .up;
+      down = p .down;
+      blocks = s .pre .0 .few;
+    })
 
 pub candidate-spec : {M : Type 1} → statement M
 candidate-spec =

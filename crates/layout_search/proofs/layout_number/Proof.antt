@@ -44,17 +44,16 @@ price-requires c κs =
 
 add-s : tie.Need-add-s Inv-loop μ-loop
 add-s c =
-    let loop = c .before .before .before .loop in
-    let loop-test = c .before .before .loop-test in
-    omega
-    (arith, loop .inv .high, c .price .ensures .is, c .price .ensures .up, costing-till _ _ _ _ _ (loop .inv) (loop-test .taken), loop .inv .holds .few, loop .inv .inside)
+    let v = c .before .before .before .loop .inv in
+    let till = costing-till _ _ _ _ _ v (c .before .before .loop-test .taken) in
+    omega (arith, v .high, c .price .ensures .is, c .price .ensures .up, till, v .holds .few, v .inside)
 
 sub-s : tie.Need-sub-s Inv-loop μ-loop
 sub-s c =
-    let loop = c .before .before .before .loop in
-    let loop-test = c .before .before .loop-test in
-    omega
-    (arith, loop .inv .low, c .price .ensures .is, c .price .ensures .down, costing-till _ _ _ _ _ (loop .inv) (loop-test .taken), costing-from _ _ _ _ _ (loop .inv) (loop-test .taken), loop .inv .holds .few)
+    let v = c .before .before .before .loop .inv in
+    let from = costing-from _ _ _ _ _ v (c .before .before .loop-test .taken) in
+    let till = costing-till _ _ _ _ _ v (c .before .before .loop-test .taken) in
+    omega (arith, v .low, c .price .ensures .is, c .price .ensures .down, till, from, v .holds .few)
 
 add-a : tie.Need-add-a Inv-loop μ-loop
 add-a c =

@@ -1,5 +1,5 @@
 -- `planner::cost` meets its contract. Assumes nothing.
-use Prim.Native.Nat.{_*_, _≤_}
+use Prim.Native.Nat.{_≤_}
 use mathlib.Core.Path.{_≡_, sym, _∙_}
 use native.Mathlib.Omega.{arith}
 use borrow.Author.Needs.{needs}
@@ -10,7 +10,6 @@ use Rattle.model.specs.Blocks.{Set}
 use Rattle.model.specs.Layouts.{layoutOk}
 use Rattle.model.specs.Questions.{costChecks}
 use Rattle.model.specs.Lent.{setOf}
-use Rattle.layout_search.specs.Terms.{Holds}
 use Rattle.layout_search.proofs.Bias.{held-cost}
 use Rattle.block_costs.proofs.TermLaws.{loaded-holds}
 use Rattle.planner.proofs.Given.{Given, cost-given}

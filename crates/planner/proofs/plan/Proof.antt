@@ -90,12 +90,15 @@ same-length c = search needs
 
 returns-2 : tie.Need-returns-2
 returns-2 c =
-    let n = c .before .before .before .before .before .before .before .before .before .before .before .before .before .before .before .before in
+    let mark = c .before .before .before .before .before .before .before .before .before in
+    let load = mark .before .before .before in
+    let most = load .before .before in
+    let longest = most .before in
+    let n = longest .before in
     let s = at-start (n .before) in
-    let longest = c .before .before .before .before .before .before .before .before .before .before .before .before .before .before .before .longest-partition in
-    let most = c .before .before .before .before .before .before .before .before .before .before .before .before .before .before .most-partitions in
     answered-plan blockLimit (s .args .card) (s .args .limits) (the-set s) (s .args .histograms .now) (s .args .ends .now) (passed (n .before)) _ _ _ _ _ _ _ _ _
-    (n .block-count .ensures) (longest .ensures) (most .ensures) (given (n .before) .some) (c .before .before .before .before .before .before .before .before .before .before .before .before .load .ensures) (c .before .before .before .before .before .before .before .before .before .mark .ensures) (c .before .before .before .cheapest .ensures)
+    (n .block-count .ensures) (longest .longest-partition .ensures) (most .most-partitions .ensures) (given (n .before) .some) (load .load .ensures) (mark .mark .ensures)
+    (c .before .before .before .cheapest .ensures)
 
 pub plan-spec : {M : Type 1} → statement M
 plan-spec =
