@@ -246,9 +246,9 @@ pub fn cost(
     if refusal != 0 {
         return Costed { refusal, cost: 0 };
     }
-    let n = sets::block_count(block, used) as usize;
+    let blocks = sets::block_count(block, used) as usize;
     let mut terms = [0u64; TERMS];
-    block_costs::load(card, histograms, n, &mut terms[..]);
+    block_costs::load(card, histograms, blocks, &mut terms[..]);
     let m = layout_search::layout_number(&terms[..], ends);
     let cost = layout_search::unbiased(m);
     Costed { refusal: 0, cost }

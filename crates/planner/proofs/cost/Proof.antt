@@ -42,8 +42,8 @@ returns c = cost-refused _ _ _ _ _ _ (c .before .cost-refusal .ensures) (c .if1 
 block-count-requires : tie.Need-block-count-requires
 block-count-requires c κs = let y = given c .0 .size in omega (arith, y .block-least, y .block-most, y .used-fits, y .slots-most)
 
-cast-n : tie.Need-cast-n
-cast-n c = search needs
+cast-blocks : tie.Need-cast-blocks
+cast-blocks c = search needs
 
 slice-aggregate-load : tie.Need-slice-aggregate-load
 slice-aggregate-load c = search needs
@@ -85,7 +85,7 @@ cost-spec =
     cost-refusal-requires
     returns
     block-count-requires
-    cast-n
+    cast-blocks
     slice-aggregate-load
     load-requires
     slice-aggregate-layout-number
