@@ -22,12 +22,14 @@ pub const PER_BLOCK_AFTER: usize = 2;
 
 pub const PER_PARTITION_ADDED: usize = 3;
 
-pub const PER_PARTITION_SAVED: usize = 4;
+const PER_PARTITION_SAVED: usize = 4;
 
 // The number for no layout, and that for a cost of 0.
 const NONE: u64 = 0x4000_0000_0000_0000;
 
 const BASE: u64 = 0x1000_0000_0000_0000;
+
+const SIGNED_BASE: i64 = BASE as i64;
 
 // A product of a term and a count.
 fn times(x: u64, y: u64) -> u64
@@ -140,8 +142,8 @@ fn candidate(
 
 // The least number of some layouts, and the first end of the first that has it.
 struct Choice {
-    pub number: u64,
-    pub first: usize,
+    number: u64,
+    first: usize,
 }
 
 // The best of the blocks a .. n - 1 in k + 1 partitions, by row k of the table.
@@ -255,7 +257,7 @@ pub fn unbiased(m: u64) -> i64
     requires { ⌜ m < 2 ^ 62 ⌝ }
     ensures { λ r. ⌜ r ≡ subℕ m (2 ^ 60) ⌝ }
 {
-    m as i64 - 0x1000_0000_0000_0000
+    m as i64 - SIGNED_BASE
 }
 
 fn lesser(x: usize, y: usize) -> usize
@@ -264,7 +266,8 @@ fn lesser(x: usize, y: usize) -> usize
     if x < y { x } else { y }
 }
 
-fn refused(n: u32) -> Planned
+// No layout, and why.
+pub fn refused(n: u32) -> Planned
     ensures { λ r. ⌜ r ≡ answer n 0 (pos 0) ⌝ }
 {
     Planned {

@@ -3,7 +3,6 @@ ghost use mathlib.Core.Path.{_≡_};
 ghost use mathlib.Core.Bool.{_&&_};
 ghost use Prim.Native.Nat.{_≤_, _<_};
 ghost use lib.ListN.{length};
-ghost use lib.IntN.{pos};
 ghost use Rattle.model.specs.Checks.{firstFailed};
 ghost use Rattle.model.specs.Prices.{priceOk, pricesOk, limitsOk};
 ghost use Rattle.model.specs.Layouts.{mostPartitions, longestPartition};
@@ -161,16 +160,6 @@ fn mark(block: u32, used: u32, growers: &[u32], n: usize, fits: &mut [bool])
     }
 }
 
-fn refused(n: u32) -> Planned
-    ensures { λ r. ⌜ r ≡ record { refusal = n; count = 0; cost = pos 0 } ⌝ }
-{
-    Planned {
-        refusal: n,
-        count: 0,
-        cost: 0,
-    }
-}
-
 // The cheapest permitted layout: its ends go to the front of `ends`, and what lies past them stays.
 pub fn plan(
     card: PriceCard,
@@ -198,7 +187,7 @@ pub fn plan(
         histograms,
     );
     if refusal != 0 {
-        return refused(refusal);
+        return layout_search::refused(refusal);
     }
     let n = sets::block_count(block, used) as usize;
     let longest = longest_partition(card, limits);
