@@ -100,7 +100,7 @@ module _ (L : ℕ) (c : PriceCard) (hs : List ℕ) (n : ℕ) (old terms : List �
   at-place j h = l .here (i * termsPerBlock + j) (omega arith)
 
   pub is-fixed : fixed terms i ≡ fixedOf L c hs i
-  is-fixed = l .here (i * termsPerBlock) (omega arith) ∙ sym (term-fixed L c hs i (i * termsPerBlock) (omega arith) (omega arith))
+  is-fixed = at-place 0 (omega arith) ∙ sym (term-fixed L c hs i (i * termsPerBlock + 0) (omega arith) (omega arith))
 
   pub is-before : perBlockBefore terms i ≡ perBlockBeforeOf L c hs i
   is-before = at-place 1 (omega arith) ∙ sym (term-before L c hs i (i * termsPerBlock + 1) (omega arith) (omega arith))

@@ -16,7 +16,7 @@ termsPerBlock = 5
 module _ (terms : List ℕ) (i : ℕ) where
   -- what does not depend on the layout
   abbrev pub fixed : ℕ
-  fixed = getD terms (i * termsPerBlock) 0
+  fixed = getD terms (i * termsPerBlock + 0) 0
 
   -- for each block before it in its partition, and for each after it
   abbrev pub perBlockBefore : ℕ

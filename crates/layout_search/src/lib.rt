@@ -51,7 +51,7 @@ fn block_adds(terms: &[u64], i: usize, b: u64, f: u64, k: u64) -> u64
     let before = times(terms[t + PER_BLOCK_BEFORE], b);
     let after = times(terms[t + PER_BLOCK_AFTER], f);
     let added = times(terms[t + PER_PARTITION_ADDED], k);
-    terms[t] + before + after + added
+    terms[t + FIXED] + before + after + added
 }
 
 // What block i takes off it.

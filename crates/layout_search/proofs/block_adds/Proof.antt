@@ -55,20 +55,23 @@ shared-slice-read-times-3 c = search needs
 times-requires-3 : tie.Need-times-requires-3
 times-requires-3 c κs = omega (arith, small (c .before .before .before .before .before .before))
 
+add-result : tie.Need-add-result
+add-result c = search needs
+
 mul-result : tie.Need-mul-result
 mul-result c = search needs
 
 shared-slice-read-result : tie.Need-shared-slice-read-result
 shared-slice-read-result c = search needs
 
-add-result : tie.Need-add-result
-add-result c = omega (arith, small (c .before .before .before .before .before .before .before .before))
-
 add-result-2 : tie.Need-add-result-2
 add-result-2 c = omega (arith, small (c .before .before .before .before .before .before .before .before))
 
 add-result-3 : tie.Need-add-result-3
 add-result-3 c = omega (arith, small (c .before .before .before .before .before .before .before .before))
+
+add-result-4 : tie.Need-add-result-4
+add-result-4 c = omega (arith, small (c .before .before .before .before .before .before .before .before))
 
 returns : tie.Need-returns
 unfolding addsOf
@@ -97,9 +100,10 @@ block-adds-spec =
     mul-times-3
     shared-slice-read-times-3
     times-requires-3
+    add-result
     mul-result
     shared-slice-read-result
-    add-result
     add-result-2
     add-result-3
+    add-result-4
     returns)
