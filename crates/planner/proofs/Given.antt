@@ -49,7 +49,7 @@ module _ (p : PriceCard) where
   unfolding pricesOk
   rw-left e f = rw (e, f)
 
-  pub prices-pass : T (pricesOk p) → PricesPass p
+  prices-pass : T (pricesOk p) → PricesPass p
   unfolding pricesOk
   prices-pass t =
       let a = priceOk (p .rr) in
