@@ -24,11 +24,11 @@ use Rattle.model.specs.Planner.{PlanResult, costCall, plannedEnds, plannerRefus
 use Rattle.model.proofs.Integers.{is-sub, eq-is}
 use Rattle.model.proofs.LayoutLaws.{laid}
 use Rattle.model.proofs.PlanLaws.{permitted-listed, listed-permitted, cheapest-chosen, chosen-cheapest, none-permitted}
-use Rattle.search.specs.Task.{Covers, Least}
-use Rattle.search.specs.Terms.{taskOf, Numbered}
-use Rattle.search.specs.Answer.{answer, Answered, nothing, tight, found}
-use Rattle.terms.specs.Terms.{Loaded}
-use Rattle.terms.proofs.LayoutCost.{cut-covers, layout-cost}
+use Rattle.layout_search.specs.Task.{Covers, Least}
+use Rattle.layout_search.specs.Terms.{termsPerBlock, taskOf, Numbered}
+use Rattle.layout_search.specs.Answer.{answer, Answered, nothing, tight, found}
+use Rattle.block_costs.specs.Terms.{Loaded}
+use Rattle.block_costs.proofs.LayoutCost.{cut-covers, layout-cost}
 use Rattle.planner.specs.Given.{givenChecks, Marked}
 use Rattle.planner.proofs.Given.{plan-failed, plan-passed}
 use Rattle.planner.proofs.Permitted.{task, permitted-allowed, allowed-permitted, cost-by-terms, least-cheapest, cheapest-least}
@@ -54,76 +54,83 @@ last-two : (a b : Bool) (n : ℕ) → cond a (cond b 0 15) 11 ≡ n → firstFai
 unfolding firstFailed
 last-two a b n e = e
 
-module _ (p : PriceCard) (l : Limits) (s : Set) (hs out : List ℕ) where
-  pub plan-refused : (n : ℕ) → plannerRefusal 64 p l s hs (length out) ≡ n → (n ≡ 0 → ⊥) → _≡_ {A = PlanResult} (record { answer = answer n 0 (pos 0); ends = out }) (planCall 64 p l s hs out)
+module _ (L : ℕ) (p : PriceCard) (l : Limits) (s : Set) (hs out : List ℕ) where
+  plan-refused : (n : ℕ) → plannerRefusal L p l s hs (length out) ≡ n → (n ≡ 0 → ⊥) → _≡_ {A = PlanResult} (record { answer = answer n 0 (pos 0); ends = out }) (planCall L p l s hs out)
   unfolding planCall
   plan-refused n e h = rw (e, ne-eqb n 0 h)
 
-  plan-accepted : (es : List ℕ) → plannerRefusal 64 p l s hs (length out) ≡ 0 → plannedEnds 64 p l s hs ≡ es
-      → _≡_ {A = PlanResult} (record { answer = answer 0 (length es) (costOf 64 p (blocks s) es hs); ends = es ++ drop (length es) out }) (planCall 64 p l s hs out)
+  plan-accepted : (es : List ℕ) → plannerRefusal L p l s hs (length out) ≡ 0 → plannedEnds L p l s hs ≡ es
+      → _≡_ {A = PlanResult} (record { answer = answer 0 (length es) (costOf L p (blocks s) es hs); ends = es ++ drop (length es) out }) (planCall L p l s hs out)
   unfolding planCall
   plan-accepted es e f = rw (e, f)
 
-  ends-planned : (es : List ℕ) → cheapest 64 p l s hs ≡ some es → plannedEnds 64 p l s hs ≡ es
+  ends-planned : (es : List ℕ) → cheapest L p l s hs ≡ some es → plannedEnds L p l s hs ≡ es
   unfolding plannedEnds
   ends-planned es e = ap (valueOr []) e
 
   -- a refusal by the checks of what was given
-  pub plan-not-given : (n : ℕ) (r : Planned) → n ≡ firstFailed (givenChecks p l s hs) → (n ≡ 0 → ⊥) → r ≡ answer n 0 (pos 0) → _≡_ {A = PlanResult} (record { answer = r; ends = out }) (planCall 64 p l s hs out)
+  pub plan-not-given : (n : ℕ) (r : Planned) → n ≡ firstFailed (givenChecks L p l s hs) → (n ≡ 0 → ⊥) → r ≡ answer n 0 (pos 0)
+      → _≡_ {A = PlanResult} (record { answer = r; ends = out }) (planCall L p l s hs out)
   unfolding plannerRefusal
   plan-not-given n r e h q =
-      let f = plan-refused n (sym (e ∙ plan-failed p l s hs (length (plannedEnds 64 p l s hs)) (length out) (λ f. h (e ∙ f)))) h in
-      subst (λ (v : Planned). _≡_ {A = PlanResult} (record { answer = v; ends = out }) (planCall 64 p l s hs out)) (sym q) f
+      let f = plan-refused n (sym (e ∙ plan-failed L p s hs l (length (plannedEnds L p l s hs)) (length out) (λ f. h (e ∙ f)))) h in
+      subst (λ (v : Planned). _≡_ {A = PlanResult} (record { answer = v; ends = out }) (planCall L p l s hs out)) (sym q) f
 
-  module _ (given : firstFailed (givenChecks p l s hs) ≡ 0) where
-    refusal-is : (n : ℕ) → cond (not (eqb (length (permittedLayouts p l s)) 0)) (cond (leb (length (plannedEnds 64 p l s hs)) (length out)) 0 15) 11 ≡ n → plannerRefusal 64 p l s hs (length out) ≡ n
+  module _ (given : firstFailed (givenChecks L p l s hs) ≡ 0) where
+    refusal-is : (n : ℕ) → cond (not (eqb (length (permittedLayouts p l s)) 0)) (cond (leb (length (plannedEnds L p l s hs)) (length out)) 0 15) 11 ≡ n → plannerRefusal L p l s hs (length out) ≡ n
     unfolding plannerRefusal
-    refusal-is n e = plan-passed p l s hs (length (plannedEnds 64 p l s hs)) (length out) given ∙ last-two _ _ n e
+    refusal-is n e = plan-passed L p s hs l (length (plannedEnds L p l s hs)) (length out) given ∙ last-two _ _ n e
 
-    module _ (old terms : List ℕ) (fits : List Bool) (loaded : Loaded p hs (blocks s * 5) old terms) (marks : (i : ℕ) → i < blocks s → getD fits i false ≡ separatesNone s i) (few : 1 ≤ blocks s) where
+    module _ (old terms : List ℕ) (fits : List Bool) (loaded : Loaded L p hs (blocks s * termsPerBlock) old terms)
+        (marks : (i : ℕ) → i < blocks s → getD fits i false ≡ separatesNone s i) (few : 1 ≤ blocks s) where
       abbrev goal : Planned → List ℕ → Type 0
-      goal r new = _≡_ {A = PlanResult} (record { answer = r; ends = new }) (planCall 64 p l s hs out)
+      goal r new = _≡_ {A = PlanResult} (record { answer = r; ends = new }) (planCall L p l s hs out)
 
       -- room for fewer ends than the cheapest has
-      too-tight : (o : Option (List ℕ)) → cheapest 64 p l s hs ≡ o → (es : List ℕ) → T (permitted p l s es) → ((ds : List ℕ) → Least (task p l s hs old terms fits loaded marks few) (mostPartitions p l) ds → length out < length ds) → plannerRefusal 64 p l s hs (length out) ≡ 15
-      too-tight none e es t f = absurd (none-permitted p l s 64 hs few e es t)
+      too-tight : (o : Option (List ℕ)) → cheapest L p l s hs ≡ o → (es : List ℕ) → T (permitted p l s es)
+          → ((ds : List ℕ) → Least (task L p l s hs old terms fits loaded marks few) (mostPartitions p l) ds → length out < length ds) → plannerRefusal L p l s hs (length out) ≡ 15
+      too-tight none e es t f = absurd (none-permitted p l s L hs few e es t)
       too-tight (some ds) e es t f =
-          let g = f ds (cheapest-least p l s hs old terms fits loaded marks few ds (cheapest-chosen p l s 64 hs ds few e)) in
+          let g = f ds (cheapest-least L p l s hs old terms fits loaded marks few ds (cheapest-chosen p l s L hs ds few e)) in
           refusal-is 15 (rw (any-so p l s es t few, ends-planned ds e, lt-leb (length ds) (length out) g) refl)
 
-      answered-task : (new : List ℕ) (r : Planned) → Answered (task p l s hs old terms fits loaded marks few) (mostPartitions p l) out new r → goal r new
+      answered-task : (new : List ℕ) (r : Planned) → Answered (task L p l s hs old terms fits loaded marks few) (mostPartitions p l) out new r → goal r new
       answered-task new r (nothing f e q) =
           subst (λ (v : List ℕ). goal r v) (sym q) (subst (λ (v : Planned). goal v out) (sym e)
-          (plan-refused 11 (refusal-is 11 (rw (any-not p l s (λ es t. f es (permitted-allowed p l s hs old terms fits loaded marks few es t))) refl)) (λ z. omega arith)))
+          (plan-refused 11 (refusal-is 11 (rw (any-not p l s (λ es t. f es (permitted-allowed L p l s hs old terms fits loaded marks few es t))) refl)) (λ z. omega arith)))
       answered-task new r (tight es a f e q) =
           subst (λ (v : List ℕ). goal r v) (sym q) (subst (λ (v : Planned). goal v out) (sym e)
-          (plan-refused 15 (too-tight (cheapest 64 p l s hs) refl es (allowed-permitted p l s hs old terms fits loaded marks few es a) f) (λ z. omega arith)))
+          (plan-refused 15 (too-tight (cheapest L p l s hs) refl es (allowed-permitted L p l s hs old terms fits loaded marks few es a) f) (λ z. omega arith)))
       answered-task new r (found es h room e q) =
-          let c = least-cheapest p l s hs old terms fits loaded marks few es h in
-          let f = ends-planned es (chosen-cheapest p l s 64 hs es few c) in
-          let z = cost-by-terms p l s hs old terms fits loaded marks few es (h .allowed .0) in
+          let c = least-cheapest L p l s hs old terms fits loaded marks few es h in
+          let f = ends-planned es (chosen-cheapest p l s L hs es few c) in
+          let z = cost-by-terms L p l s hs old terms fits loaded marks few es (h .allowed .0) in
           subst (λ (v : List ℕ). goal r v) (sym q) (subst (λ (v : Planned). goal v (es ++ drop (length es) out)) (sym e)
-          (subst (λ (v : ℤ). goal (answer 0 (length es) v) (es ++ drop (length es) out)) z (plan-accepted es (refusal-is 0 (rw (any-so p l s es (c .allowed) few, f, le-leb (length es) (length out) room) refl)) f)))
+          (subst (λ (v : ℤ). goal (answer 0 (length es) v) (es ++ drop (length es) out)) z
+          (plan-accepted es (refusal-is 0 (rw (any-so p l s es (c .allowed) few, f, le-leb (length es) (length out) room) refl)) f)))
 
     -- the search's answer, where n, longest and most are what they must be
-    pub answered-plan : (n longest most : ℕ) (old terms : List ℕ) (were fits : List Bool) (new : List ℕ) (r : Planned) → n ≡ blocks s → longest ≡ longestPartition p l → most ≡ mostPartitions p l → 1 ≤ blocks s
-        → Loaded p hs (n * 5) old terms → Marked (s .block) (s .used) (s .growers) n were fits → Answered (taskOf terms fits longest n) most out new r → _≡_ {A = PlanResult} (record { answer = r; ends = new }) (planCall 64 p l s hs out)
+    pub answered-plan : (n longest most : ℕ) (old terms : List ℕ) (were fits : List Bool) (new : List ℕ) (r : Planned)
+        → n ≡ blocks s → longest ≡ longestPartition p l → most ≡ mostPartitions p l → 1 ≤ blocks s
+        → Loaded L p hs (n * termsPerBlock) old terms → Marked (s .block) (s .used) (s .growers) n were fits → Answered (taskOf terms fits longest n) most out new r
+        → _≡_ {A = PlanResult} (record { answer = r; ends = new }) (planCall L p l s hs out)
     answered-plan n longest most old terms were fits new r a b c few load marks h =
         answered-task old terms fits (rw a at load) (λ i g. marks .here i (omega arith)) few new r (rw (a, b, c) at h)
 
 -- the cost of a layout
-module _ (p : PriceCard) (s : Set) (ends hs : List ℕ) where
-  pub cost-refused : (n : ℕ) → n ≡ firstFailed (costChecks 64 p s ends hs) → (n ≡ 0 → ⊥) → _≡_ {A = Costed} (record { refusal = n; cost = pos 0 }) (costCall 64 p s ends hs)
+pub layout-covers-blocks : (s : Set) (ends : List ℕ) → T (layoutOk s ends) → Covers (blocks s) 0 ends
+layout-covers-blocks s ends t = cut-covers 0 ends (blocks s) (laid s ends t .cut)
+
+module _ (L : ℕ) (p : PriceCard) (s : Set) (ends hs : List ℕ) where
+  pub cost-refused : (n : ℕ) → n ≡ firstFailed (costChecks L p s ends hs) → (n ≡ 0 → ⊥) → _≡_ {A = Costed} (record { refusal = n; cost = pos 0 }) (costCall L p s ends hs)
   unfolding costCall
   cost-refused n e h = rw (sym e, ne-eqb n 0 h)
 
-  pub layout-covers-blocks : T (layoutOk s ends) → Covers (blocks s) 0 ends
-  layout-covers-blocks t = cut-covers 0 ends (blocks s) (laid s ends t .cut)
-
-  pub cost-answered : (n m : ℕ) (old terms : List ℕ) (z : ℤ) → firstFailed (costChecks 64 p s ends hs) ≡ 0 → T (layoutOk s ends) → n ≡ blocks s → Loaded p hs (n * 5) old terms → Numbered terms ends m → z ≡ subℕ m (2 ^ 60)
-      → _≡_ {A = Costed} (record { refusal = 0; cost = z }) (costCall 64 p s ends hs)
+  pub cost-answered : (n m : ℕ) (old terms : List ℕ) (z : ℤ) → firstFailed (costChecks L p s ends hs) ≡ 0 → T (layoutOk s ends) → n ≡ blocks s
+      → Loaded L p hs (n * termsPerBlock) old terms → Numbered terms ends m → z ≡ subℕ m (2 ^ 60)
+      → _≡_ {A = Costed} (record { refusal = 0; cost = z }) (costCall L p s ends hs)
   unfolding costCall
   cost-answered n m old terms z e t a load num f =
-      let c = layout-cost p hs (blocks s) old terms (rw a at load) ends (laid s ends t .cut) in
-      let g : subℕ m (2 ^ 60) ≡ costOf 64 p (blocks s) ends hs = eq-is _ _ _ _ _ _ (is-sub m (2 ^ 60)) c (omega (arith, num .is)) in
+      let c = layout-cost L p hs (blocks s) old terms (rw a at load) ends (laid s ends t .cut) in
+      let g : subℕ m (2 ^ 60) ≡ costOf L p (blocks s) ends hs = eq-is _ _ _ _ _ _ (is-sub m (2 ^ 60)) c (omega (arith, num .is)) in
       rw (e, f, g)

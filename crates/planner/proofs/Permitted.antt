@@ -18,18 +18,18 @@ use Rattle.model.proofs.Tests.{and-fst, and-snd, and-mk, is-true, of-true}
 use Rattle.model.proofs.Integers.{Is, is-sub, eq-is}
 use Rattle.model.proofs.Order.{comesBefore-intro, comesBefore-elim}
 use Rattle.model.proofs.LayoutLaws.{Cut, layout-cut, cut-is-layout}
-use Rattle.search.specs.Task.{Task, Layout, Covers, adds, takes, Allowed, Least}
-use Rattle.search.specs.Terms.{taskOf}
-use Rattle.search.proofs.TermLaws.{ok-yes}
-use Rattle.terms.specs.Terms.{Loaded}
-use Rattle.terms.proofs.LayoutCost.{covers-cut, layout-cost}
+use Rattle.layout_search.specs.Task.{Task, Layout, Covers, adds, takes, Allowed, Least}
+use Rattle.layout_search.specs.Terms.{termsPerBlock, taskOf}
+use Rattle.layout_search.proofs.TermLaws.{ok-yes}
+use Rattle.block_costs.specs.Terms.{Loaded}
+use Rattle.block_costs.proofs.LayoutCost.{covers-cut, layout-cost}
 
 both : (b c : Bool) → cond b c false ≡ true → T b × T c
 both true c e = (tt, of-true c e)
 both false c e = absurd (subst T (sym e) tt)
 
-module _ (p : PriceCard) (l : Limits) (s : Set) (hs old terms : List ℕ) (fits : List Bool)
-    (loaded : Loaded p hs (blocks s * 5) old terms) (marks : (i : ℕ) → i < blocks s → getD fits i false ≡ separatesNone s i) (some : 1 ≤ blocks s) where
+module _ (L : ℕ) (p : PriceCard) (l : Limits) (s : Set) (hs old terms : List ℕ) (fits : List Bool)
+    (loaded : Loaded L p hs (blocks s * termsPerBlock) old terms) (marks : (i : ℕ) → i < blocks s → getD fits i false ≡ separatesNone s i) (some : 1 ≤ blocks s) where
   abbrev pub task : Task
   task = taskOf terms fits (longestPartition p l) (blocks s)
 
@@ -86,24 +86,24 @@ module _ (p : PriceCard) (l : Limits) (s : Set) (hs old terms : List ℕ) (fits 
       and-mk (a && b && c) d (and-mk (a && b) c (and-mk a b u (r .0)) (le→leb (length es) (mostPartitions p l) (h .1))) (r .1)
 
   -- the cost of an allowed layout
-  cost-is : (es : List ℕ) → Layout task 0 es → Is (costOf 64 p (blocks s) es hs) (adds task 0 es) (takes task 0 es)
-  cost-is es l = layout-cost p hs (blocks s) old terms loaded es (layout-cuts es l)
+  cost-is : (es : List ℕ) → Layout task 0 es → Is (costOf L p (blocks s) es hs) (adds task 0 es) (takes task 0 es)
+  cost-is es l = layout-cost L p hs (blocks s) old terms loaded es (layout-cuts es l)
 
-  pub cost-by-terms : (es : List ℕ) → Layout task 0 es → costOf 64 p (blocks s) es hs ≡ subℕ (adds task 0 es) (takes task 0 es)
+  pub cost-by-terms : (es : List ℕ) → Layout task 0 es → costOf L p (blocks s) es hs ≡ subℕ (adds task 0 es) (takes task 0 es)
   cost-by-terms es l = eq-is _ _ _ _ _ _ (cost-is es l) (is-sub (adds task 0 es) (takes task 0 es)) refl
 
-  pub least-cheapest : (es : List ℕ) → Least task (mostPartitions p l) es → IsCheapest 64 p l s hs es
+  pub least-cheapest : (es : List ℕ) → Least task (mostPartitions p l) es → IsCheapest L p l s hs es
   least-cheapest es h = record {
     allowed = allowed-permitted es (h .allowed);
     first = λ other t.
         let a = permitted-allowed other t in
-        comesBefore-intro (λ (e : List ℕ). costOf 64 p (blocks s) e hs) es other _ _ _ _ (cost-is es (h .allowed .0)) (cost-is other (a .0)) (h .ahead other a);
+        comesBefore-intro (λ (e : List ℕ). costOf L p (blocks s) e hs) es other _ _ _ _ (cost-is es (h .allowed .0)) (cost-is other (a .0)) (h .ahead other a);
   }
 
-  pub cheapest-least : (es : List ℕ) → IsCheapest 64 p l s hs es → Least task (mostPartitions p l) es
+  pub cheapest-least : (es : List ℕ) → IsCheapest L p l s hs es → Least task (mostPartitions p l) es
   cheapest-least es h =
       let o = permitted-allowed es (h .allowed) in
       record {
         allowed = o;
-        ahead = λ other a. comesBefore-elim (λ (e : List ℕ). costOf 64 p (blocks s) e hs) es other _ _ _ _ (cost-is es (o .0)) (cost-is other (a .0)) (h .first other (allowed-permitted other a));
+        ahead = λ other a. comesBefore-elim (λ (e : List ℕ). costOf L p (blocks s) e hs) es other _ _ _ _ (cost-is es (o .0)) (cost-is other (a .0)) (h .first other (allowed-permitted other a));
       }

@@ -12,11 +12,11 @@ use Rattle.model.specs.Blocks.{Set, valuesOk}
 use Rattle.model.specs.Histograms.{countsOk}
 use Rattle.model.specs.Layouts.{separatesNone}
 use Rattle.model.specs.Questions.{setChecks}
-use Rattle.checks.specs.Lent.{setOf}
+use Rattle.model.specs.Lent.{setOf}
 
--- 1 2 3 4 5 8 9, ahead of 11 and 15
-abbrev pub givenChecks : PriceCard → Limits → Set → List ℕ → List Check
-givenChecks p l s hs = ask 1 (pricesOk p && limitsOk l) ∷ setChecks 64 s ++ ask 8 (valuesOk s) ∷ ask 9 (countsOk 64 hs) ∷ []
+-- L is the block limit: 1 2 3 4 5 8 9, ahead of 11 and 15
+abbrev pub givenChecks : ℕ → PriceCard → Limits → Set → List ℕ → List Check
+givenChecks L p l s hs = ask 1 (pricesOk p && limitsOk l) ∷ setChecks L s ++ ask 8 (valuesOk s) ∷ ask 9 (countsOk L hs) ∷ []
 
 -- the flags before block i say where an end may stand (the weights and yields have no part in it)
 pub record Marked (block used : ℕ) (growers : List ℕ) (i : ℕ) (old fits : List Bool) : Type 0 where

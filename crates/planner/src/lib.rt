@@ -3,19 +3,29 @@ ghost use mathlib.Core.Path.{_≡_};
 ghost use mathlib.Core.Bool.{_&&_};
 ghost use Prim.Native.Nat.{_≤_, _<_};
 ghost use lib.ListN.{length};
-ghost use lib.IntN.{pos};
 ghost use Rattle.model.specs.Checks.{firstFailed};
 ghost use Rattle.model.specs.Prices.{priceOk, pricesOk, limitsOk};
 ghost use Rattle.model.specs.Layouts.{mostPartitions, longestPartition};
 ghost use Rattle.model.specs.Questions.{costChecks};
 ghost use Rattle.model.specs.Planner.{costCall, planCall};
-ghost use Rattle.checks.specs.Lent.{Sized, setOf};
-ghost use Rattle.terms.specs.Terms.{PricesPass};
+ghost use Rattle.model.specs.Bounds.{blockLimit};
+ghost use Rattle.model.specs.Lent.{setIn};
+ghost use Rattle.sets.specs.Sized.{Sized};
+ghost use Rattle.block_costs.specs.Terms.{PricesPass};
 ghost use Rattle.planner.specs.Given.{givenChecks, Marked};
+use layout_search::TERMS_PER_BLOCK;
+use model::BLOCK_LIMIT;
 use model::Costed;
 use model::Limits;
+use model::MOST_LIMIT;
+use model::MOST_PRICE;
 use model::Planned;
 use model::PriceCard;
+
+// The terms of all blocks, and a table of the best for each first block and each count of partitions.
+const TERMS: usize = BLOCK_LIMIT * TERMS_PER_BLOCK;
+
+const TABLE: usize = BLOCK_LIMIT * BLOCK_LIMIT;
 
 // Check 1 of one price, of the three, and of the limits.
 fn price_ok(p: u32) -> bool
@@ -24,7 +34,7 @@ fn price_ok(p: u32) -> bool
     if p < 1 {
         return false;
     }
-    p <= 1000
+    p <= MOST_PRICE
 }
 
 fn prices_ok(card: PriceCard) -> bool
@@ -42,10 +52,10 @@ fn prices_ok(card: PriceCard) -> bool
 fn limits_ok(limits: Limits) -> bool
     ensures { λ r. ⌜ r ≡ limitsOk limits ⌝ }
 {
-    if 1000000 < limits.read {
+    if MOST_LIMIT < limits.read {
         return false;
     }
-    limits.insert <= 1000000
+    limits.insert <= MOST_LIMIT
 }
 
 fn given_ok(card: PriceCard, limits: Limits) -> bool
@@ -68,22 +78,22 @@ fn plan_refusal(
     yields: &[u32],
     histograms: &[u32],
 ) -> u32
-    ensures { λ r. ⌜ r ≡ firstFailed (givenChecks card limits (setOf block used (now (growers .entry)) (now (weights .entry)) (now (yields .entry))) (now (histograms .entry))) ⌝ }
+    ensures { λ r. ⌜ r ≡ firstFailed (givenChecks blockLimit card limits (setIn block used growers weights yields)
+        (now (histograms .entry))) ⌝ }
 {
     if !given_ok(card, limits) {
         return 1;
     }
-    let n = checks::set_refusal(block, used, growers, weights, yields);
-    if n != 0 {
-        return n;
-    }
-    if !checks::set_values_ok(used, growers, weights, yields) {
-        return 8;
-    }
-    if !checks::histograms_ok(histograms) {
-        return 9;
-    }
-    0
+    sets::counted_refusal(
+        histograms,
+        block,
+        used,
+        growers,
+        weights,
+        yields,
+        true,
+        true,
+    )
 }
 
 // Checks 1, 2, 3, 4, 5, 6, 8 and 9 of a cost.
@@ -97,22 +107,17 @@ fn cost_refusal(
     ends: &[u32],
     histograms: &[u32],
 ) -> u32
-    ensures { λ r. ⌜ r ≡ firstFailed (costChecks 64 card (setOf block used (now (growers .entry)) (now (weights .entry)) (now (yields .entry))) (now (ends .entry)) (now (histograms .entry))) ⌝ }
+    ensures { λ r. ⌜ r ≡ firstFailed (costChecks blockLimit card (setIn block used growers weights yields)
+        (now (ends .entry)) (now (histograms .entry))) ⌝ }
 {
     if !prices_ok(card) {
         return 1;
     }
-    let n = checks::set_refusal(block, used, growers, weights, yields);
+    let n = sets::layout_refusal(block, used, growers, weights, yields, ends);
     if n != 0 {
         return n;
     }
-    if !checks::layout_ok(block, used, growers, ends) {
-        return 6;
-    }
-    if !checks::set_values_ok(used, growers, weights, yields) {
-        return 8;
-    }
-    if !checks::histograms_ok(histograms) {
+    if !histograms::counts_ok(histograms) {
         return 9;
     }
     0
@@ -143,25 +148,15 @@ fn most_partitions(card: PriceCard, limits: Limits) -> usize
 
 // Where an end may stand, for each of n blocks.
 fn mark(block: u32, used: u32, growers: &[u32], n: usize, fits: &mut [bool])
-    requires { ⌜ Sized block used (length (now growers)) ⌝ }
-    requires { ⌜ (n ≤ 64) × (n ≤ length (now fits)) ⌝ }
+    requires { ⌜ Sized blockLimit block used (length (now growers)) ⌝ }
+    requires { ⌜ (n ≤ blockLimit) × (n ≤ length (now fits)) ⌝ }
     ensures { λ _. ⌜ Marked block used (now (growers .entry)) n (now (fits .entry)) (now (fits .exit)) ⌝ }
 {
     let mut i = 0;
     while i < n {
-        let v = checks::separates_none(block, used, growers, i as u32);
+        let v = sets::separates_none(block, used, growers, i as u32);
         fits[i] = v;
         i += 1;
-    }
-}
-
-fn refused(n: u32) -> Planned
-    ensures { λ r. ⌜ r ≡ record { refusal = n; count = 0; cost = pos 0 } ⌝ }
-{
-    Planned {
-        refusal: n,
-        count: 0,
-        cost: 0,
     }
 }
 
@@ -177,7 +172,9 @@ pub fn plan(
     histograms: &[u32],
     ends: &mut [u32],
 ) -> Planned
-    ensures { λ r. ⌜ record { answer = r; ends = now (ends .exit) } ≡ planCall 64 card limits (setOf block used (now (growers .entry)) (now (weights .entry)) (now (yields .entry))) (now (histograms .entry)) (now (ends .entry)) ⌝ }
+    ensures { λ r. ⌜ record { answer = r; ends = now (ends .exit) }
+        ≡ planCall blockLimit card limits (setIn block used growers weights yields)
+        (now (histograms .entry)) (now (ends .entry)) ⌝ }
 {
     let refusal = plan_refusal(
         card,
@@ -190,17 +187,25 @@ pub fn plan(
         histograms,
     );
     if refusal != 0 {
-        return refused(refusal);
+        return layout_search::refused(refusal);
     }
-    let n = checks::block_count(block, used) as usize;
+    let n = sets::block_count(block, used) as usize;
     let longest = longest_partition(card, limits);
     let most = most_partitions(card, limits);
-    let mut terms = [0u64; 320];
-    let mut fits = [false; 64];
-    let mut rows = [0u64; 4096];
-    terms::load(card, histograms, n, &mut terms[..]);
+    let mut terms = [0u64; TERMS];
+    let mut fits = [false; BLOCK_LIMIT];
+    let mut table = [0u64; TABLE];
+    block_costs::load(card, histograms, n, &mut terms[..]);
     mark(block, used, growers, n, &mut fits[..]);
-    search::cheapest(&terms[..], &fits[..], longest, most, n, &mut rows[..], ends)
+    layout_search::cheapest(
+        &terms[..],
+        &fits[..],
+        longest,
+        most,
+        n,
+        &mut table[..],
+        ends,
+    )
 }
 
 // The cost of a given layout.
@@ -214,7 +219,8 @@ pub fn cost(
     ends: &[u32],
     histograms: &[u32],
 ) -> Costed
-    ensures { λ r. ⌜ r ≡ costCall 64 card (setOf block used (now (growers .entry)) (now (weights .entry)) (now (yields .entry))) (now (ends .entry)) (now (histograms .entry)) ⌝ }
+    ensures { λ r. ⌜ r ≡ costCall blockLimit card (setIn block used growers weights yields)
+        (now (ends .entry)) (now (histograms .entry)) ⌝ }
 {
     let refusal = cost_refusal(
         card,
@@ -229,10 +235,10 @@ pub fn cost(
     if refusal != 0 {
         return Costed { refusal, cost: 0 };
     }
-    let blocks = checks::block_count(block, used) as usize;
-    let mut terms = [0u64; 320];
-    terms::load(card, histograms, blocks, &mut terms[..]);
-    let m = search::layout_number(&terms[..], ends);
-    let cost = search::unbiased(m);
+    let blocks = sets::block_count(block, used) as usize;
+    let mut terms = [0u64; TERMS];
+    block_costs::load(card, histograms, blocks, &mut terms[..]);
+    let m = layout_search::layout_number(&terms[..], ends);
+    let cost = layout_search::unbiased(m);
     Costed { refusal: 0, cost }
 }

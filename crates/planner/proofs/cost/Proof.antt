@@ -1,29 +1,46 @@
 -- `planner::cost` meets its contract. Assumes nothing.
-use mathlib.Core.Path.{sym, _∙_}
+use Prim.Native.Nat.{_≤_}
+use mathlib.Core.Path.{_≡_, sym, _∙_}
 use native.Mathlib.Omega.{arith}
-use Rattle.checks.specs.Lent.{setOf}
-use Rattle.search.proofs.Bias.{held-cost}
-use Rattle.terms.proofs.TermLaws.{loaded-holds}
-use Rattle.planner.proofs.Given.{cost-given}
-use Rattle.planner.proofs.Answers.{cost-refused, layout-covers-blocks, cost-answered}
 use borrow.Author.Needs.{needs}
+use lib.Dec.{T}
+use Rattle.model.specs.Bounds.{blockLimit}
+use Rattle.model.specs.Checks.{firstFailed}
+use Rattle.model.specs.Blocks.{Set}
+use Rattle.model.specs.Layouts.{layoutOk}
+use Rattle.model.specs.Questions.{costChecks}
+use Rattle.model.specs.Lent.{setOf}
+use Rattle.layout_search.proofs.Bias.{held-cost}
+use Rattle.block_costs.proofs.TermLaws.{loaded-holds}
+use Rattle.planner.proofs.Given.{Given, cost-given}
+use Rattle.planner.proofs.Answers.{cost-refused, layout-covers-blocks, cost-answered}
 use Rattle.planner.proofs.cost.Statement.{statement}
 use Rattle.planner.proofs.cost.Tie as tie
+
+abbrev the-set : tie.Start → Set
+the-set c = let a = c .args in setOf (a .block) (a .used) (a .growers .now) (a .weights .now) (a .yields .now)
+
+abbrev at-start : tie.Else1 → tie.Start
+at-start c = c .before .before .before .before .before .before .before
+
+-- past the checks
+passed : (c : tie.Else1) → (let s = at-start c in firstFailed (costChecks blockLimit (s .args .card) (the-set s) (s .args .ends .now) (s .args .histograms .now)) ≡ 0)
+passed c = sym (c .before .cost-refusal .ensures) ∙ c .if1 .left
+
+given : (c : tie.Else1) → (let s = at-start c in Given blockLimit (s .args .card) (the-set s) (s .args .histograms .now) × T (layoutOk (the-set s) (s .args .ends .now)))
+given c = let s = at-start c in cost-given blockLimit (s .args .card) (the-set s) (s .args .histograms .now) (s .args .ends .now) (passed c)
+
+few : (c : tie.After-block-count) → c .block-count .result ≤ blockLimit
+few c = omega (arith, given (c .before) .0 .few, c .block-count .ensures)
 
 cost-refusal-requires : tie.Need-cost-refusal-requires
 cost-refusal-requires c κs = search needs
 
 returns : tie.Need-returns
-returns c = cost-refused _ _ _ _ _ (c .before .cost-refusal .ensures) (c .if1 .taken)
+returns c = cost-refused _ _ _ _ _ _ (c .before .cost-refusal .ensures) (c .if1 .taken)
 
 block-count-requires : tie.Need-block-count-requires
-block-count-requires c κs =
-    let a = c .before .before .before .before .before .before .before .args in
-    let s = setOf (a .block) (a .used) (a .growers .now) (a .weights .now) (a .yields .now) in
-    let z = sym (c .before .cost-refusal .ensures) ∙ c .if1 .left in
-    let g = cost-given (a .card) s (a .histograms .now) (a .ends .now) z in
-    let y = g .0 .size in
-    omega (arith, y .block-least, y .block-most, y .used-fits, y .slots-most)
+block-count-requires c κs = let y = given c .0 .size in omega (arith, y .block-least, y .block-most, y .used-fits, y .slots-most)
 
 cast-blocks : tie.Need-cast-blocks
 cast-blocks c = search needs
@@ -32,44 +49,34 @@ slice-aggregate-load : tie.Need-slice-aggregate-load
 slice-aggregate-load c = search needs
 
 load-requires : tie.Need-load-requires
-load-requires c κs =
-    let a = c .before .before .before .before .before .before .before .before .before .args in
-    let s = setOf (a .block) (a .used) (a .growers .now) (a .weights .now) (a .yields .now) in
-    let z = sym (c .before .before .before .cost-refusal .ensures) ∙ c .before .before .if1 .left in
-    let g = cost-given (a .card) s (a .histograms .now) (a .ends .now) z in
-    (g .0 .counts, (g .0 .prices, omega (arith, g .0 .few, c .before .block-count .ensures)))
+load-requires c κs = let g = given (c .before .before) .0 in (g .counts, (g .prices, omega (arith, few (c .before))))
 
 slice-aggregate-layout-number : tie.Need-slice-aggregate-layout-number
 slice-aggregate-layout-number c = search needs
 
 layout-number-requires : tie.Need-layout-number-requires
 layout-number-requires c κs =
-    let cost-refusal = c .before .before .before .before .before .before .cost-refusal in
-    let if1 = c .before .before .before .before .before .if1 in
-    let block-count = c .before .before .before .before .block-count in
-    let load = c .before .before .load in
-    let a = c .before .before .before .before .before .before .before .before .before .before .before .before .args in
-    let s = setOf (a .block) (a .used) (a .growers .now) (a .weights .now) (a .yields .now) in
-    let z = sym (cost-refusal .ensures) ∙ if1 .left in
-    let g = cost-given (a .card) s (a .histograms .now) (a .ends .now) z in
-    record { n = _; holds = loaded-holds _ _ _ _ _ (load .ensures) (g .0 .prices) (g .0 .counts) (omega (arith, g .0 .few, block-count .ensures)) (omega (arith, g .0 .few, block-count .ensures)); covers = rw (block-count .ensures) (layout-covers-blocks (a .card) s (a .ends .now) (a .histograms .now) (g .1)) }
+    let n = c .before .before .before .before in
+    let g = given (n .before) in
+    let s = at-start (n .before) in
+    let l = c .before .before .load in
+    record {
+      n = _;
+      holds = loaded-holds _ _ _ _ _ _ (l .ensures) (g .0 .prices) (g .0 .counts) (omega (arith, few n)) (omega (arith, few n));
+      covers = rw (n .block-count .ensures) (layout-covers-blocks (the-set s) (s .args .ends .now) (g .1));
+    }
 
 unbiased-requires : tie.Need-unbiased-requires
 unbiased-requires c κs = search needs
 
 returns-2 : tie.Need-returns-2
 returns-2 c =
-    let cost-refusal = c .before .before .before .before .before .before .before .before .cost-refusal in
-    let if1 = c .before .before .before .before .before .before .before .if1 in
-    let block-count = c .before .before .before .before .before .before .block-count in
-    let load = c .before .before .before .before .load in
-    let a = c .before .before .before .before .before .before .before .before .before .before .before .before .before .before .args in
-    let s = setOf (a .block) (a .used) (a .growers .now) (a .weights .now) (a .yields .now) in
-    let z = sym (cost-refusal .ensures) ∙ if1 .left in
-    let g = cost-given (a .card) s (a .histograms .now) (a .ends .now) z in
-    cost-answered (a .card) s (a .ends .now) (a .histograms .now) _ _ _ _ _ z (g .1) (block-count .ensures) (load .ensures)
-    (c .before .layout-number .ensures)
-    (held-cost _ (c .before .layout-number .ensures .small) _ (c .unbiased .ensures))
+    let n = c .before .before .before .before .before .before in
+    let s = at-start (n .before) in
+    let l = c .before .before .before .before .load in
+    let m = c .before .layout-number in
+    cost-answered blockLimit (s .args .card) (the-set s) (s .args .ends .now) (s .args .histograms .now) _ _ _ _ _ (passed (n .before)) (given (n .before) .1)
+    (n .block-count .ensures) (l .ensures) (m .ensures) (held-cost _ (m .ensures .small) _ (c .unbiased .ensures))
 
 pub cost-spec : {M : Type 1} → statement M
 cost-spec =

@@ -1,15 +1,35 @@
 -- `planner::plan` meets its contract. Assumes nothing.
 use Prim.Native.Nat.{_*_, _≤_}
-use mathlib.Core.Path.{sym, _∙_}
+use mathlib.Core.Path.{_≡_, sym, _∙_}
 use native.Mathlib.Omega.{arith}
 use native.Mathlib.Nat.{mul-le-mul}
-use Rattle.checks.specs.Lent.{setOf}
-use Rattle.terms.proofs.TermLaws.{loaded-holds}
-use Rattle.planner.proofs.Given.{plan-given}
-use Rattle.planner.proofs.Answers.{plan-not-given, answered-plan}
 use borrow.Author.Needs.{needs}
+use Rattle.model.specs.Bounds.{blockLimit}
+use Rattle.model.specs.Checks.{firstFailed}
+use Rattle.model.specs.Blocks.{Set}
+use Rattle.model.specs.Lent.{setOf}
+use Rattle.block_costs.proofs.TermLaws.{loaded-holds}
+use Rattle.planner.specs.Given.{givenChecks}
+use Rattle.planner.proofs.Given.{Given, plan-given}
+use Rattle.planner.proofs.Answers.{plan-not-given, answered-plan}
 use Rattle.planner.proofs.plan.Statement.{statement}
 use Rattle.planner.proofs.plan.Tie as tie
+
+abbrev the-set : tie.Start → Set
+the-set c = let a = c .args in setOf (a .block) (a .used) (a .growers .now) (a .weights .now) (a .yields .now)
+
+abbrev at-start : tie.Else1 → tie.Start
+at-start c = c .before .before .before .before .before .before .before
+
+-- past the checks of what was given
+passed : (c : tie.Else1) → (let s = at-start c in firstFailed (givenChecks blockLimit (s .args .card) (s .args .limits) (the-set s) (s .args .histograms .now)) ≡ 0)
+passed c = sym (c .before .plan-refusal .ensures) ∙ c .if1 .left
+
+given : (c : tie.Else1) → (let s = at-start c in Given blockLimit (s .args .card) (the-set s) (s .args .histograms .now))
+given c = let s = at-start c in plan-given blockLimit (s .args .card) (the-set s) (s .args .histograms .now) (s .args .limits) (passed c)
+
+few : (c : tie.After-block-count) → (1 ≤ c .block-count .result) × (c .block-count .result ≤ blockLimit)
+few c = let g = given (c .before) in omega (arith, g .some, g .few, c .block-count .ensures)
 
 plan-refusal-requires : tie.Need-plan-refusal-requires
 plan-refusal-requires c κs = search needs
@@ -18,63 +38,34 @@ refused-requires : tie.Need-refused-requires
 refused-requires c κs = search needs
 
 returns : tie.Need-returns
-returns c = plan-not-given _ _ _ _ _ _ _ (c .before .before .plan-refusal .ensures) (c .before .if1 .taken) (c .refused .ensures)
+returns c = plan-not-given _ _ _ _ _ _ _ _ (c .before .before .plan-refusal .ensures) (c .before .if1 .taken) (c .refused .ensures)
 
 block-count-requires : tie.Need-block-count-requires
-block-count-requires c κs =
-    let a = c .before .before .before .before .before .before .before .args in
-    let s = setOf (a .block) (a .used) (a .growers .now) (a .weights .now) (a .yields .now) in
-    let z = sym (c .before .plan-refusal .ensures) ∙ c .if1 .left in
-    let g = plan-given (a .card) s (a .histograms .now) (a .limits) z in
-    let y = g .size in
-    omega (arith, y .block-least, y .block-most, y .used-fits, y .slots-most)
+block-count-requires c κs = let y = given c .size in omega (arith, y .block-least, y .block-most, y .used-fits, y .slots-most)
 
 cast-n : tie.Need-cast-n
 cast-n c = search needs
 
 longest-partition-requires : tie.Need-longest-partition-requires
-longest-partition-requires c κs =
-    let a = c .before .before .before .before .before .before .before .before .args in
-    let s = setOf (a .block) (a .used) (a .growers .now) (a .weights .now) (a .yields .now) in
-    let z = sym (c .before .before .plan-refusal .ensures) ∙ c .before .if1 .left in
-    let g = plan-given (a .card) s (a .histograms .now) (a .limits) z in
-    g .prices
+longest-partition-requires c κs = given (c .before) .prices
 
 most-partitions-requires : tie.Need-most-partitions-requires
-most-partitions-requires c κs =
-    let a = c .before .before .before .before .before .before .before .before .before .args in
-    let s = setOf (a .block) (a .used) (a .growers .now) (a .weights .now) (a .yields .now) in
-    let z = sym (c .before .before .before .plan-refusal .ensures) ∙ c .before .before .if1 .left in
-    let g = plan-given (a .card) s (a .histograms .now) (a .limits) z in
-    g .prices
+most-partitions-requires c κs = given (c .before .before) .prices
 
 slice-aggregate-load : tie.Need-slice-aggregate-load
 slice-aggregate-load c = search needs
 
 load-requires : tie.Need-load-requires
 load-requires c κs =
-    let plan-refusal = c .before .before .before .before .before .plan-refusal in
-    let if1 = c .before .before .before .before .if1 in
-    let block-count = c .before .before .before .block-count in
-    let a = c .before .before .before .before .before .before .before .before .before .before .before .args in
-    let s = setOf (a .block) (a .used) (a .growers .now) (a .weights .now) (a .yields .now) in
-    let z = sym (plan-refusal .ensures) ∙ if1 .left in
-    let g = plan-given (a .card) s (a .histograms .now) (a .limits) z in
-    (g .counts, (g .prices, omega (arith, g .few, block-count .ensures)))
+    let n = c .before .before .before in
+    let g = given (n .before) in
+    (g .counts, (g .prices, omega (arith, few n)))
 
 slice-aggregate-mark : tie.Need-slice-aggregate-mark
 slice-aggregate-mark c = search needs
 
 mark-requires : tie.Need-mark-requires
-mark-requires c κs =
-    let plan-refusal = c .before .before .before .before .before .before .before .before .plan-refusal in
-    let if1 = c .before .before .before .before .before .before .before .if1 in
-    let block-count = c .before .before .before .before .before .before .block-count in
-    let a = c .before .before .before .before .before .before .before .before .before .before .before .before .before .before .args in
-    let s = setOf (a .block) (a .used) (a .growers .now) (a .weights .now) (a .yields .now) in
-    let z = sym (plan-refusal .ensures) ∙ if1 .left in
-    let g = plan-given (a .card) s (a .histograms .now) (a .limits) z in
-    (g .size, omega (arith, g .few, block-count .ensures))
+mark-requires c κs = let n = c .before .before .before .before .before .before in (given (n .before) .size, omega (arith, few n))
 
 slice-aggregate-cheapest : tie.Need-slice-aggregate-cheapest
 slice-aggregate-cheapest c = search needs
@@ -87,40 +78,27 @@ slice-aggregate-cheapest-3 c = search needs
 
 cheapest-requires : tie.Need-cheapest-requires
 cheapest-requires c κs =
-    let plan-refusal = c .before .before .before .before .before .before .before .before .before .before .before .before .before .before .plan-refusal in
-    let if1 = c .before .before .before .before .before .before .before .before .before .before .before .before .before .if1 in
-    let block-count = c .before .before .before .before .before .before .before .before .before .before .before .before .block-count in
-    let load = c .before .before .before .before .before .before .before .before .load in
-    let a = c .before .before .before .before .before .before .before .before .before .before .before .before .before .before .before .before .before .before .before .before .args in
-    let s = setOf (a .block) (a .used) (a .growers .now) (a .weights .now) (a .yields .now) in
-    let z = sym (plan-refusal .ensures) ∙ if1 .left in
-    let g = plan-given (a .card) s (a .histograms .now) (a .limits) z in
-    let n = block-count .result in
-    let x : n * n ≤ 64 * 64 = mul-le-mul {n₂ = 64} {m₂ = 64} (omega (arith, g .few, block-count .ensures)) (omega (arith, g .few, block-count .ensures)) in (
-      loaded-holds _ _ _ _ _ (load .ensures) (g .prices) (g .counts) (omega (arith, g .few, block-count .ensures))
-          (omega (arith, g .few, block-count .ensures)),
-      omega (arith, g .some, g .few, block-count .ensures, x),
-    )
+    let n = c .before .before .before .before .before .before .before .before .before .before .before .before in
+    let g = given (n .before) in
+    let l = c .before .before .before .before .before .before .before .before .load in
+    let f = few n in
+    let room : n .block-count .result * n .block-count .result ≤ blockLimit * blockLimit = mul-le-mul {n₂ = blockLimit} {m₂ = blockLimit} (f .1) (f .1) in
+    (loaded-holds _ _ _ _ _ _ (l .ensures) (g .prices) (g .counts) (omega (arith, f)) (omega (arith, f)), omega (arith, f, room))
 
 same-length : tie.Need-same-length
 same-length c = search needs
 
 returns-2 : tie.Need-returns-2
 returns-2 c =
-    let plan-refusal = c .before .before .before .before .before .before .before .before .before .before .before .before .before .before .before .before .before .before .plan-refusal in
-    let if1 = c .before .before .before .before .before .before .before .before .before .before .before .before .before .before .before .before .before .if1 in
-    let block-count = c .before .before .before .before .before .before .before .before .before .before .before .before .before .before .before .before .block-count in
-    let longest-partition = c .before .before .before .before .before .before .before .before .before .before .before .before .before .before .before .longest-partition in
-    let most-partitions = c .before .before .before .before .before .before .before .before .before .before .before .before .before .before .most-partitions in
-    let load = c .before .before .before .before .before .before .before .before .before .before .before .before .load in
-    let mark = c .before .before .before .before .before .before .before .before .before .mark in
-    let cheapest = c .before .before .before .cheapest in
-    let a = c .before .before .before .before .before .before .before .before .before .before .before .before .before .before .before .before .before .before .before .before .before .before .before .before .args in
-    let s = setOf (a .block) (a .used) (a .growers .now) (a .weights .now) (a .yields .now) in
-    let z = sym (plan-refusal .ensures) ∙ if1 .left in
-    let g = plan-given (a .card) s (a .histograms .now) (a .limits) z in
-    answered-plan (a .card) (a .limits) s (a .histograms .now) (a .ends .now) z _ _ _ _ _ _ _ _ _ (block-count .ensures)
-    (longest-partition .ensures) (most-partitions .ensures) (g .some) (load .ensures) (mark .ensures) (cheapest .ensures)
+    let mark = c .before .before .before .before .before .before .before .before .before in
+    let load = mark .before .before .before in
+    let most = load .before .before in
+    let longest = most .before in
+    let n = longest .before in
+    let s = at-start (n .before) in
+    answered-plan blockLimit (s .args .card) (s .args .limits) (the-set s) (s .args .histograms .now) (s .args .ends .now) (passed (n .before)) _ _ _ _ _ _ _ _ _
+    (n .block-count .ensures) (longest .longest-partition .ensures) (most .most-partitions .ensures) (given (n .before) .some) (load .load .ensures) (mark .mark .ensures)
+    (c .before .before .before .cheapest .ensures)
 
 pub plan-spec : {M : Type 1} → statement M
 plan-spec =

@@ -1,0 +1,134 @@
+-- The terms, place by place, and that they are small. Assumes nothing.
+use mathlib.Core.Path.{_≡_, refl, sym, ap₂, _∙_}
+use mathlib.Core.List.{List}
+use Prim.Native.Nat.{ℕ, _+_, _*_, _/_, _%_, _^_, _≤_, _<_}
+use native.Mathlib.Omega.{arith}
+use native.Mathlib.Nat.{mul-le-mul}
+use native.Mathlib.Decide.{ℕ-discrete}
+use lib.ListN.{length, getD, set, length-set}
+use lib.Seq.{getD-set-same, getD-set-other}
+use Rattle.model.specs.declared.PriceCard.{PriceCard}
+use Rattle.model.specs.Histograms.{Histogram, pq, rs, re, sc, de, ins, udf, utf, udb, utb, at, count, slot}
+use Rattle.model.specs.Bounds.{mostCount, mostPrice}
+use Rattle.layout_search.specs.Task.{searchLimit}
+use Rattle.layout_search.specs.Terms.{termsPerBlock, fixed, perBlockBefore, perBlockAfter, perPartitionAdded, perPartitionSaved, Holds}
+use Rattle.block_costs.specs.Terms.{fixedOf, perBlockBeforeOf, perBlockAfterOf, perPartitionAddedOf, perPartitionSavedOf, pick, termAt, PricesPass, Counted, Loaded}
+
+module _ (L : ℕ) (c : PriceCard) (hs : List ℕ) (i y : ℕ) (at-block : y / termsPerBlock ≡ i) where
+  abbrev nth : ℕ → ℕ → ℕ
+  nth k j = pick j (fixedOf L c hs k) (perBlockBeforeOf L c hs k) (perBlockAfterOf L c hs k) (perPartitionAddedOf L c hs k) (perPartitionSavedOf L c hs k)
+
+  term-as : (j : ℕ) → y % termsPerBlock ≡ j → termAt L c hs y ≡ nth i j
+  unfolding termAt
+  term-as j v = ap₂ nth at-block v
+
+  pub term-fixed : y % termsPerBlock ≡ 0 → fixedOf L c hs i ≡ termAt L c hs y
+  term-fixed v = sym (term-as 0 v)
+
+  pub term-before : y % termsPerBlock ≡ 1 → perBlockBeforeOf L c hs i ≡ termAt L c hs y
+  term-before v = sym (term-as 1 v)
+
+  pub term-after : y % termsPerBlock ≡ 2 → perBlockAfterOf L c hs i ≡ termAt L c hs y
+  term-after v = sym (term-as 2 v)
+
+  pub term-added : y % termsPerBlock ≡ 3 → perPartitionAddedOf L c hs i ≡ termAt L c hs y
+  term-added v = sym (term-as 3 v)
+
+  pub term-saved : y % termsPerBlock ≡ 4 → perPartitionSavedOf L c hs i ≡ termAt L c hs y
+  term-saved v = sym (term-as 4 v)
+
+-- a price times a sum of counts is small
+pub small : (p c l m : ℕ) → p ≤ l * mostPrice → c ≤ m * mostCount → p * c ≤ l * mostPrice * (m * mostCount)
+small p c l m h k = mul-le-mul {n₂ = l * mostPrice} {m₂ = m * mostCount} h k
+
+module _ (L : ℕ) (c : PriceCard) (hs : List ℕ) (i : ℕ) (q : PricesPass c) (k : Counted L hs) where
+  abbrev N : Histogram → ℕ
+  N h = count L hs (at h i)
+
+  most : (h : Histogram) → N h ≤ mostCount
+  most h = k .each (slot L (at h i))
+
+  both-most : c .rr + c .«rw» ≤ 2 * mostPrice
+  both-most = omega (arith, q .rr-most, q .rw-most)
+
+  two : (p l : ℕ) (g h : Histogram) → p ≤ l * mostPrice → p * (N g + N h) ≤ l * mostPrice * (2 * mostCount)
+  two p l g h k = small p _ l 2 k (omega (arith, most g, most h))
+
+  five : (g h : Histogram) → c .sr * (N g + N h + N de + N udf + N udb) ≤ 1 * mostPrice * (5 * mostCount)
+  five g h = small (c .sr) _ 1 5 (omega (arith, q .sr-most)) (omega (arith, most g, most h, most de, most udf, most udb))
+
+  fixed-small : fixedOf L c hs i ≤ 2 ^ 34
+  unfolding fixedOf
+  fixed-small =
+      let r = two (c .rr) 1 pq rs (omega (arith, q .rr-most)) in
+      let s = two (c .sr) 1 re sc (omega (arith, q .sr-most)) in
+      omega (arith, r, s, two (c .rr + c .«rw») 2 ins de both-most, two (c .rr + c .«rw») 2 udf udb both-most)
+
+  before-small : perBlockBeforeOf L c hs i ≤ 2 ^ 33
+  unfolding perBlockBeforeOf
+  before-small = omega (arith, five pq rs)
+
+  after-small : perBlockAfterOf L c hs i ≤ 2 ^ 33
+  unfolding perBlockAfterOf
+  after-small = omega (arith, five pq re)
+
+  four : (c .rr + c .«rw») * (N ins + N de + N udf + N utb) ≤ 2 * mostPrice * (4 * mostCount)
+  four = small _ _ 2 4 both-most (omega (arith, most ins, most de, most udf, most utb))
+
+  added-small : perPartitionAddedOf L c hs i ≤ 2 ^ 33
+  unfolding perPartitionAddedOf
+  added-small = omega (arith, four)
+
+  saved-small : perPartitionSavedOf L c hs i ≤ 2 ^ 33
+  unfolding perPartitionSavedOf
+  saved-small = omega (arith, two (c .rr + c .«rw») 2 utf udb both-most)
+
+-- loading, place by place
+pub loaded-start : (L : ℕ) (c : PriceCard) (hs old : List ℕ) → Loaded L c hs 0 old old
+loaded-start L c hs old = record { long = refl; here = λ x g. let z : ⊥ = omega arith in absurd z }
+
+pub loaded-more : (L : ℕ) (c : PriceCard) (hs : List ℕ) (y v : ℕ) (old terms : List ℕ) → Loaded L c hs y old terms → y < length old → v ≡ termAt L c hs y → Loaded L c hs (y + 1) old (set terms y v)
+loaded-more L c hs y v old terms l g e = record { long = length-set terms y v ∙ l .long; here = λ x k. go x k (ℕ-discrete x y) }
+  where
+    go : (x : ℕ) → x < y + 1 → Dec (x ≡ y) → getD (set terms y v) x 0 ≡ termAt L c hs x
+    go x k (yes d) = rw d (getD-set-same terms y v 0 (omega (arith, l .long)) ∙ e)
+    go x k (no d) = getD-set-other terms y x v 0 d ∙ l .here x (omega arith)
+
+-- what was loaded
+module _ (L : ℕ) (c : PriceCard) (hs : List ℕ) (n : ℕ) (old terms : List ℕ) (l : Loaded L c hs (n * termsPerBlock) old terms) (i : ℕ) (g : i < n) where
+  at-place : (j : ℕ) → j < termsPerBlock → getD terms (i * termsPerBlock + j) 0 ≡ termAt L c hs (i * termsPerBlock + j)
+  at-place j h = l .here (i * termsPerBlock + j) (omega arith)
+
+  pub is-fixed : fixed terms i ≡ fixedOf L c hs i
+  is-fixed = at-place 0 (omega arith) ∙ sym (term-fixed L c hs i (i * termsPerBlock + 0) (omega arith) (omega arith))
+
+  pub is-before : perBlockBefore terms i ≡ perBlockBeforeOf L c hs i
+  is-before = at-place 1 (omega arith) ∙ sym (term-before L c hs i (i * termsPerBlock + 1) (omega arith) (omega arith))
+
+  pub is-after : perBlockAfter terms i ≡ perBlockAfterOf L c hs i
+  is-after = at-place 2 (omega arith) ∙ sym (term-after L c hs i (i * termsPerBlock + 2) (omega arith) (omega arith))
+
+  pub is-added : perPartitionAdded terms i ≡ perPartitionAddedOf L c hs i
+  is-added = at-place 3 (omega arith) ∙ sym (term-added L c hs i (i * termsPerBlock + 3) (omega arith) (omega arith))
+
+  pub is-saved : perPartitionSaved terms i ≡ perPartitionSavedOf L c hs i
+  is-saved = at-place 4 (omega arith) ∙ sym (term-saved L c hs i (i * termsPerBlock + 4) (omega arith) (omega arith))
+
+pub loaded-holds : (L : ℕ) (c : PriceCard) (hs : List ℕ) (n : ℕ) (old terms : List ℕ) → Loaded L c hs (n * termsPerBlock) old terms → PricesPass c → Counted L hs → n ≤ searchLimit
+    → n * termsPerBlock ≤ length old → Holds terms n
+loaded-holds L c hs n old terms l q k few room = record {
+  few = few;
+  long = omega (arith, l .long);
+  fixed-most = λ i g. omega (arith, is-fixed L c hs n old terms l i g, fixed-small L c hs i q k);
+  before-most = λ i g. omega (arith, is-before L c hs n old terms l i g, before-small L c hs i q k);
+  after-most = λ i g. omega (arith, is-after L c hs n old terms l i g, after-small L c hs i q k);
+  added-most = λ i g. omega (arith, is-added L c hs n old terms l i g, added-small L c hs i q k);
+  saved-most = λ i g. omega (arith, is-saved L c hs n old terms l i g, saved-small L c hs i q k);
+}
+
+-- products of a price and a sum of counts
+pub product-is : (r p q x y : ℕ) → r ≡ p * x → p ≡ q → x ≡ y → r ≡ q * y
+product-is r p q x y e f g = e ∙ ap₂ (λ (u v : ℕ). u * v) f g
+
+pub four-products : (a b c d w x y z : ℕ) → a ≡ w → b ≡ x → c ≡ y → d ≡ z → a + b + c + 2 * d ≡ w + x + y + 2 * z
+four-products a b c d w x y z e f g h = omega arith

@@ -1,0 +1,31 @@
+-- `block_costs::count` meets its contract. Assumes nothing.
+use Prim.Native.Nat.{ℕ}
+use mathlib.Core.Path.{ap, _∙_}
+use native.Mathlib.Omega.{arith}
+use lib.ListN.{getD}
+use borrow.Author.Needs.{needs}
+use Rattle.block_costs.proofs.count.Statement.{statement}
+use Rattle.block_costs.proofs.count.Tie as tie
+
+slot-requires : tie.Need-slot-requires
+slot-requires c κs = search needs
+
+mul-wide : tie.Need-mul-wide
+mul-wide c = search needs
+
+shared-slice-read-wide : tie.Need-shared-slice-read-wide
+shared-slice-read-wide c = search needs
+
+wide-requires : tie.Need-wide-requires
+wide-requires c κs = search needs
+
+returns : tie.Need-returns
+returns c =
+    let s = c .before .before .before .before in
+    let h = s .args .h .now in
+    let x = c .before .before .slot in
+    (c .wide .ensures ∙ ap (λ (k : ℕ). getD h k 0) (x .ensures), omega (arith, c .wide .ensures, s .pre .0 .each (x .result)))
+
+pub count-spec : {M : Type 1} → statement M
+count-spec =
+    tie.close (tie.spec slot-requires mul-wide shared-slice-read-wide wide-requires returns)

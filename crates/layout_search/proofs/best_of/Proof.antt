@@ -1,0 +1,62 @@
+-- `layout_search::best_of` meets its contract. Assumes nothing.
+use native.Mathlib.Omega.{arith}
+use Prim.Native.Nat.{_-_, _≤_}
+use Rattle.layout_search.specs.Table.{valOf}
+use Rattle.layout_search.specs.Terms.{taskOf}
+use Rattle.layout_search.proofs.FirstLaws.{Tried, tried-start, tried-keep, tried-take, tried-done}
+use Rattle.layout_search.proofs.best_of.Statement.{statement}
+use Rattle.layout_search.proofs.best_of.Tie as tie
+
+abbrev Inv-loop : tie.InvT-loop
+Inv-loop terms fits longest n table k a m₀ first₀ e₀ m first e = (a ≤ e) × (e ≤ n) × Tried (taskOf terms fits longest n) (valOf n table) a k e m first
+
+abbrev μ-loop : tie.MeasureT-loop
+μ-loop terms fits longest n table k a m₀ first₀ e₀ m first e = n - e
+
+loop-holds : tie.Need-loop-holds Inv-loop μ-loop
+loop-holds c = (omega arith, omega arith, tried-start _ _ _ _ _)
+
+candidate-requires : tie.Need-candidate-requires Inv-loop μ-loop
+candidate-requires c κs =
+    let given = c .before .before .before .before .before .pre in
+    (given .0, (omega arith, given .1 .1))
+
+add-e : tie.Need-add-e Inv-loop μ-loop
+add-e c = omega arith
+
+loop-less : tie.Need-loop-less Inv-loop μ-loop
+loop-less c = omega arith
+
+loop-again : tie.Need-loop-again Inv-loop μ-loop
+loop-again c =
+    let loop = c .before .before .before .loop in
+    (omega arith, omega arith, tried-take _ _ _ _ _ _ _ _ (loop .inv .2) (c .before .candidate .ensures) (omega arith))
+
+loop-less-2 : tie.Need-loop-less-2 Inv-loop μ-loop
+loop-less-2 c = omega arith
+
+loop-again-2 : tie.Need-loop-again-2 Inv-loop μ-loop
+loop-again-2 c =
+    let loop = c .before .before .before .loop in
+    (omega arith, omega arith, tried-keep _ _ _ _ _ _ _ _ (loop .inv .2) (c .before .candidate .ensures) (omega arith))
+
+returns : tie.Need-returns Inv-loop μ-loop
+returns c =
+    let a = c .before .before .before .before .before .args in
+    tried-done (taskOf (a .terms .now) (a .fits .now) (a .longest) (a .n)) (valOf (a .n) (a .table .now)) _ _ _ _ _
+    (c .before .loop .inv .2) (omega arith)
+
+pub best-of-spec : {M : Type 1} → statement M
+best-of-spec =
+    tie.close
+    (tie.spec
+    Inv-loop
+    μ-loop
+    loop-holds
+    candidate-requires
+    add-e
+    loop-less
+    loop-again
+    loop-less-2
+    loop-again-2
+    returns)

@@ -1,0 +1,109 @@
+-- `layout_search::block_adds` meets its contract. Assumes nothing.
+use Prim.Native.Nat.{ℕ, _+_, _^_, _≤_}
+use mathlib.Core.Path.{ap, ap₂}
+use native.Mathlib.Omega.{arith}
+use borrow.Author.Needs.{needs}
+use Rattle.layout_search.specs.Terms.{fixed, perBlockBefore, perBlockAfter, perPartitionAdded, addsOf}
+use Rattle.layout_search.proofs.block_adds.Statement.{statement}
+use Rattle.layout_search.proofs.block_adds.Tie as tie
+
+-- the four terms are small
+small : (s : tie.Start)
+    → (let t = s .args .terms .now in let i = s .args .i in
+    (fixed t i ≤ 2 ^ 34) × (perBlockBefore t i ≤ 2 ^ 33) × (perBlockAfter t i ≤ 2 ^ 33) × (perPartitionAdded t i ≤ 2 ^ 33))
+small s =
+    let i = s .args .i in
+    let h = s .pre .0 in
+    (h .fixed-most i (omega arith), h .before-most i (omega arith), h .after-most i (omega arith), h .added-most i (omega arith))
+
+mul-t : tie.Need-mul-t
+mul-t c = search needs
+
+add-times : tie.Need-add-times
+add-times c = search needs
+
+mul-times : tie.Need-mul-times
+mul-times c = search needs
+
+shared-slice-read-times : tie.Need-shared-slice-read-times
+shared-slice-read-times c = search needs
+
+times-requires : tie.Need-times-requires
+times-requires c κs = omega (arith, small (c .before .before))
+
+add-times-2 : tie.Need-add-times-2
+add-times-2 c = search needs
+
+mul-times-2 : tie.Need-mul-times-2
+mul-times-2 c = search needs
+
+shared-slice-read-times-2 : tie.Need-shared-slice-read-times-2
+shared-slice-read-times-2 c = search needs
+
+times-requires-2 : tie.Need-times-requires-2
+times-requires-2 c κs = omega (arith, small (c .before .before .before .before))
+
+add-times-3 : tie.Need-add-times-3
+add-times-3 c = search needs
+
+mul-times-3 : tie.Need-mul-times-3
+mul-times-3 c = search needs
+
+shared-slice-read-times-3 : tie.Need-shared-slice-read-times-3
+shared-slice-read-times-3 c = search needs
+
+times-requires-3 : tie.Need-times-requires-3
+times-requires-3 c κs = omega (arith, small (c .before .before .before .before .before .before))
+
+add-result : tie.Need-add-result
+add-result c = search needs
+
+mul-result : tie.Need-mul-result
+mul-result c = search needs
+
+shared-slice-read-result : tie.Need-shared-slice-read-result
+shared-slice-read-result c = search needs
+
+add-result-2 : tie.Need-add-result-2
+add-result-2 c = omega (arith, small (c .before .before .before .before .before .before .before .before))
+
+add-result-3 : tie.Need-add-result-3
+add-result-3 c = omega (arith, small (c .before .before .before .before .before .before .before .before))
+
+add-result-4 : tie.Need-add-result-4
+add-result-4 c = omega (arith, small (c .before .before .before .before .before .before .before .before))
+
+returns : tie.Need-returns
+unfolding addsOf
+returns c =
+    let s = c .before .before .before .before .before .before .before .before in
+    let before = c .before .before .before .before .before .times .ensures .0 in
+    let after = c .before .before .before .times2 .ensures .0 in
+    let added = c .before .times3 .ensures .0 in
+    let plus : ℕ → ℕ → ℕ = λ x y. x + y in
+    (ap₂ plus (ap₂ plus (ap (plus (fixed (s .args .terms .now) (s .args .i))) before) after) added, omega (arith, small s))
+
+pub block-adds-spec : {M : Type 1} → statement M
+block-adds-spec =
+    tie.close
+    (tie.spec
+    mul-t
+    add-times
+    mul-times
+    shared-slice-read-times
+    times-requires
+    add-times-2
+    mul-times-2
+    shared-slice-read-times-2
+    times-requires-2
+    add-times-3
+    mul-times-3
+    shared-slice-read-times-3
+    times-requires-3
+    add-result
+    mul-result
+    shared-slice-read-result
+    add-result-2
+    add-result-3
+    add-result-4
+    returns)

@@ -1,0 +1,56 @@
+-- `layout_search::entry` meets its contract. Assumes nothing.
+use native.Mathlib.Omega.{arith}
+use borrow.Author.Needs.{needs}
+use Rattle.layout_search.proofs.RowLaws.{val-whole, val-past, val-none, val-row, place-below}
+use Rattle.layout_search.proofs.entry.Statement.{statement}
+use Rattle.layout_search.proofs.entry.Tie as tie
+
+returns : tie.Need-returns
+returns c =
+    let a = c .before .before .before .args in
+    val-whole (a .n) (a .table .now) (a .k) (a .a) (c .before .if1 .taken) (c .if2 .taken)
+
+returns-2 : tie.Need-returns-2
+returns-2 c =
+    let a = c .before .before .before .args in
+    val-past (a .n) (a .table .now) (a .k) (a .a) (c .before .if1 .taken) (omega arith)
+
+returns-3 : tie.Need-returns-3
+returns-3 c =
+    let a = c .before .before .before .args in
+    val-none (a .n) (a .table .now) (a .k) (a .a) (c .before .if1 .left) (c .if3 .taken)
+
+sub-index : tie.Need-sub-index
+sub-index c = search needs
+
+index-requires : tie.Need-index-requires
+index-requires c κs = search needs
+
+mul-result : tie.Need-mul-result
+mul-result c =
+    let s = c .before .before .before .before in
+    omega (arith, place-below (s .args .n) (s .args .k) (s .args .k) (s .args .a) (omega arith) (omega arith) (omega arith))
+
+shared-slice-read-result : tie.Need-shared-slice-read-result
+shared-slice-read-result c =
+    let s = c .before .before .before .before .before in
+    omega (arith, place-below (s .args .n) (s .args .k) (s .args .k) (s .args .a) (omega arith) (omega arith) (omega arith))
+
+returns-4 : tie.Need-returns-4
+returns-4 c =
+    let a = c .before .before .before .before .before .args in
+    let if1 = c .before .before .before .if1 in
+    rw (c .before .index .ensures) (val-row (a .n) (a .table .now) (a .k) (a .a) (if1 .left) (omega arith))
+
+pub entry-spec : {M : Type 1} → statement M
+entry-spec =
+    tie.close
+    (tie.spec
+    returns
+    returns-2
+    returns-3
+    sub-index
+    index-requires
+    mul-result
+    shared-slice-read-result
+    returns-4)
