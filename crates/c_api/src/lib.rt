@@ -78,11 +78,7 @@ pub extern "C" fn meltusk_insert(
     ensures { λ r. ⌜ record { answer = r; column = columnOut directory growers weights yields }
         ≡ columnCall blockLimit (columnIn directory growers weights yields) (insert (delivery grower weight «oil_yield»)) ⌝ }
 {
-    let d = Delivery {
-        grower,
-        weight,
-        oil_yield,
-    };
+    let d = Delivery::new(grower, weight, oil_yield);
     column::insert(directory, growers, weights, yields, d)
 }
 
@@ -100,11 +96,7 @@ pub extern "C" fn meltusk_delete(
     ensures { λ r. ⌜ record { answer = r; column = columnOut directory growers weights yields }
         ≡ columnCall blockLimit (columnIn directory growers weights yields) (delete (delivery grower weight «oil_yield»)) ⌝ }
 {
-    let d = Delivery {
-        grower,
-        weight,
-        oil_yield,
-    };
+    let d = Delivery::new(grower, weight, oil_yield);
     column::delete(directory, growers, weights, yields, d)
 }
 
@@ -123,11 +115,7 @@ pub extern "C" fn meltusk_move(
     ensures { λ r. ⌜ record { answer = r; column = columnOut directory growers weights yields }
         ≡ columnCall blockLimit (columnIn directory growers weights yields) (move (delivery grower weight «oil_yield») «new_grower») ⌝ }
 {
-    let d = Delivery {
-        grower,
-        weight,
-        oil_yield,
-    };
+    let d = Delivery::new(grower, weight, oil_yield);
     column::move_delivery(directory, growers, weights, yields, d, new_grower)
 }
 
@@ -192,13 +180,10 @@ pub extern "C" fn meltusk_record_insert(
     oil_yield: u32,
 ) -> u32
     ensures { λ r. ⌜ record { refusal = r; histograms = now (histograms .exit) }
-        ≡ recordCall blockLimit (setIn block used growers weights yields) (now (histograms .entry)) (insert (delivery grower weight «oil_yield»)) ⌝ }
+        ≡ recordCall blockLimit (setIn block used growers weights yields) (now (histograms .entry))
+            (insert (delivery grower weight «oil_yield»)) ⌝ }
 {
-    let d = Delivery {
-        grower,
-        weight,
-        oil_yield,
-    };
+    let d = Delivery::new(grower, weight, oil_yield);
     recorder::record_insert(histograms, block, used, growers, weights, yields, d)
 }
 
@@ -216,13 +201,10 @@ pub extern "C" fn meltusk_record_delete(
     oil_yield: u32,
 ) -> u32
     ensures { λ r. ⌜ record { refusal = r; histograms = now (histograms .exit) }
-        ≡ recordCall blockLimit (setIn block used growers weights yields) (now (histograms .entry)) (delete (delivery grower weight «oil_yield»)) ⌝ }
+        ≡ recordCall blockLimit (setIn block used growers weights yields) (now (histograms .entry))
+            (delete (delivery grower weight «oil_yield»)) ⌝ }
 {
-    let d = Delivery {
-        grower,
-        weight,
-        oil_yield,
-    };
+    let d = Delivery::new(grower, weight, oil_yield);
     recorder::record_delete(histograms, block, used, growers, weights, yields, d)
 }
 
@@ -241,13 +223,10 @@ pub extern "C" fn meltusk_record_move(
     new_grower: u32,
 ) -> u32
     ensures { λ r. ⌜ record { refusal = r; histograms = now (histograms .exit) }
-        ≡ recordCall blockLimit (setIn block used growers weights yields) (now (histograms .entry)) (move (delivery grower weight «oil_yield») «new_grower») ⌝ }
+        ≡ recordCall blockLimit (setIn block used growers weights yields) (now (histograms .entry))
+            (move (delivery grower weight «oil_yield») «new_grower») ⌝ }
 {
-    let d = Delivery {
-        grower,
-        weight,
-        oil_yield,
-    };
+    let d = Delivery::new(grower, weight, oil_yield);
     recorder::record_move(
         histograms,
         block,
@@ -307,7 +286,8 @@ pub extern "C" fn meltusk_plan(
     ends: &mut [u32],
 ) -> Planned
     ensures { λ r. ⌜ record { answer = r; ends = now (ends .exit) }
-        ≡ planCall blockLimit (prices rr sr «rw») (limits read insert) (setIn block used growers weights yields) (now (histograms .entry)) (now (ends .entry)) ⌝ }
+        ≡ planCall blockLimit (prices rr sr «rw») (limits read insert) (setIn block used growers weights yields)
+            (now (histograms .entry)) (now (ends .entry)) ⌝ }
 {
     let card = PriceCard { rr, sr, rw };
     let limits = Limits { read, insert };

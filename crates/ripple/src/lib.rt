@@ -1,6 +1,6 @@
 // The moves of a call on the three slices (01: the ripple). A record moves whole, and every store is inside the part that is lent.
 ghost use mathlib.Core.Path.{_≡_};
-ghost use Prim.Native.Nat.{_+_, _≤_, _<_};
+ghost use Prim.Native.Nat.{_+_, _-_, _≤_, _<_};
 ghost use lib.ListN.{length, getD, set};
 ghost use Rattle.model.specs.Lent.{Even};
 ghost use Rattle.model.specs.Lists.{sumOf};
@@ -32,6 +32,14 @@ fn store(g: &mut [u32], w: &mut [u32], y: &mut [u32], p: usize, d: Delivery)
     y[p] = d.oil_yield;
 }
 
+// Where a partition of n records that ends at p begins: an empty one at p itself.
+fn first_slot(p: usize, n: u32) -> usize
+    requires { ⌜ n ≤ p ⌝ }
+    ensures { λ r. ⌜ r ≡ p - n ⌝ }
+{
+    p - n as usize
+}
+
 // From the target's start on: d goes past the end of the first partition of lens; end is where the last one ends.
 fn insert_ripple(g: &mut [u32], w: &mut [u32], y: &mut [u32], lens: &[u32], end: usize, d: Delivery)
     requires { ⌜ (1 ≤ length (now lens)) × (sumOf (now lens) ≡ «end») × («end» < length (now g)) × Even (now g) (now w) (now y) ⌝ }
@@ -43,7 +51,7 @@ fn insert_ripple(g: &mut [u32], w: &mut [u32], y: &mut [u32], lens: &[u32], end:
     let mut j = lens.len();
     while 1 < j {
         j -= 1;
-        let q = p - lens[j] as usize;
+        let q = first_slot(p, lens[j]);
         carry(g, w, y, q, p);
         p = q;
     }

@@ -1,4 +1,4 @@
--- `ripple::insert_ripple` meets its contract. Assumes nothing.
+-- `ripple::insert_ripple` meets its contract: from the last partition down, each gives its first record to the slot behind it. Assumes nothing.
 use Prim.Native.Nat.{_≤_, _<_, _-_}
 use mathlib.Core.Path.{_∙_}
 use native.Mathlib.Omega.{arith}
@@ -20,20 +20,17 @@ loop-holds c = (spot-last _ _ (omega arith) (omega arith), omega arith, lifted-s
 sub-j : tie.Need-sub-j Inv-loop μ-loop
 sub-j c = omega arith
 
-mul-q : tie.Need-mul-q Inv-loop μ-loop
-mul-q c = search needs
+mul-first-slot : tie.Need-mul-first-slot Inv-loop μ-loop
+mul-first-slot c = search needs
 
-shared-slice-read-q : tie.Need-shared-slice-read-q Inv-loop μ-loop
-shared-slice-read-q c = omega arith
+shared-slice-read-first-slot : tie.Need-shared-slice-read-first-slot Inv-loop μ-loop
+shared-slice-read-first-slot c = omega arith
 
-cast-q : tie.Need-cast-q Inv-loop μ-loop
-cast-q c = omega (arith, c .shared-slice-known2 .given (c .before .before .loop .j - 1))
-
-sub-q : tie.Need-sub-q Inv-loop μ-loop
-sub-q c = omega (arith, spot-sum _ _ _ (c .before .before .loop .inv .0))
+first-slot-requires : tie.Need-first-slot-requires Inv-loop μ-loop
+first-slot-requires c κs = omega (arith, spot-sum _ _ _ (c .before .before .loop .inv .0))
 
 carry-requires : tie.Need-carry-requires Inv-loop μ-loop
-carry-requires c κs = omega arith
+carry-requires c κs = omega (arith, c .before .before .before .first-slot .ensures)
 
 loop-less : tie.Need-loop-less Inv-loop μ-loop
 loop-less c = omega arith
@@ -42,9 +39,10 @@ loop-again : tie.Need-loop-again Inv-loop μ-loop
 loop-again c =
     let b = c .before .before .before .before .before .before in
     let e = b .carry .ensures in
-    let l = b .before .before .before .before .before .before .loop in
+    let f = b .before .before .before .before .first-slot .ensures in
+    let l = b .before .before .before .before .before .before .before .loop in
     let t : 1 < l .j = omega arith in
-    rw (e .0, e .1, e .2) (
+    rw (e .0, e .1, e .2, f) (
       spot-down _ _ _ t (l .inv .0),
       omega arith,
       lifted-turn 0 _ _ _ _ _ t (omega arith) (l .inv .0) (l .inv .2),
@@ -84,10 +82,9 @@ insert-ripple-spec =
     μ-loop
     loop-holds
     sub-j
-    mul-q
-    shared-slice-read-q
-    cast-q
-    sub-q
+    mul-first-slot
+    shared-slice-read-first-slot
+    first-slot-requires
     carry-requires
     loop-less
     loop-again
