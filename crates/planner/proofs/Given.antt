@@ -11,7 +11,7 @@ use lib.ListN.{length, getD, set, length-set}
 use lib.Seq.{getD-set-same, getD-set-other}
 use Rattle.model.specs.declared.PriceCard.{PriceCard}
 use Rattle.model.specs.declared.Limits.{Limits}
-use Rattle.model.specs.Bounds.{mostCount, mostPrice, mostLimit}
+use Rattle.model.specs.Bounds.{mostCount, mostPrice}
 use Rattle.model.specs.Lists.{every}
 use Rattle.model.specs.Checks.{Check, ask, firstFailed}
 use Rattle.model.specs.Prices.{priceOk, pricesOk, limitsOk}
@@ -30,12 +30,6 @@ use Rattle.block_costs.specs.Terms.{PricesPass, Counted}
 use Rattle.planner.specs.Given.{givenChecks, Marked}
 
 -- check 1, test by test
-pub price-none : (p : ℕ) → p < 1 → false ≡ priceOk p
-price-none p h = rw (lt-leb 1 p h)
-
-pub price-some : (p : ℕ) → 1 ≤ p → leb p mostPrice ≡ priceOk p
-price-some p h = rw (le-leb 1 p h)
-
 module _ (p : PriceCard) where
   pub rr-fails : priceOk (p .rr) ≡ false → false ≡ pricesOk p
   unfolding pricesOk
@@ -65,15 +59,6 @@ module _ (p : PriceCard) where
         sr-most = leb→le (p .sr) mostPrice (and-snd (leb 1 (p .sr)) (leb (p .sr) mostPrice) y);
         rw-most = leb→le (p .«rw») mostPrice (and-snd (leb 1 (p .«rw»)) (leb (p .«rw») mostPrice) z);
       }
-
-module _ (l : Limits) where
-  pub read-over : mostLimit < l .read → false ≡ limitsOk l
-  unfolding limitsOk
-  read-over h = rw (lt-leb (l .read) mostLimit h)
-
-  pub insert-left : l .read ≤ mostLimit → leb (l .insert) mostLimit ≡ limitsOk l
-  unfolding limitsOk
-  insert-left h = rw (le-leb (l .read) mostLimit h)
 
 -- check 9
 count-small : (hs : List ℕ) → T (every (λ (n : ℕ). leb n mostCount) hs) → (x : ℕ) → getD hs x 0 ≤ mostCount

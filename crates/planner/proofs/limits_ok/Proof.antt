@@ -1,14 +1,17 @@
 -- `planner::limits_ok` meets its contract. Assumes nothing.
-use native.Mathlib.Omega.{arith}
-use Rattle.planner.proofs.Given.{read-over, insert-left}
+use borrow.Author.Tests.{lt-leb, le-leb}
+use Rattle.model.specs.Prices.{limitsOk}
+use Rattle.checks.proofs.Answers.{and-no, and-yes}
 use Rattle.planner.proofs.limits_ok.Statement.{statement}
 use Rattle.planner.proofs.limits_ok.Tie as tie
 
 returns : tie.Need-returns
-returns c = read-over (c .before .before .args .limits) (c .if1 .taken)
+unfolding limitsOk
+returns c = and-no _ _ (lt-leb _ _ (c .if1 .taken))
 
 returns-2 : tie.Need-returns-2
-returns-2 c = insert-left (c .before .before .before .args .limits) (omega arith)
+unfolding limitsOk
+returns-2 c = and-yes _ _ (le-leb _ _ (c .before .if1 .left))
 
 pub limits-ok-spec : {M : Type 1} → statement M
 limits-ok-spec = tie.close (tie.spec returns returns-2)
