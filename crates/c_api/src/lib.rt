@@ -181,7 +181,7 @@ pub extern "C" fn meltusk_record_insert(
 ) -> u32
     ensures { λ r. ⌜ record { refusal = r; histograms = now (histograms .exit) }
         ≡ recordCall blockLimit (setIn block used growers weights yields) (now (histograms .entry))
-            (insert (delivery grower weight «oil_yield»)) ⌝ }
+        (insert (delivery grower weight «oil_yield»)) ⌝ }
 {
     let d = Delivery::new(grower, weight, oil_yield);
     recorder::record_insert(histograms, block, used, growers, weights, yields, d)
@@ -202,7 +202,7 @@ pub extern "C" fn meltusk_record_delete(
 ) -> u32
     ensures { λ r. ⌜ record { refusal = r; histograms = now (histograms .exit) }
         ≡ recordCall blockLimit (setIn block used growers weights yields) (now (histograms .entry))
-            (delete (delivery grower weight «oil_yield»)) ⌝ }
+        (delete (delivery grower weight «oil_yield»)) ⌝ }
 {
     let d = Delivery::new(grower, weight, oil_yield);
     recorder::record_delete(histograms, block, used, growers, weights, yields, d)
@@ -224,7 +224,7 @@ pub extern "C" fn meltusk_record_move(
 ) -> u32
     ensures { λ r. ⌜ record { refusal = r; histograms = now (histograms .exit) }
         ≡ recordCall blockLimit (setIn block used growers weights yields) (now (histograms .entry))
-            (move (delivery grower weight «oil_yield») «new_grower») ⌝ }
+        (move (delivery grower weight «oil_yield») «new_grower») ⌝ }
 {
     let d = Delivery::new(grower, weight, oil_yield);
     recorder::record_move(
@@ -287,7 +287,7 @@ pub extern "C" fn meltusk_plan(
 ) -> Planned
     ensures { λ r. ⌜ record { answer = r; ends = now (ends .exit) }
         ≡ planCall blockLimit (prices rr sr «rw») (limits read insert) (setIn block used growers weights yields)
-            (now (histograms .entry)) (now (ends .entry)) ⌝ }
+        (now (histograms .entry)) (now (ends .entry)) ⌝ }
 {
     let card = PriceCard { rr, sr, rw };
     let limits = Limits { read, insert };

@@ -22,10 +22,10 @@ the-span c =
       rises = p .0;
       below = p .1;
       long = p .2;
-      first = c .before .before .before .slot .ensures;
-      last = c .before .before .slot2 .ensures;
-      from = c .before .slot3 .ensures;
-      stop = c .slot4 .ensures;
+      first = omega (arith, c .before .before .before .slot .ensures);
+      last = omega (arith, c .before .before .slot2 .ensures);
+      from = omega (arith, c .before .slot3 .ensures);
+      stop = omega (arith, c .slot4 .ensures);
     }
 
 -- the part lent to the test is the counts between

@@ -68,7 +68,7 @@ same-length-2 : tie.Need-same-length-2
 same-length-2 c = search needs
 
 returns-2 : tie.Need-returns-2
-returns-2 c = c .before .before .raise-one .ensures ∙ answers (c .before .before .before .before .before .before .before) _ (range-one blockLimit _ _ _ _ _ (c .before .before .before .before .before .before .block-of .ensures _ _) (c .before .before .before .before .before .block-of2 .ensures _ _) (c .before .before .before .before .if2 .taken))
+returns-2 c = c .before .before .raise-one .ensures ∙ answers (c .before .before .before .before .before .before .before) _ (range-one blockLimit _ _ _ _ _ (c .before .before .before .before .before .before .block-of .ensures _ _) (c .before .before .before .before .before .block-of2 .ensures _ _) (omega (arith, c .before .before .before .before .if2 .taken)))
 
 raise-span-requires : tie.Need-raise-span-requires
 unfolding ordered
@@ -85,7 +85,7 @@ same-length-3 : tie.Need-same-length-3
 same-length-3 c = search needs
 
 returns-3 : tie.Need-returns-3
-returns-3 c = c .before .before .raise-span .ensures ∙ answers (c .before .before .before .before .before .before .before) _ (range-span blockLimit _ _ _ _ _ (c .before .before .before .before .before .before .block-of .ensures _ _) (c .before .before .before .before .before .block-of2 .ensures _ _) (c .before .before .before .before .if2 .left))
+returns-3 c = c .before .before .raise-span .ensures ∙ answers (c .before .before .before .before .before .before .before) _ (range-span blockLimit _ _ _ _ _ (c .before .before .before .before .before .before .block-of .ensures _ _) (c .before .before .before .before .before .block-of2 .ensures _ _) (λ e. omega (arith, e, c .before .before .before .before .if2 .left)))
 
 pub record-range-spec : {M : Type 1} → statement M
 record-range-spec = tie.close (tie.spec counted-refusal-requires same-length returns block-of-requires block-of-requires-2 raise-one-requires same-length-2 returns-2 raise-span-requires same-length-3 returns-3)
