@@ -97,7 +97,9 @@ module _ (L : ℕ) where
     fill-end d a i h w =
         let nl : length (lengthsFrom s 0 ends) ≡ length ends = length-lengths s 0 ends in
         let nf : length (map (lastGrower s) ends) ≡ length ends = length-map ends (lastGrower s) in
-        w .so-far ∙ ap₂ (partsPut L (s .block) (length ends)) (take-all i (lengthsFrom s 0 ends) (omega arith)) (take-all i (map (lastGrower s) ends) (omega arith)) ∙ put-all L (s .block) (length ends) (lengthsFrom s 0 ends) (map (lastGrower s) ends) nl
+        w .so-far
+        ∙ ap₂ (partsPut L (s .block) (length ends)) (take-all i (lengthsFrom s 0 ends) (omega arith)) (take-all i (map (lastGrower s) ends) (omega arith))
+        ∙ put-all L (s .block) (length ends) (lengthsFrom s 0 ends) (map (lastGrower s) ends) nl
 
   -- The answer.
 
@@ -120,6 +122,7 @@ module _ (L : ℕ) where
     unfolding applyCall
     apply-refused n h e = rw (sym e, ne-eqb n 0 h)
 
-    pub apply-accepted : (n : ℕ) (d : List ℕ) → n ≡ 0 → n ≡ firstFailed (applyChecks L s ends) → d ≡ directoryNumbers L (directoryFor s ends) → _≡_ {A = Applied} (record { refusal = 0; directory = d }) (applyCall L s ends)
+    pub apply-accepted : (n : ℕ) (d : List ℕ) → n ≡ 0 → n ≡ firstFailed (applyChecks L s ends) → d ≡ directoryNumbers L (directoryFor s ends)
+        → _≡_ {A = Applied} (record { refusal = 0; directory = d }) (applyCall L s ends)
     unfolding applyCall
     apply-accepted n d z e f = rw (sym e, z, f)

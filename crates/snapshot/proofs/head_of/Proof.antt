@@ -5,6 +5,7 @@ use mathlib.Core.List.{List, [], _∷_}
 use native.Mathlib.Omega.{arith}
 use borrow.Author.Needs.{needs}
 use borrow.Author.Tests.{not-true, not-false}
+use Rattle.model.specs.Bounds.{blockLimit}
 use Rattle.fields.specs.Reading.{readOf}
 use Rattle.lines.proofs.Reading.{Took, took-start, took-next, took-stop, took-end}
 use Rattle.snapshot.proofs.Judging.{head-fails, head-range, head-done}
@@ -47,7 +48,9 @@ no-head-requires : tie.Need-no-head-requires
 no-head-requires c κs = search needs
 
 returns : tie.Need-returns
-returns c = head-fails _ _ (took-stop (took-start _ 0 3) (omega arith) (ap readOf (sym (c .before .enum-told .given .1)) ∙ c .before .before .before .number-at .ensures)) (c .no-head .ensures)
+returns c =
+    head-fails blockLimit _ _
+    (took-stop (took-start _ 0 3) (omega arith) (ap readOf (sym (c .before .enum-told .given .1)) ∙ c .before .before .before .number-at .ensures)) (c .no-head .ensures)
 
 number-at-requires-2 : tie.Need-number-at-requires-2
 number-at-requires-2 c κs = search needs
@@ -63,7 +66,7 @@ no-head-requires-2 c κs = search needs
 
 returns-2 : tie.Need-returns-2
 returns-2 c =
-    head-fails _ _
+    head-fails blockLimit _ _
     (took-stop (one (c .before .before .before .before .before)) (omega arith) (ap readOf (sym (c .before .enum-told2 .given .1)) ∙ c .before .before .before .number-at2 .ensures))
     (c .no-head2 .ensures)
 
@@ -81,7 +84,7 @@ no-head-requires-3 c κs = search needs
 
 returns-3 : tie.Need-returns-3
 returns-3 c =
-    head-fails _ _
+    head-fails blockLimit _ _
     (took-stop (two (c .before .before .before .before .before)) (omega arith) (ap readOf (sym (c .before .enum-told3 .given .1)) ∙ c .before .before .before .number-at3 .ensures))
     (c .no-head3 .ensures)
 
@@ -92,7 +95,9 @@ no-head-requires-4 : tie.Need-no-head-requires-4
 no-head-requires-4 c κs = search needs
 
 returns-4 : tie.Need-returns-4
-returns-4 c = head-fails _ _ (sym (not-true _ (c .before .if1 .taken)) ∙ c .before .before .ends .ensures ∙ took-end (three (c .before .before .before .before)) (omega arith)) (c .no-head4 .ensures)
+returns-4 c =
+    head-fails blockLimit _ _
+    (sym (not-true _ (c .before .if1 .taken)) ∙ c .before .before .ends .ensures ∙ took-end (three (c .before .before .before .before)) (omega arith)) (c .no-head4 .ensures)
 
 header-ok-requires : tie.Need-header-ok-requires
 header-ok-requires c κs = search needs
@@ -102,14 +107,14 @@ no-head-requires-5 c κs = search needs
 
 returns-5 : tie.Need-returns-5
 returns-5 c =
-    head-range _ _ _ _ _
+    head-range blockLimit _ _ _ _ _
     (sym (took-end (three (c .before .before .before .before .before .before)) (omega arith)) ∙ sym (c .before .before .before .before .ends .ensures)
     ∙ not-false _ (c .before .before .before .if1 .left))
     (three (c .before .before .before .before .before .before) .values) (sym (c .before .before .header-ok .ensures) ∙ not-true _ (c .before .if2 .taken)) (c .no-head5 .ensures)
 
 returns-6 : tie.Need-returns-6
 returns-6 c =
-    head-done _ _ _ _ _
+    head-done blockLimit _ _ _ _ _
     (sym (took-end (three (c .before .before .before .before .before)) (omega arith)) ∙ sym (c .before .before .before .ends .ensures) ∙ not-false _ (c .before .before .if1 .left))
     (three (c .before .before .before .before .before) .values) (sym (c .before .header-ok .ensures) ∙ not-false _ (c .if2 .left)) refl
 
