@@ -195,13 +195,13 @@ module _ (L : ℕ) (c : Column) (out : List ℕ) (x : Checked) (e : x ≡ checke
       }
 
   -- the parts lent, and the text after each group of lines
-  module _ (w : CanWrite) (b k : ℕ) (ls fs t₁ t₂ t₃ : List ℕ) where
-    pub write-done : b ≡ directoryOf L (c .directory) .block → k ≡ count L c → ls ≡ lengthsOf L c → fs ≡ fencesOf L c
+  module _ (w : CanWrite) (b k bytes : ℕ) (ls fs t₁ t₂ t₃ : List ℕ) where
+    pub write-done : b ≡ directoryOf L (c .directory) .block → k ≡ count L c → bytes ≡ 34 + 23 * k + 34 * x .used → ls ≡ lengthsOf L c → fs ≡ fencesOf L c
         → t₁ ≡ placed 0 (line (b ∷ x .used ∷ k ∷ [])) out
         → t₂ ≡ placed 34 (lines (partitionRows ls fs)) t₁
         → t₃ ≡ placed (34 + 23 * k) (lines (rowsOf (take (x .used) (c .growers)) (take (x .used) (c .weights)) (take (x .used) (c .yields)))) t₂
-        → _≡_ {A = WriteResult} (record { answer = record { refusal = 0; bytes = 34 + 23 * k + 34 * x .used }; text = t₃ }) (writeCall L c out)
-    write-done eb ek el ef e₁ e₂ e₃ =
+        → _≡_ {A = WriteResult} (record { answer = record { refusal = 0; bytes = bytes }; text = t₃ }) (writeCall L c out)
+    write-done eb ek en el ef e₁ e₂ e₃ =
         let l = w .lent in
         let h : List ℕ = headLine L c in
         let p : List ℕ = partLines L c in
@@ -217,5 +217,5 @@ module _ (L : ℕ) (c : Column) (out : List ℕ) (x : Checked) (e : x ≡ checke
         ∙ placed-joined 0 (34 + 23 * k) (h ++ p) r out (omega (arith, length-append h p)) (omega (arith, length-append h p, w .room)) in
         let s : t₃ ≡ snapshotText L c ++ drop (length (snapshotText L c)) out
         = f₃ ∙ ap (λ (u : List ℕ). placed 0 u out) (sym (text-is L c l)) ∙ placed-first (snapshotText L c) out in
-        let z : 34 + 23 * k + 34 * x .used ≡ length (snapshotText L c) = omega (arith, text-size L c l, w .used-is) in
+        let z : bytes ≡ length (snapshotText L c) = omega (arith, text-size L c l, w .used-is) in
         ap₂ (λ (u : ℕ) (v : List ℕ). record { answer = record { refusal = 0; bytes = u }; text = v }) z s ∙ sym (write-is L c out (w .passed))

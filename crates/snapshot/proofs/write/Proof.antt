@@ -135,7 +135,7 @@ returns-2 c =
     let f = listed p in
     let b = parted f in
     let e = checked f in
-    write-done blockLimit (col e) (from e .args .text .now) _ (e .before .check-write .ensures) (can e) _ _ _ _ _ _ _ (b .block .ensures) (counted b .count .ensures)
+    write-done blockLimit (col e) (from e .args .text .now) _ (e .before .check-write .ensures) (can e) _ _ _ _ _ _ _ _ (b .block .ensures) (counted b .count .ensures) (omega arith)
     (f .before .lengths .ensures) (f .fences .ensures) (f .before .before .before .before .before .put-three .ensures) (p .before .before .put-parts .ensures) (c .before .before .put-rows .ensures)
 
 pub write-spec : {M : Type 1} → statement M
