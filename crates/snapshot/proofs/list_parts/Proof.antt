@@ -1,12 +1,11 @@
 -- `snapshot::list_parts` meets its contract. The loop's invariant: the numbers so far are those of the lines passed. Assumes nothing.
 use Prim.Native.Nat.{ℕ, _-_}
-use mathlib.Core.Path.{refl, sym, ap, _∙_}
+use mathlib.Core.Path.{refl, sym, _∙_}
 use mathlib.Core.List.{List, [], _∷_}
 use native.Mathlib.Omega.{arith}
 use borrow.Author.Needs.{needs}
 use borrow.Author.Tests.{not-true, not-false}
 use Rattle.model.specs.Bounds.{blockLimit}
-use Rattle.fields.specs.Reading.{readOf}
 use Rattle.lines.proofs.Reading.{Took, took-start, took-next, took-stop, took-end}
 use Rattle.snapshot.proofs.Judging.{Listing, list-start, list-stop, list-next, list-end}
 use Rattle.snapshot.proofs.list_parts.Statement.{statement}
@@ -27,13 +26,13 @@ abbrev text : tie.After-f Inv-loop μ-loop → List ℕ
 text c = from c .before .before .before .args .text .now
 
 one : (c : tie.After-f Inv-loop μ-loop) → Took (text c) (from c .loop .at) 2 1 (c .f .given .0 .1 .0) (c .f .given .0 .0 ∷ [])
-one c = took-next (took-start _ _ 2) (omega arith) _ (ap readOf (sym (c .f .given .1)) ∙ c .before .before .number-at .ensures)
+one c = took-next (took-start _ _ 2) (omega arith) (c .before .before .number-at .ensures) (c .f .given .1)
 
 abbrev first : tie.After-g Inv-loop μ-loop → tie.After-f Inv-loop μ-loop
 first c = c .before .before .before .before
 
 two : (c : tie.After-g Inv-loop μ-loop) → Took (text (first c)) (from (first c) .loop .at) 2 2 (c .g .given .0 .1 .0) (first c .f .given .0 .0 ∷ c .g .given .0 .0 ∷ [])
-two c = took-next (one (first c)) (omega arith) _ (ap readOf (sym (c .g .given .1)) ∙ c .before .before .number-at2 .ensures)
+two c = took-next (one (first c)) (omega arith) (c .before .before .number-at2 .ensures) (c .g .given .1)
 
 blank-requires : tie.Need-blank-requires Inv-loop μ-loop
 blank-requires c κs = c .before .pre
@@ -56,7 +55,7 @@ not-listed-requires c κs = search needs
 returns : tie.Need-returns Inv-loop μ-loop
 returns c =
     list-stop (c .before .before .before .before .before .loop .inv) (c .before .before .before .before .loop-test .taken) _
-    (took-stop (took-start _ _ 2) (omega arith) (ap readOf (sym (c .before .enum-told .given .1)) ∙ c .before .before .before .number-at .ensures)) (c .not-listed .ensures)
+    (took-stop (took-start _ _ 2) (omega arith) (c .before .before .before .number-at .ensures) (c .before .enum-told .given .1)) (c .not-listed .ensures)
 
 number-at-requires-2 : tie.Need-number-at-requires-2 Inv-loop μ-loop
 number-at-requires-2 c κs = search needs
@@ -74,7 +73,7 @@ returns-2 : tie.Need-returns-2 Inv-loop μ-loop
 returns-2 c =
     list-stop (c .before .before .before .before .before .before .before .before .before .loop .inv)
     (c .before .before .before .before .before .before .before .before .loop-test .taken) _
-    (took-stop (one (c .before .before .before .before .before)) (omega arith) (ap readOf (sym (c .before .enum-told2 .given .1)) ∙ c .before .before .before .number-at2 .ensures))
+    (took-stop (one (c .before .before .before .before .before)) (omega arith) (c .before .before .before .number-at2 .ensures) (c .before .enum-told2 .given .1))
     (c .not-listed2 .ensures)
 
 ends-requires : tie.Need-ends-requires Inv-loop μ-loop
