@@ -72,7 +72,7 @@ module _ (L : ℕ) (c : Column) where
     part-length : (s : List ℕ) → length s ≡ length (c .growers) → length (take used s) ≡ used
     part-length s e = length-take-le used s (omega (arith, l .shape .room))
 
-    pub parts-even : Even growers weights yields
+    parts-even : Even growers weights yields
     parts-even =
         let g = sym (part-length (c .growers) refl) in
         record { weights = part-length (c .weights) (l .even .weights) ∙ g; yields = part-length (c .yields) (l .even .yields) ∙ g }

@@ -2,17 +2,16 @@
 use mathlib.Core.Path.{_≡_, refl, sym, ap₂, _∙_}
 use mathlib.Core.Bool.{true}
 use mathlib.Core.List.{List}
-use Prim.Native.Nat.{ℕ, _+_, _*_, _≤_}
+use Prim.Native.Nat.{ℕ, _≤_}
 use native.Mathlib.Omega.{arith}
 use borrow.Author.Needs.{needs}
 use borrow.Author.Tests.{not-true, not-false}
 use lib.ListN.{length}
 use lib.Seq.{length-take-le}
 use Rattle.model.specs.Bounds.{blockLimit, mostSlots}
-use Rattle.model.specs.Lists.{sumOf, every}
+use Rattle.model.specs.Lists.{every}
 use Rattle.model.specs.Deliveries.{inRange}
-use Rattle.model.specs.Directory.{partitionCount}
-use Rattle.model.specs.Column.{Column, lengthsOf, soundGrowers, allRecords, sound}
+use Rattle.model.specs.Column.{Column, soundGrowers, allRecords, sound}
 use Rattle.model.specs.Lent.{columnOf}
 use Rattle.model.specs.Questions.{lentChecks}
 use Rattle.directory.proofs.Shapes.{Carried, shape-refusal, carried}
