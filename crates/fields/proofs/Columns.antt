@@ -245,7 +245,7 @@ module _ (text : List ℕ) (at : ℕ) where
   pub none-there : length text < at + 11 → none ≡ readAt text at
   none-there h = at-none (short (omega (arith, length-take 11 (drop at text), length-drop at text)))
 
-and-never : (t : Bool) → t && false ≡ false
+pub and-never : (t : Bool) → t && false ≡ false
 and-never true = refl
 and-never false = refl
 

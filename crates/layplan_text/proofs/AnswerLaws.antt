@@ -15,11 +15,13 @@ use mir.Val.{SFits, toZ, ofZ}
 use Rattle.model.specs.declared.PriceCard.{PriceCard}
 use Rattle.model.specs.declared.Limits.{Limits}
 use Rattle.model.specs.declared.Planned.{Planned}
+use Rattle.model.specs.Bounds.{blockLimit, mostDeliveries, mostCalls}
+use Rattle.model.specs.Histograms.{zeros}
 use Rattle.model.specs.Recorder.{Recorded}
 use Rattle.model.specs.Planner.{PlanResult, planCall}
 use Rattle.model.specs.Program.{recordUntilRefused, refusalText, planText, weekText, layplan}
 use Rattle.model.proofs.Tests.{of-true}
-use Rattle.checks.specs.Lent.{setOf}
+use Rattle.model.specs.Lent.{setOf}
 use Rattle.fields.specs.Reading.{valueAt}
 use Rattle.fields.proofs.Signs.{held}
 use Rattle.lines.specs.Lines.{textRefusal, columnAt, columnOk}
@@ -39,22 +41,23 @@ pub record Prices (t : List ℕ) (p : PriceCard) (l : Limits) (f m : ℕ) : Type
   pub block : f ≡ valueAt 57 t
   pub used : m ≡ valueAt 68 t
 
-module _ {t : List ℕ} (gs ws ys hs out : List ℕ) {p : PriceCard} {l : Limits} {f m : ℕ} (is : Prices t p l f m) (ans : Planned) (es : List ℕ)
-    (q : _≡_ {A = PlanResult} (record { answer = ans; ends = es }) (planCall 64 p l (setOf f m gs ws ys) hs out)) where
-  in-week : _≡_ {A = PlanResult} (record { answer = ans; ends = es }) (planIn t gs ws ys hs out)
+-- L is the block limit
+module _ (L : ℕ) {t : List ℕ} (gs ws ys hs out : List ℕ) {p : PriceCard} {l : Limits} {f m : ℕ} (is : Prices t p l f m) (ans : Planned) (es : List ℕ)
+    (q : _≡_ {A = PlanResult} (record { answer = ans; ends = es }) (planCall L p l (setOf f m gs ws ys) hs out)) where
+  in-week : _≡_ {A = PlanResult} (record { answer = ans; ends = es }) (planIn L t gs ws ys hs out)
   in-week = rw (is .card, is .limit, is .block, is .used) at q
 
-  pub plan-refuses : (r : Output) → ans .refusal ≢ 0 → r ≡ outputOf (refusalText (ans .refusal)) → r ≡ outputOf (planText (planIn t gs ws ys hs out))
+  pub plan-refuses : (r : Output) → ans .refusal ≢ 0 → r ≡ outputOf (refusalText (ans .refusal)) → r ≡ outputOf (planText (planIn L t gs ws ys hs out))
   plan-refuses r h g = g ∙ ap outputOf (text-refused ans es h ∙ ap planText in-week)
 
-  pub plan-fits : ans .refusal ≡ 0 → Fitting p l (setOf f m gs ws ys) hs out ans es
-  plan-fits h = fitting p l (setOf f m gs ws ys) hs out ans es q h
+  pub plan-fits : ans .refusal ≡ 0 → Fitting L p l (setOf f m gs ws ys) hs out ans es
+  plan-fits h = fitting L p l (setOf f m gs ws ys) hs out ans es q h
 
-  pub plan-few : ans .refusal ≡ 0 → length (take (ans .count) es) ≤ 64
+  pub plan-few : ans .refusal ≡ 0 → length (take (ans .count) es) ≤ L
   plan-few h = let w = plan-fits h in omega (arith, length-take-le (ans .count) es (w .count-in), w .count-few)
 
   pub plan-prints : (r : Output) → ans .refusal ≡ 0 → SFits w64 (ans .cost) → r ≡ outputOf (endsText (toZ w64 (ofZ w64 (ans .cost))) (take (ans .count) es))
-      → r ≡ outputOf (planText (planIn t gs ws ys hs out))
+      → r ≡ outputOf (planText (planIn L t gs ws ys hs out))
   plan-prints r h k g =
       g ∙ ap outputOf (ap (λ (z : ℤ). endsText z (take (ans .count) es)) (held (ans .cost) k) ∙ text-planned ans es h (plan-fits h .count-in) ∙ ap planText in-week)
 
@@ -69,29 +72,29 @@ module _ {t : List ℕ} {f m q : ℕ} (is : Sizes t f m q) (ok : T (weekOk t)) w
   pub calls-start : 91 + 34 * m ≤ 100000
   calls-start = omega (arith, is .used, head t (good t ok .first) .few)
 
-  pub calls-few : q ≤ 1000
+  pub calls-few : q ≤ mostCalls
   calls-few = omega (arith, is .count, head t (good t ok .first) .calls)
 
   pub calls-good : T (callsOk q (91 + 34 * m) t)
   calls-good = rw (is .used, is .count) (good t ok .calls)
 
 module _ {t : List ℕ} (gs ws ys : List ℕ) {f m q : ℕ} (is : Sizes t f m q) (n : ℕ) (h : List ℕ)
-    (e : _≡_ {A = Recorded} (record { refusal = n; histograms = h }) (recordUntilRefused (setOf f m gs ws ys) (replicate 640 0) (callsAt q (91 + 34 * m) t))) where
-  recorded : _≡_ {A = Recorded} (record { refusal = n; histograms = h }) (recordUntilRefused (weekIn t gs ws ys .set) (replicate 640 0) (weekIn t gs ws ys .calls))
+    (e : _≡_ {A = Recorded} (record { refusal = n; histograms = h }) (recordUntilRefused (setOf f m gs ws ys) (zeros blockLimit) (callsAt q (91 + 34 * m) t))) where
+  recorded : _≡_ {A = Recorded} (record { refusal = n; histograms = h }) (recordUntilRefused (weekIn t gs ws ys .set) (zeros blockLimit) (weekIn t gs ws ys .calls))
   recorded = rw (is .block, is .used, is .count) at e
 
   refused-text : n ≢ 0 → refusalText n ≡ weekText (weekIn t gs ws ys)
   unfolding weekText
   refused-text z = rw (← recorded, ne-eqb n 0 z)
 
-  planned-text : n ≡ 0 → planText (planIn t gs ws ys h (replicate 64 0)) ≡ weekText (weekIn t gs ws ys)
+  planned-text : n ≡ 0 → planText (planIn blockLimit t gs ws ys h (replicate blockLimit 0)) ≡ weekText (weekIn t gs ws ys)
   unfolding weekText
   planned-text z = rw (← recorded, eq-eqb n 0 z)
 
   pub answer-refused : (r : Output) → n ≢ 0 → r ≡ outputOf (refusalText n) → r ≡ outputOf (weekText (weekIn t gs ws ys))
   answer-refused r z g = g ∙ ap outputOf (refused-text z)
 
-  pub answer-planned : (r : Output) → n ≡ 0 → r ≡ outputOf (planText (planIn t gs ws ys h (replicate 64 0))) → r ≡ outputOf (weekText (weekIn t gs ws ys))
+  pub answer-planned : (r : Output) → n ≡ 0 → r ≡ outputOf (planText (planIn blockLimit t gs ws ys h (replicate blockLimit 0))) → r ≡ outputOf (weekText (weekIn t gs ws ys))
   answer-planned r z g = g ∙ ap outputOf (planned-text z)
 
 -- The slices.
@@ -125,7 +128,7 @@ program-refused t n r e z g =
 
 -- the deliveries of a good input: few, and each number stands
 pub record Deliveries (t : List ℕ) (m : ℕ) : Type 0 where
-  pub few : m < 1025
+  pub few : m < mostDeliveries + 1
   pub growers : T (columnOk 34 91 m t)
   pub weights : T (columnOk 34 102 m t)
   pub yields : T (columnOk 34 113 m t)
@@ -141,13 +144,13 @@ module _ (t : List ℕ) (m : ℕ) (ok : weekOk t ≡ true) (em : m ≡ usedIn t)
         yields = rw em (column-ok t 3 2 (omega arith) (usedIn t) 91 (g .deliveries));
       }
 
-  module _ (g w y : List ℕ) (eg : g ≡ columnAt 34 91 m t ++ drop m (blanks 1025)) (ew : w ≡ columnAt 34 102 m t ++ drop m (blanks 1025))
-      (ey : y ≡ columnAt 34 113 m t ++ drop m (blanks 1025)) where
+  module _ (g w y : List ℕ) (eg : g ≡ columnAt 34 91 m t ++ drop m (blanks (mostDeliveries + 1))) (ew : w ≡ columnAt 34 102 m t ++ drop m (blanks (mostDeliveries + 1)))
+      (ey : y ≡ columnAt 34 113 m t ++ drop m (blanks (mostDeliveries + 1))) where
     slots-are : weekIn t (take (m + 1) g) (take (m + 1) w) (take (m + 1) y)
         ≡ weekIn t (columnAt 34 91 (usedIn t) t ++ 0 ∷ []) (columnAt 34 102 (usedIn t) t ++ 0 ∷ []) (columnAt 34 113 (usedIn t) t ++ 0 ∷ [])
     slots-are =
-        let k : m < 1025 = deliveries .few in
-        rw (stored t 91 m 1025 k g eg, stored t 102 m 1025 k w ew, stored t 113 m 1025 k y ey, em)
+        let k : m < mostDeliveries + 1 = deliveries .few in
+        rw (stored t 91 m (mostDeliveries + 1) k g eg, stored t 102 m (mostDeliveries + 1) k w ew, stored t 113 m (mostDeliveries + 1) k y ey, em)
 
     pub program-answers : (r : Output) → r ≡ outputOf (weekText (weekIn t (take (m + 1) g) (take (m + 1) w) (take (m + 1) y))) → r ≡ outputOf (layplan t)
     program-answers r q = q ∙ ap outputOf (ap weekText slots-are ∙ sym (layplan-good t ok))

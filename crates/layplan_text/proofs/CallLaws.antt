@@ -9,6 +9,7 @@ use native.Mathlib.Omega.{arith}
 use borrow.Author.Tests.{eq-eqb, ne-eqb}
 use lib.Dec.{T, eqb, eqb→eq}
 use lib.ListN.{length}
+use Rattle.model.specs.Bounds.{blockLimit}
 use Rattle.model.specs.Lists.{every, onlyIf, andThen, isSome}
 use Rattle.model.specs.Blocks.{Set}
 use Rattle.model.specs.Deliveries.{delivery}
@@ -246,12 +247,12 @@ module _ {t : List ℕ} {at q : ℕ} {s : Set} {h₀ h : List ℕ} {i e : ℕ} (
   unfolding callOk
   next-line = and-fst (lineOk 5 e t) (isSome (callOf (columnAt 11 e 5 t))) (and-fst (callOk e t) (callsOk (q - (i + 1)) (e + 56) t) these)
 
-  one-record : (r : Recorded) → r ≡ recordCall 64 s h (callBy (columnAt 11 e 5 t))
+  one-record : (r : Recorded) → r ≡ recordCall blockLimit s h (callBy (columnAt 11 e 5 t))
       → recordUntilRefused s h₀ (callsAt q at t) ≡ cond (eqb (r .refusal) 0) (recordUntilRefused s (r .histograms) (callsAt (q - (i + 1)) (e + 56) t)) r
   unfolding recordUntilRefused callsAt
   one-record r f = let z : q - i ≡ suc (q - (i + 1)) = omega arith in w .work ∙ rw (z, ← f)
 
-  module _ (n : ℕ) (h' : List ℕ) (f : answered n h' ≡ recordCall 64 s h (callBy (columnAt 11 e 5 t))) where
+  module _ (n : ℕ) (h' : List ℕ) (f : answered n h' ≡ recordCall blockLimit s h (callBy (columnAt 11 e 5 t))) where
     pub records-stop : n ≢ 0 → answered n h' ≡ recordUntilRefused s h₀ (callsAt q at t)
     records-stop z = sym (one-record (answered n h') f ∙ rw (ne-eqb n 0 z))
 
@@ -277,26 +278,27 @@ pub record Four (t : List ℕ) (at k a b c : ℕ) : Type 0 where
   pub second : b ≡ valueAt (at + 11 + 11) t
   pub third : c ≡ valueAt (at + 11 + 11 + 11) t
 
-module _ {t : List ℕ} {at k a b c : ℕ} (w : Four t at k a b c) (s : Set) (hs : List ℕ) (r : Recorded) where
+-- L is the block limit
+module _ (L : ℕ) {t : List ℕ} {at k a b c : ℕ} (w : Four t at k a b c) (s : Set) (hs : List ℕ) (r : Recorded) where
   abbrev fifth : ℕ
   fifth = valueAt (at + 11 + 11 + 11 + 11) t
 
-  by-kind : (d : ℕ) → d ≡ fifth → (x : Call) → callBy (k ∷ a ∷ b ∷ c ∷ d ∷ []) ≡ x → r ≡ recordCall 64 s hs x → r ≡ recordCall 64 s hs (callBy (columnAt 11 at 5 t))
+  by-kind : (d : ℕ) → d ≡ fifth → (x : Call) → callBy (k ∷ a ∷ b ∷ c ∷ d ∷ []) ≡ x → r ≡ recordCall L s hs x → r ≡ recordCall L s hs (callBy (columnAt 11 at 5 t))
   by-kind d i x j q =
       let same : callBy (k ∷ a ∷ b ∷ c ∷ d ∷ []) ≡ callBy (columnAt 11 at 5 t) = rw (five t at, w .kind, w .first, w .second, w .third, i) in
-      q ∙ ap (recordCall 64 s hs) (sym j ∙ same)
+      q ∙ ap (recordCall L s hs) (sym j ∙ same)
 
-  pub found-at : k ≡ 1 → r ≡ recordCall 64 s hs (find a) → r ≡ recordCall 64 s hs (callBy (columnAt 11 at 5 t))
+  pub found-at : k ≡ 1 → r ≡ recordCall L s hs (find a) → r ≡ recordCall L s hs (callBy (columnAt 11 at 5 t))
   found-at i = by-kind fifth refl (find a) (by-find k a b c fifth i)
 
-  pub ranged-at : k ≡ 2 → r ≡ recordCall 64 s hs (range a b) → r ≡ recordCall 64 s hs (callBy (columnAt 11 at 5 t))
+  pub ranged-at : k ≡ 2 → r ≡ recordCall L s hs (range a b) → r ≡ recordCall L s hs (callBy (columnAt 11 at 5 t))
   ranged-at i = by-kind fifth refl (range a b) (by-range k a b c fifth i)
 
-  pub inserted-at : k ≡ 3 → r ≡ recordCall 64 s hs (insert (delivery a b c)) → r ≡ recordCall 64 s hs (callBy (columnAt 11 at 5 t))
+  pub inserted-at : k ≡ 3 → r ≡ recordCall L s hs (insert (delivery a b c)) → r ≡ recordCall L s hs (callBy (columnAt 11 at 5 t))
   inserted-at i = by-kind fifth refl (insert (delivery a b c)) (by-insert k a b c fifth i)
 
-  pub deleted-at : k ≡ 4 → r ≡ recordCall 64 s hs (delete (delivery a b c)) → r ≡ recordCall 64 s hs (callBy (columnAt 11 at 5 t))
+  pub deleted-at : k ≡ 4 → r ≡ recordCall L s hs (delete (delivery a b c)) → r ≡ recordCall L s hs (callBy (columnAt 11 at 5 t))
   deleted-at i = by-kind fifth refl (delete (delivery a b c)) (by-delete k a b c fifth i)
 
-  pub moved-at : (d : ℕ) → d ≡ fifth → k ≢ 1 → k ≢ 2 → k ≢ 3 → k ≢ 4 → r ≡ recordCall 64 s hs (move (delivery a b c) d) → r ≡ recordCall 64 s hs (callBy (columnAt 11 at 5 t))
+  pub moved-at : (d : ℕ) → d ≡ fifth → k ≢ 1 → k ≢ 2 → k ≢ 3 → k ≢ 4 → r ≡ recordCall L s hs (move (delivery a b c) d) → r ≡ recordCall L s hs (callBy (columnAt 11 at 5 t))
   moved-at d i l m n o = by-kind d i (move (delivery a b c) d) (by-move k a b c d l m n o)

@@ -9,6 +9,7 @@ use borrow.Author.Tests.{le-leb, lt-leb}
 use lib.Dec.{T, leb, eqb, leb→le}
 use lib.ListN.{length, drop, take}
 use lib.Seq.{take-all, length-take-le}
+use Rattle.model.specs.Bounds.{mostDeliveries, mostCalls}
 use Rattle.model.specs.Lists.{onlyIf, andThen}
 use Rattle.model.specs.Prices.{prices, limits}
 use Rattle.model.specs.Calls.{Call}
@@ -28,13 +29,13 @@ pub sizes-few : (m q : ℕ) → m < 1 → false ≡ sizesOk m q
 unfolding sizesOk
 sizes-few m q h = rw (lt-leb 1 m h)
 
-pub sizes-many : (m q : ℕ) → 1 ≤ m → 1024 < m → false ≡ sizesOk m q
+pub sizes-many : (m q : ℕ) → 1 ≤ m → mostDeliveries < m → false ≡ sizesOk m q
 unfolding sizesOk
-sizes-many m q l h = rw (le-leb 1 m l, lt-leb m 1024 h)
+sizes-many m q l h = rw (le-leb 1 m l, lt-leb m mostDeliveries h)
 
-pub sizes-calls : (m q : ℕ) → 1 ≤ m → m ≤ 1024 → leb q 1000 ≡ sizesOk m q
+pub sizes-calls : (m q : ℕ) → 1 ≤ m → m ≤ mostDeliveries → leb q mostCalls ≡ sizesOk m q
 unfolding sizesOk
-sizes-calls m q l h = rw (le-leb 1 m l, le-leb m 1024 h)
+sizes-calls m q l h = rw (le-leb 1 m l, le-leb m mostDeliveries h)
 
 -- What the lines of an input are, in the order of the definition's chain.
 
@@ -229,8 +230,8 @@ pub record Head (t : List ℕ) : Type 0 where
   pub block : T (fieldOk 57 t)
   pub used : T (fieldOk 68 t)
   pub count : T (fieldOk 79 t)
-  pub few : usedIn t ≤ 1024
-  pub calls : countIn t ≤ 1000
+  pub few : usedIn t ≤ mostDeliveries
+  pub calls : countIn t ≤ mostCalls
 
 pub fields-three : (t : List ℕ) (at : ℕ) → T (lineOk 3 at t) → T (fieldOk at t) × T (fieldOk (at + 11) t) × T (fieldOk (at + 11 + 11) t)
 fields-three t at o =
@@ -249,7 +250,7 @@ head t o =
     let l = and-fst b (c && d) x in
     let n = fields-three t 57 (and-fst c d (and-snd b (c && d) x)) in
     let k = and-snd c d (and-snd b (c && d) x) in
-    let few = leb 1 (usedIn t) && leb (usedIn t) 1024 in
+    let few = leb 1 (usedIn t) && leb (usedIn t) mostDeliveries in
     record {
       random = p .0;
       sequential = p .1;
@@ -259,8 +260,8 @@ head t o =
       block = n .0;
       used = n .1;
       count = n .2;
-      few = leb→le (usedIn t) 1024 (and-snd (leb 1 (usedIn t)) (leb (usedIn t) 1024) (and-fst few (leb (countIn t) 1000) k));
-      calls = leb→le (countIn t) 1000 (and-snd few (leb (countIn t) 1000) k);
+      few = leb→le (usedIn t) mostDeliveries (and-snd (leb 1 (usedIn t)) (leb (usedIn t) mostDeliveries) (and-fst few (leb (countIn t) mostCalls) k));
+      calls = leb→le (countIn t) mostCalls (and-snd few (leb (countIn t) mostCalls) k);
     }
 
 pub record Good (t : List ℕ) : Type 0 where

@@ -6,7 +6,6 @@ use lib.ListN.{length}
 use lib.Dec.{leb, eqb}
 use Rattle.model.specs.declared.PriceCard.{PriceCard}
 use Rattle.model.specs.declared.Limits.{Limits}
-use Rattle.model.specs.Bounds.{blockLimit}
 use Rattle.model.specs.Lists.{isSome}
 use Rattle.model.specs.Prices.{prices, limits}
 use Rattle.model.specs.Deliveries.{delivery}
@@ -14,7 +13,7 @@ use Rattle.model.specs.Calls.{Call, find, range, insert, delete, move}
 use Rattle.model.specs.Fields.{nth}
 use Rattle.model.specs.Planner.{PlanResult, planCall}
 use Rattle.model.specs.Program.{Week, callOf, sizesOk}
-use Rattle.checks.specs.Lent.{setOf}
+use Rattle.model.specs.Lent.{setOf}
 use Rattle.fields.specs.Reading.{valueAt}
 use Rattle.lines.specs.Lines.{columnAt, lineOk, linesOk}
 
@@ -76,6 +75,6 @@ weekIn t gs ws ys = record {
   calls = callsAt (countIn t) (callsFrom t) t;
 }
 
--- the planner's answer to it, from the histograms that its calls left
-abbrev pub planIn : List ℕ → List ℕ → List ℕ → List ℕ → List ℕ → List ℕ → PlanResult
-planIn t gs ws ys hs out = planCall blockLimit (cardIn t) (limitsIn t) (weekIn t gs ws ys .set) hs out
+-- the planner's answer to it at the block limit L, from the histograms that its calls left
+abbrev pub planIn : ℕ → List ℕ → List ℕ → List ℕ → List ℕ → List ℕ → List ℕ → PlanResult
+planIn L t gs ws ys hs out = planCall L (cardIn t) (limitsIn t) (weekIn t gs ws ys .set) hs out

@@ -5,10 +5,11 @@ ghost use Prim.Native.Nat.{ℕ, _+_, _*_, _≤_};
 ghost use mathlib.Core.List.{[], _∷_};
 ghost use lib.ListN.{length, replicate};
 ghost use lib.Dec.{T};
+ghost use Rattle.model.specs.Bounds.{blockLimit, mostCalls};
 ghost use Rattle.model.specs.Lists.{isSome};
 ghost use Rattle.model.specs.Recorder.{recordCall};
 ghost use Rattle.model.specs.Program.{callOf, sizesOk, recordUntilRefused, refusalText, partitionTexts, weekText, planText, layplan};
-ghost use Rattle.checks.specs.Lent.{setOf};
+ghost use Rattle.model.specs.Lent.{setIn};
 ghost use Rattle.fields.specs.Writing.{placed};
 ghost use Rattle.lines.specs.Lines.{textRefusal, lineOk};
 ghost use Rattle.layplan_text.specs.Week.{callAt, callsAt, callOk, callsOk, headOk, weekOk, cardIn, limitsIn, weekIn, planIn};
@@ -20,7 +21,9 @@ use lines::NOT_A_TEXT;
 use lines::ONE;
 use lines::THREE;
 use lines::TWO;
+use model::BLOCK_LIMIT;
 use model::Delivery;
+use model::HISTOGRAMS_SIZE;
 use model::Limits;
 use model::PriceCard;
 
@@ -35,7 +38,7 @@ const DELETE: u32 = 4;
 
 const MOVE: u32 = 5;
 // The most deliveries and calls of a week (01: 1,024 and 1,000).
-const MOST_DELIVERIES: u32 = 1024;
+const MOST_DELIVERIES: usize = 1024;
 
 const MOST_CALLS: u32 = 1000;
 // Where the limits stand, then the block length, M and Q, then the deliveries.
@@ -54,22 +57,18 @@ const WEIGHTS_AT: usize = DELIVERIES_AT + WIDTH;
 const YIELDS_AT: usize = WEIGHTS_AT + WIDTH;
 // The bytes of a call's line.
 const FIVE: usize = 5 * WIDTH + 1;
-// Slots for the most deliveries and one more, numbers of the histograms, ends of a plan.
-const SLOTS: usize = 1025;
-
-const HISTOGRAMS: usize = 640;
-
-const MOST_ENDS: usize = 64;
-// The longest output, where K and the bill end (01: 11 and 20 columns), and where the partitions stand.
-const OUTPUT: usize = 1504;
-
+// Slots for the most deliveries and one more.
+const SLOTS: usize = MOST_DELIVERIES + 1;
+// Where K and the bill end (01: 11 and 20 columns), where the partitions stand, and the longest output.
 const BILL_END: usize = WIDTH + SIGNED_WIDTH;
 
 const PARTITIONS_AT: usize = BILL_END + 1;
 
+const OUTPUT: usize = PARTITIONS_AT + TWO * BLOCK_LIMIT;
+
 // The output: its bytes at the front, zeros past them, and how many there are.
 pub struct Output {
-    pub bytes: [u8; 1504],
+    pub bytes: [u8; OUTPUT],
     pub count: usize,
 }
 
@@ -136,7 +135,7 @@ fn judge_call(text: &[u8], at: usize) -> u32
 
 // The refusal of a text that has not q such lines there.
 fn judge_calls(text: &[u8], at: usize, q: usize) -> u32
-    requires { ⌜ (at ≤ 100000) × (q ≤ 1000) ⌝ }
+    requires { ⌜ (at ≤ 100000) × (q ≤ mostCalls) ⌝ }
     ensures { λ r. ⌜ r ≡ textRefusal (callsOk q at (now (text .entry))) ⌝ }
 {
     let mut i = 0;
@@ -159,7 +158,7 @@ fn sizes_ok(m: u32, q: u32) -> bool
     if m < 1 {
         return false;
     }
-    if MOST_DELIVERIES < m {
+    if MOST_DELIVERIES < m as usize {
         return false;
     }
     q <= MOST_CALLS
@@ -226,8 +225,8 @@ fn record_at(
     yields: &[u32],
 ) -> u32
     requires { ⌜ (at ≤ 1000000) × T (lineOk 5 at (now text)) ⌝ }
-    ensures { λ r. ⌜ record { refusal = r; histograms = now (histograms .exit) } ≡ recordCall 64
-        (setOf block used (now (growers .entry)) (now (weights .entry)) (now (yields .entry))) (now (histograms .entry)) (callAt at (now (text .entry))) ⌝ }
+    ensures { λ r. ⌜ record { refusal = r; histograms = now (histograms .exit) }
+        ≡ recordCall blockLimit (setIn block used growers weights yields) (now (histograms .entry)) (callAt at (now (text .entry))) ⌝ }
 {
     let kind = fields::spelled_at(text, at);
     let a = fields::spelled_at(text, at + WIDTH);
@@ -267,9 +266,9 @@ fn record_lines(
     weights: &[u32],
     yields: &[u32],
 ) -> u32
-    requires { ⌜ (at ≤ 100000) × (q ≤ 1000) × T (callsOk q at (now text)) ⌝ }
-    ensures { λ r. ⌜ record { refusal = r; histograms = now (histograms .exit) } ≡ recordUntilRefused
-        (setOf block used (now (growers .entry)) (now (weights .entry)) (now (yields .entry))) (now (histograms .entry)) (callsAt q at (now (text .entry))) ⌝ }
+    requires { ⌜ (at ≤ 100000) × (q ≤ mostCalls) × T (callsOk q at (now text)) ⌝ }
+    ensures { λ r. ⌜ record { refusal = r; histograms = now (histograms .exit) }
+        ≡ recordUntilRefused (setIn block used growers weights yields) (now (histograms .entry)) (callsAt q at (now (text .entry))) ⌝ }
 {
     let mut i = 0;
     let mut e = at;
@@ -295,7 +294,7 @@ fn refused(n: u32) -> Output
 
 // Each partition's first and last block, from a byte on.
 fn put_ends(text: &mut [u8], at: usize, ends: &[u32])
-    requires { ⌜ (at + 23 * length (now ends) ≤ length (now text)) × EndsFit (now ends) ⌝ }
+    requires { ⌜ (at + 23 * length (now ends) ≤ length (now text)) × EndsFit blockLimit (now ends) ⌝ }
     ensures { λ _. ⌜ now (text .exit) ≡ placed at (partitionTexts 0 (now (ends .entry))) (now (text .entry)) ⌝ }
 {
     let mut i = 0;
@@ -312,7 +311,7 @@ fn put_ends(text: &mut [u8], at: usize, ends: &[u32])
 
 // The output of a plan: K, the bill, and the partitions.
 fn planned(cost: i64, ends: &[u32]) -> Output
-    requires { ⌜ (length (now ends) ≤ 64) × EndsFit (now ends) ⌝ }
+    requires { ⌜ (length (now ends) ≤ blockLimit) × EndsFit blockLimit (now ends) ⌝ }
     ensures { λ r. ⌜ r ≡ outputOf (endsText cost (now (ends .entry))) ⌝ }
 {
     let mut bytes = [0u8; OUTPUT];
@@ -351,14 +350,14 @@ fn limits_of(text: &[u8]) -> Limits
 // Plans from the recorded calls.
 fn plan(text: &[u8], histograms: &[u32], growers: &[u32], weights: &[u32], yields: &[u32]) -> Output
     requires { ⌜ T (headOk (now text)) ⌝ }
-    ensures { λ r. ⌜ r ≡ outputOf (planText
-        (planIn (now (text .entry)) (now (growers .entry)) (now (weights .entry)) (now (yields .entry)) (now (histograms .entry)) (replicate 64 0))) ⌝ }
+    ensures { λ r. ⌜ r ≡ outputOf (planText (planIn blockLimit (now (text .entry))
+        (now (growers .entry)) (now (weights .entry)) (now (yields .entry)) (now (histograms .entry)) (replicate blockLimit 0))) ⌝ }
 {
     let card = card_of(text);
     let limits = limits_of(text);
     let block = fields::spelled_at(text, SIZES_AT);
     let used = fields::spelled_at(text, USED_AT);
-    let mut ends = [0u32; MOST_ENDS];
+    let mut ends = [0u32; BLOCK_LIMIT];
     let p = planner::plan(
         card,
         limits,
@@ -387,7 +386,7 @@ fn answer(text: &[u8], growers: &[u32], weights: &[u32], yields: &[u32]) -> Outp
     let used = fields::spelled_at(text, USED_AT);
     let q = fields::spelled_at(text, COUNT_AT) as usize;
     let a = DELIVERIES_AT + THREE * used as usize;
-    let mut histograms = [0u32; HISTOGRAMS];
+    let mut histograms = [0u32; HISTOGRAMS_SIZE];
     let stop = record_lines(
         text,
         a,

@@ -10,7 +10,9 @@ use lib.ListN.{length, getD, take, drop, drop-of-length-le}
 use lib.Seq.{drop-cons}
 use Rattle.model.specs.Lists.{onlyIf, andThen, isSome}
 use Rattle.model.specs.Fields.{readField, afterLineEnd}
-use Rattle.fields.specs.Reading.{Read, readAt, fieldOk, valueAt}
+use Rattle.fields.specs.declared.Field.{Field}
+use Rattle.fields.specs.declared.Field.the-variants.{Number, Nothing}
+use Rattle.fields.specs.Reading.{Read, readOf, readAt, fieldOk, valueAt}
 use Rattle.model.proofs.LineLaws.{nothing}
 use Rattle.lines.specs.Lines.{textRefusal, columnAt, lineOk, linesOk}
 use Rattle.lines.proofs.Storing.{column-more}
@@ -138,15 +140,20 @@ unfolding columnAt
 took-start t at n = record { left = fields-start t at n; at-field = omega arith; values = refl }
 
 module _ {t : List ℕ} {at n i e : ℕ} {ns : List ℕ} (w : Took t at n i e ns) where
-  pub took-next : i < n → (r : Read) → some r ≡ readAt t e → Took t at n (i + 1) (r .next) (ns ++ r .number ∷ [])
-  took-next h r q = record {
+  took-read : i < n → (r : Read) → some r ≡ readAt t e → Took t at n (i + 1) (r .next) (ns ++ r .number ∷ [])
+  took-read h r q = record {
     left = fields-next h (w .left) r q;
     at-field = next-is t e r q ∙ omega (arith, w .at-field);
     values = ap₂ (λ (l : List ℕ) (x : ℕ). l ++ x ∷ []) (w .values) (value-some t e r q ∙ ap (λ (k : ℕ). valueAt k t) (w .at-field)) ∙ sym (column-more 11 at i t);
   }
 
-  pub took-stop : i < n → none ≡ readAt t e → false ≡ lineOk n at t
-  took-stop h q = fields-stop h (w .left) q
+  -- by what reading a field answered
+  module _ (h : i < n) {f : Field} (q : readOf f ≡ readAt t e) where
+    pub took-next : {v p : ℕ} → f ≡ Number v p → Took t at n (i + 1) p (ns ++ v ∷ [])
+    took-next o = took-read h _ (ap readOf (sym o) ∙ q)
+
+    pub took-stop : f ≡ Nothing → false ≡ lineOk n at t
+    took-stop o = fields-stop h (w .left) (ap readOf (sym o) ∙ q)
 
   pub took-end : n ≤ i → isSome (afterLineEnd (drop e t)) ≡ lineOk n at t
   took-end h = fields-end h (w .left)

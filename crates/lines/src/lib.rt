@@ -4,6 +4,7 @@ ghost use Prim.Native.Nat.{_+_, _*_, _≤_, _<_};
 ghost use mathlib.Core.List.{[], _∷_, _++_};
 ghost use lib.ListN.{length, drop};
 ghost use lib.Dec.{T};
+ghost use Rattle.model.specs.Bounds.{mostSlots};
 ghost use Rattle.model.specs.Lists.{isSome};
 ghost use Rattle.model.specs.Fields.{line, afterLineEnd};
 ghost use Rattle.fields.specs.Writing.{placed};
@@ -52,7 +53,7 @@ pub fn judge_line(text: &[u8], at: usize, n: usize) -> u32
 
 // The refusal of a text that has no m such lines there.
 pub fn judge_lines(text: &[u8], at: usize, n: usize, m: usize) -> u32
-    requires { ⌜ (at ≤ 1000000) × (n ≤ 5) × (m ≤ 262144) ⌝ }
+    requires { ⌜ (at ≤ 1000000) × (n ≤ 5) × (m ≤ mostSlots) ⌝ }
     ensures { λ r. ⌜ r ≡ textRefusal (linesOk n m at (now (text .entry))) ⌝ }
 {
     let stride = WIDTH * n + 1;
@@ -71,7 +72,7 @@ pub fn judge_lines(text: &[u8], at: usize, n: usize, m: usize) -> u32
 
 // One number of each of m lines of three, from a byte on, into the first m slots. The lines have been judged.
 pub fn store(text: &[u8], at: usize, s: &mut [u32], m: usize)
-    requires { ⌜ (at ≤ 1000000) × (m ≤ 262144) × (m ≤ length (now s)) × T (columnOk 34 at m (now text)) ⌝ }
+    requires { ⌜ (at ≤ 1000000) × (m ≤ mostSlots) × (m ≤ length (now s)) × T (columnOk 34 at m (now text)) ⌝ }
     ensures { λ _. ⌜ now (s .exit) ≡ columnAt 34 at m (now (text .entry)) ++ drop m (now (s .entry)) ⌝ }
 {
     let mut i = 0;

@@ -7,15 +7,16 @@ use mathlib.Core.List.{List, [], _∷_, _++_}
 use native.Mathlib.Omega.{arith}
 use native.Mathlib.Numerals.{add-one}
 use borrow.Author.Tests.{eq-eqb, ne-eqb, le-leb, lt-leb}
-use lib.Dec.{T, eqb}
-use lib.ListN.{length, getD, take, drop, set, replicate, length-append, length-drop}
-use lib.Seq.{drop-cons, drop-length, length-take-le, set-at, append-snoc, set-append-left}
+use lib.Dec.{T}
+use lib.ListN.{length, getD, drop, length-drop}
+use lib.Seq.{drop-cons, drop-length, drop-drop, length-take-le}
 use Rattle.model.specs.Lists.{sumOf, rising}
 use Rattle.model.specs.Deliveries.{delivery, inRange}
-use Rattle.model.specs.Directory.{padded, directoryNumbers}
+use Rattle.model.specs.Directory.{directorySize, partitionCount, directoryOf, directoryNumbers}
 use Rattle.model.specs.Snapshot.{headerOk, headerOf}
 use Rattle.model.proofs.Tests.{of-true}
-use Rattle.model.proofs.DirectoryLaws.{length-padded}
+use Rattle.directory.specs.Numbers.{Numbered, blank, withPartition}
+use Rattle.directory.proofs.Putting.{partsPut, put-none, blank-size, put-size, put-next, put-all}
 use Rattle.fields.specs.Reading.{valueAt}
 use Rattle.lines.specs.Lines.{textRefusal, columnAt, lineOk, linesOk}
 use Rattle.lines.proofs.Storing.{length-column, column-more}
@@ -27,8 +28,9 @@ use Rattle.snapshot.specs.Answers.{numbersOk}
 
 -- Line 1.
 
-module _ (t : List ℕ) (x : Head) where
-  pub head-fails : false ≡ lineOk 3 0 t → x ≡ noHead → x ≡ headFound t
+-- L is the block limit
+module _ (L : ℕ) (t : List ℕ) (x : Head) where
+  pub head-fails : false ≡ lineOk 3 0 t → x ≡ noHead → x ≡ headFound L t
   unfolding headFound headOk
   head-fails e q = q ∙ rw (sym e)
 
@@ -36,13 +38,13 @@ module _ (t : List ℕ) (x : Head) where
     header-is : record { block = b; used = m; count = k } ≡ headerAt t
     header-is = ap headerOf is
 
-    pub head-range : headerOk 64 (record { block = b; used = m; count = k }) ≡ false → x ≡ noHead → x ≡ headFound t
+    pub head-range : headerOk L (record { block = b; used = m; count = k }) ≡ false → x ≡ noHead → x ≡ headFound L t
     unfolding headFound headOk
-    head-range f q = q ∙ sym (rw (ok, ap (headerOk 64) (sym header-is) ∙ f))
+    head-range f q = q ∙ sym (rw (ok, ap (headerOk L) (sym header-is) ∙ f))
 
-    pub head-done : headerOk 64 (record { block = b; used = m; count = k }) ≡ true → x ≡ headIn (record { block = b; used = m; count = k }) → x ≡ headFound t
+    pub head-done : headerOk L (record { block = b; used = m; count = k }) ≡ true → x ≡ headIn (record { block = b; used = m; count = k }) → x ≡ headFound L t
     unfolding headFound headOk
-    head-done f q = q ∙ ap headIn header-is ∙ sym (rw (ok, ap (headerOk 64) (sym header-is) ∙ f))
+    head-done f q = q ∙ ap headIn header-is ∙ sym (rw (ok, ap (headerOk L) (sym header-is) ∙ f))
 
 -- One delivery line.
 
@@ -136,64 +138,35 @@ module _ {t : List ℕ} {at : ℕ} {lens fences : List ℕ} {p e : ℕ} (w : Par
 
 -- Partition lines listed one after the other.
 
-set-append-add : (p q : List ℕ) (i x : ℕ) → set (p ++ q) (length p + i) x ≡ p ++ set q i x
-set-append-add [] q i x =
-    let e : 0 + i ≡ i = omega arith in
-    rw e
-set-append-add (a ∷ p) q i x =
-    let e : suc (length p) + i ≡ suc (length p + i) = omega arith in
-    rw e (ap (λ (l : List ℕ). a ∷ l) (set-append-add p q i x))
-
--- the first of the unused numbers becomes the next of the list
-pad-next : (l : List ℕ) (i x : ℕ) → length l ≡ i → i < 64 → set (padded 64 l) i x ≡ padded 64 (l ++ x ∷ [])
-pad-next l i x n h =
-    let z : 64 - length l ≡ suc (64 - (i + 1)) = omega arith in
-    let y : length (l ++ x ∷ []) ≡ i + 1 = omega (arith, length-append l (x ∷ [])) in
-    ap (λ (k : ℕ). set (l ++ replicate k 0) i x) z
-    ∙ set-at l 0 (replicate (64 - (i + 1)) 0) x i n
-    ∙ sym (append-snoc l x (replicate (64 - (i + 1)) 0))
-    ∙ ap (λ (k : ℕ). (l ++ x ∷ []) ++ replicate (64 - k) 0) (sym y)
-
-store-two : (b k : ℕ) (l f : List ℕ) (i n m : ℕ) → length l ≡ i → length f ≡ i → i < 64
-    → set (set (b ∷ k ∷ (padded 64 l ++ padded 64 f)) (2 + i) n) (66 + i) m ≡ b ∷ k ∷ (padded 64 (l ++ n ∷ []) ++ padded 64 (f ++ m ∷ []))
-store-two b k l f i n m hl hf h =
-    let y : 2 + i ≡ suc (suc i) = omega arith in
-    let pl : length (padded 64 (l ++ n ∷ [])) ≡ 64 = length-padded 64 (l ++ n ∷ []) (omega (arith, length-append l (n ∷ []))) in
-    let q : length (padded 64 l) ≡ 64 = length-padded 64 l (omega arith) in
-    let z : 66 + i ≡ suc (suc (length (padded 64 (l ++ n ∷ [])) + i)) = omega arith in
-    ap (λ (j : ℕ). set (set (b ∷ k ∷ (padded 64 l ++ padded 64 f)) j n) (66 + i) m) y
-    ∙ ap (λ (r : List ℕ). set (b ∷ k ∷ r) (66 + i) m) (set-append-left (padded 64 l) (padded 64 f) i n (omega arith) ∙ ap (λ (r : List ℕ). r ++ padded 64 f) (pad-next l i n hl h))
-    ∙ ap (λ (j : ℕ). set (b ∷ k ∷ (padded 64 (l ++ n ∷ []) ++ padded 64 f)) j m) z
-    ∙ ap (λ (r : List ℕ). b ∷ k ∷ r) (set-append-add (padded 64 (l ++ n ∷ [])) (padded 64 f) i m ∙ ap (λ (r : List ℕ). padded 64 (l ++ n ∷ []) ++ r) (pad-next f i m hf h))
-
-pub record Listing (t : List ℕ) (b k : ℕ) (d : List ℕ) (i e : ℕ) : Type 0 where
+pub record Listing (L : ℕ) (t : List ℕ) (b k : ℕ) (d : List ℕ) (i e : ℕ) : Type 0 where
   pub left : i ≤ k
-  pub few : k ≤ 64
+  pub few : k ≤ L
   pub at-line : e ≡ 34 + 23 * i
-  pub so-far : d ≡ b ∷ k ∷ (padded 64 (columnAt 23 34 i t) ++ padded 64 (columnAt 23 45 i t))
+  pub long : length d ≡ directorySize L
+  pub so-far : d ≡ partsPut L b k (columnAt 23 34 i t) (columnAt 23 45 i t)
   pub lines : linesOk 2 i 34 t ≡ true
 
-pub list-start : (t : List ℕ) (b k : ℕ) → k ≤ 64 → Listing t b k (set (set (replicate 130 0) 0 b) 1 k) 0 34
+pub list-start : (L : ℕ) (t : List ℕ) (b k : ℕ) → k ≤ L → Listing L t b k (blank L b k) 0 34
 unfolding linesOk columnAt
-list-start t b k h = record { left = omega arith; few = h; at-line = refl; so-far = refl; lines = refl }
+list-start L t b k h = record { left = omega arith; few = h; at-line = refl; long = blank-size L b k; so-far = put-none L b k; lines = refl }
 
-module _ {t : List ℕ} {b k : ℕ} {d : List ℕ} {i e : ℕ} (w : Listing t b k d i e) where
+module _ {L : ℕ} {t : List ℕ} {b k : ℕ} {d : List ℕ} {i e : ℕ} (w : Listing L t b k d i e) where
   -- the lines so far, and the next one
   lines-then : (j : ℕ) → linesOk 2 (i + suc j) 34 t ≡ lineOk 2 e t && linesOk 2 j (e + 23) t
   unfolding linesOk
   lines-then j = lines-cut t 2 i (suc j) 34 ∙ rw (w .lines) (ap (λ (x : ℕ). lineOk 2 x t && linesOk 2 j (x + 23) t) (sym (w .at-line)))
 
   module _ (h : i < k) where
-    pub list-stop : (x : Listed) → false ≡ lineOk 2 e t → x ≡ notListed → x ≡ listedIn b k t
+    pub list-stop : (x : Listed) → false ≡ lineOk 2 e t → x ≡ notListed L → x ≡ listedIn L b k t
     unfolding listedIn
     list-stop x f q =
         let z : k ≡ i + suc (k - i - 1) = omega arith in
         let o : linesOk 2 k 34 t ≡ false = ap (λ (n : ℕ). linesOk 2 n 34 t) z ∙ lines-then (k - i - 1) ∙ rw (sym f) in
         q ∙ sym (rw o)
 
-    pub list-next : (n f : ℕ) → lineOk 2 e t ≡ true → n ∷ f ∷ [] ≡ columnAt 11 e 2 t → Listing t b k (set (set d (2 + i) n) (66 + i) f) (i + 1) (e + 23)
+    pub list-next : (n f : ℕ) (new : List ℕ) → lineOk 2 e t ≡ true → n ∷ f ∷ [] ≡ columnAt 11 e 2 t → new ≡ withPartition L i n f d → Listing L t b k new (i + 1) (e + 23)
     unfolding columnAt linesOk
-    list-next n f ok is =
+    list-next n f new ok is r =
         let y : e + 11 ≡ 45 + 23 * i = omega (arith, w .at-line) in
         let a : n ≡ valueAt (34 + 23 * i) t = ap (λ (l : List ℕ). getD l 0 0) is ∙ ap (λ (j : ℕ). valueAt j t) (w .at-line) in
         let c : f ≡ valueAt (45 + 23 * i) t = ap (λ (l : List ℕ). getD l 1 0) is ∙ ap (λ (j : ℕ). valueAt j t) y in
@@ -201,53 +174,59 @@ module _ {t : List ℕ} {b k : ℕ} {d : List ℕ} {i e : ℕ} (w : Listing t b 
           left = omega arith;
           few = w .few;
           at-line = omega (arith, w .at-line);
+          long = ap length r ∙ put-size L i n f d ∙ w .long;
           so-far =
-              ap (λ (l : List ℕ). set (set l (2 + i) n) (66 + i) f) (w .so-far)
-              ∙ store-two b k (columnAt 23 34 i t) (columnAt 23 45 i t) i n f (length-column 23 34 i t) (length-column 23 45 i t) (omega (arith, w .few))
-              ∙ ap₂ (λ (l m : List ℕ). b ∷ k ∷ (padded 64 l ++ padded 64 m)) (ap (λ (v : ℕ). columnAt 23 34 i t ++ v ∷ []) a ∙ sym (column-more 23 34 i t))
+              r
+              ∙ ap (withPartition L i n f) (w .so-far)
+              ∙ put-next L b k (columnAt 23 34 i t) (columnAt 23 45 i t) i n f (length-column 23 34 i t) (length-column 23 45 i t) (omega (arith, w .few))
+              ∙ ap₂ (partsPut L b k) (ap (λ (v : ℕ). columnAt 23 34 i t ++ v ∷ []) a ∙ sym (column-more 23 34 i t))
               (ap (λ (v : ℕ). columnAt 23 45 i t ++ v ∷ []) c ∙ sym (column-more 23 45 i t));
           lines = lines-then 0 ∙ rw ok;
         }
 
-  pub list-end : k ≤ i → (x : Listed) → x ≡ record { refusal = 0; numbers = d } → x ≡ listedIn b k t
-  unfolding listedIn directoryNumbers
+  pub list-end : k ≤ i → (x : Listed) → x ≡ record { refusal = 0; numbers = d } → x ≡ listedIn L b k t
+  unfolding listedIn
   list-end h x q =
       let z : i ≡ k = omega (arith, w .left) in
       let o : linesOk 2 k 34 t ≡ true = ap (λ (n : ℕ). linesOk 2 n 34 t) (sym z) ∙ w .lines in
-      let n : d ≡ directoryNumbers 64 (directoryAt b k t)
-      = w .so-far ∙ rw z (ap (λ (n : ℕ). b ∷ n ∷ (padded 64 (columnAt 23 34 k t) ++ padded 64 (columnAt 23 45 k t))) (sym (length-column 23 34 k t))) in
+      let n : d ≡ directoryNumbers L (directoryAt b k t)
+      = w .so-far ∙ ap (λ (j : ℕ). partsPut L b k (columnAt 23 34 j t) (columnAt 23 45 j t)) z ∙ put-all L b k (columnAt 23 34 k t) (columnAt 23 45 k t) (length-column 23 34 k t) in
       q ∙ ap (λ (l : List ℕ). record { refusal = 0; numbers = l }) n ∙ sym (rw o)
 
 -- The tests of a directory's numbers, one after the other.
 
-module _ (t : List ℕ) (at : ℕ) (ns : List ℕ) (k m : ℕ) where
+module _ (L : ℕ) (ns : List ℕ) (o : Numbered L ns) where
+  lengths-many : length (directoryOf L ns .lengths) ≡ partitionCount L ns
+  unfolding directoryOf
+  lengths-many = length-take-le (partitionCount L ns) (drop 2 ns) (omega (arith, length-drop 2 ns, o .size, o .few))
+
+  fences-many : length (directoryOf L ns .fences) ≡ partitionCount L ns
+  unfolding directoryOf
+  fences-many = rw drop-drop (length-take-le (partitionCount L ns) (drop (2 + L) ns) (omega (arith, length-drop (2 + L) ns, o .size, o .few)))
+
+  pub few-lengths : {ls : List ℕ} → ls ≡ directoryOf L ns .lengths → length ls ≤ L
+  few-lengths e = rw e (omega (arith, lengths-many, o .few))
+
+module _ (L : ℕ) (t : List ℕ) (at : ℕ) (ns : List ℕ) (m : ℕ) where
   abbrev lens : List ℕ
-  lens = take (2 + k - 2) (drop 2 ns)
+  lens = directoryOf L ns .lengths
 
   abbrev fences : List ℕ
-  fences = take (66 + k - 66) (drop 66 ns)
+  fences = directoryOf L ns .fences
 
-  numbers-are : numbersOk t at ns k m ≡ rising fences && (eqb (sumOf lens) m && partsOk fences 0 lens at t)
+  pub not-rising : rising fences ≡ false → 14 ≡ textRefusal (numbersOk L t at ns m)
   unfolding numbersOk
-  numbers-are =
-      let x : k ≡ 2 + k - 2 = omega arith in
-      let y : k ≡ 66 + k - 66 = omega arith in
-      ap₂ (λ (i j : ℕ). rising (take j (drop 66 ns)) && (eqb (sumOf (take i (drop 2 ns))) m && partsOk (take j (drop 66 ns)) 0 (take i (drop 2 ns)) at t)) x y
+  not-rising e = rw e
 
-  pub not-rising : (r : Bool) → r ≡ rising fences → r ≡ false → 14 ≡ textRefusal (numbersOk t at ns k m)
-  not-rising r e q = let d : numbersOk t at ns k m ≡ false = numbers-are ∙ rw (sym e ∙ q) in ap textRefusal (sym d)
+  pub other-sum : rising fences ≡ true → (sumOf lens ≡ m → ⊥) → 14 ≡ textRefusal (numbersOk L t at ns m)
+  unfolding numbersOk
+  other-sum e n = rw (e, ne-eqb (sumOf lens) m n)
 
-  module _ (r : Bool) (e : r ≡ rising fences) (q : r ≡ true) (s : ℕ) (f : s ≡ sumOf lens) where
-    pub other-sum : (s ≡ m → ⊥) → 14 ≡ textRefusal (numbersOk t at ns k m)
-    other-sum n = let d : numbersOk t at ns k m ≡ false = numbers-are ∙ rw (sym e ∙ q, sym f, ne-eqb s m n) in ap textRefusal (sym d)
+  -- the parts lent
+  module _ {ls fs : List ℕ} (el : ls ≡ lens) (ef : fs ≡ fences) (e : rising fences ≡ true) (s : sumOf lens ≡ m) where
+    pub parts-asked : Numbered L ns → at + 34 * m ≤ length t → (length fs ≡ length ls) × T (rising fs) × (at + 34 * sumOf ls ≤ length t)
+    parts-asked o h = rw (el, ef) (fences-many L ns o ∙ sym (lengths-many L ns o), of-true (rising fences) e, omega (arith, s))
 
-    pub same-sum : (n : ℕ) → s ≡ m → n ≡ textRefusal (partsOk fences 0 lens at t) → n ≡ textRefusal (numbersOk t at ns k m)
-    same-sum n o g = let d : numbersOk t at ns k m ≡ partsOk fences 0 lens at t = numbers-are ∙ rw (sym e ∙ q, sym f, eq-eqb s m o) in g ∙ ap textRefusal (sym d)
-
-    -- what is asked for the partitions
-    pub parts-asked : length ns ≡ 130 → k ≤ 64 → s ≡ m → at + 34 * m ≤ length t → (length fences ≡ length lens) × T (rising fences) × (at + 34 * sumOf lens ≤ length t)
-    parts-asked size l o h = (
-      length-take-le (66 + k - 66) (drop 66 ns) (omega (arith, length-drop 66 ns)) ∙ omega (arith, length-take-le (2 + k - 2) (drop 2 ns) (omega (arith, length-drop 2 ns))),
-      of-true (rising fences) (sym e ∙ q),
-      omega (arith, f),
-    )
+    pub same-sum : (n : ℕ) → n ≡ textRefusal (partsOk fs 0 ls at t) → n ≡ textRefusal (numbersOk L t at ns m)
+    unfolding numbersOk
+    same-sum n g = g ∙ rw (e, eq-eqb (sumOf lens) m s, el, ef)

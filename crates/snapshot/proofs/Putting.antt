@@ -8,6 +8,7 @@ use lib.ListN.{length, getD, drop, length-append}
 use lib.Seq.{drop-cons, drop-length}
 use Rattle.model.specs.declared.Delivery.{Delivery}
 use Rattle.model.specs.Deliveries.{rows}
+use Rattle.model.specs.Lent.{Even}
 use Rattle.model.specs.Fields.{line, lines}
 use Rattle.model.specs.Snapshot.{partitionRows, deliveryRow}
 use Rattle.model.proofs.Deliveries.{length-rows, rows-from}
@@ -31,8 +32,8 @@ length-deliveries (d ∷ ds) = omega (arith, length-append (line (deliveryRow d)
 abbrev pub rowsOf : List ℕ → List ℕ → List ℕ → List (List ℕ)
 rowsOf g w y = map deliveryRow (rows g w y)
 
-pub length-rows-of : (g w y : List ℕ) → length w ≡ length g → length y ≡ length g → length (lines (rowsOf g w y)) ≡ 34 * length g
-length-rows-of g w y p q = length-deliveries (rows g w y) ∙ ap (λ (n : ℕ). 34 * n) (length-rows g w y p q)
+pub length-rows-of : (g w y : List ℕ) → Even g w y → length (lines (rowsOf g w y)) ≡ 34 * length g
+length-rows-of g w y e = length-deliveries (rows g w y) ∙ ap (λ (n : ℕ). 34 * n) (length-rows g w y (e .weights) (e .yields))
 
 -- Lines of any rows.
 
@@ -103,23 +104,22 @@ module _ {t₀ : List ℕ} {at : ℕ} {lens fences t : List ℕ} {i e : ℕ} (w 
 
 pub record PutRows (t₀ : List ℕ) (at : ℕ) (g w y t : List ℕ) (i e : ℕ) : Type 0 where
   pub left : i ≤ length g
-  pub even-w : length w ≡ length g
-  pub even-y : length y ≡ length g
+  pub even : Even g w y
   pub put : PutLines t₀ at (rowsOf g w y) t e (rowsOf (drop i g) (drop i w) (drop i y))
 
-pub rows-start : (t : List ℕ) (at : ℕ) (g w y : List ℕ) → length w ≡ length g → length y ≡ length g → at + 34 * length g ≤ length t → PutRows t at g w y t 0 at
-rows-start t at g w y p q h = record { left = omega arith; even-w = p; even-y = q; put = lines-start t at (rowsOf g w y) (omega (arith, length-rows-of g w y p q)) }
+pub rows-start : (t : List ℕ) (at : ℕ) (g w y : List ℕ) → Even g w y → at + 34 * length g ≤ length t → PutRows t at g w y t 0 at
+rows-start t at g w y e h = record { left = omega arith; even = e; put = lines-start t at (rowsOf g w y) (omega (arith, length-rows-of g w y e)) }
 
 module _ {t₀ : List ℕ} {at : ℕ} {g w y t : List ℕ} {i e : ℕ} (o : PutRows t₀ at g w y t i e) where
   module _ (h : i < length g) where
     row-here : rowsOf (drop i g) (drop i w) (drop i y) ≡ (getD g i 0 ∷ getD w i 0 ∷ getD y i 0 ∷ []) ∷ rowsOf (drop (i + 1) g) (drop (i + 1) w) (drop (i + 1) y)
-    row-here = ap (map deliveryRow) (rows-from g w y i h (o .even-w) (o .even-y))
+    row-here = ap (map deliveryRow) (rows-from g w y i h (o .even .weights) (o .even .yields))
 
     pub row-room : e + 34 ≤ length t
     row-room = omega (arith, lines-room (o .put) row-here, o .put .size)
 
     pub rows-next : (t' : List ℕ) → t' ≡ placed e (line (getD g i 0 ∷ getD w i 0 ∷ getD y i 0 ∷ [])) t → PutRows t₀ at g w y t' (i + 1) (e + 34)
-    rows-next t' q = record { left = omega arith; even-w = o .even-w; even-y = o .even-y; put = lines-next (o .put) row-here t' q }
+    rows-next t' q = record { left = omega arith; even = o .even; put = lines-next (o .put) row-here t' q }
 
   pub rows-end : length g ≤ i → t ≡ placed at (lines (rowsOf g w y)) t₀
   unfolding rows

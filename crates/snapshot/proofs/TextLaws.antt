@@ -1,6 +1,6 @@
 -- A text read as a book, in one form: the book whose numbers stand in it, if its lines, its length and its numbers are right.
 -- Assumes nothing.
-use Prim.Native.Nat.{ℕ, zero, suc, _+_, _-_, _*_, _≤_, _<_}
+use Prim.Native.Nat.{ℕ, zero, suc, _+_, _*_, _≤_, _<_}
 use mathlib.Core.Path.{_≡_, refl, sym, ap, ap₂, _∙_}
 use mathlib.Core.Bool.{Bool, true, false, _&&_}
 use mathlib.Core.Option.{Option}
@@ -15,20 +15,22 @@ use Rattle.model.specs.Bounds.{mostNumber}
 use Rattle.model.specs.Lists.{sumOf, every, rising, onlyIf, andThen}
 use Rattle.model.specs.Deliveries.{growerOf, inRange}
 use Rattle.model.specs.Partitions.{parts, everyAt}
-use Rattle.model.specs.Directory.{Directory, directoryNumbers, directoryOf}
+use Rattle.model.specs.Directory.{Directory, directoryNumbers}
 use Rattle.model.specs.Column.{inPlace, soundGrowers}
 use Rattle.model.specs.Fields.{Taken, taken, takeLine, takeLines, nth}
 use Rattle.model.specs.Snapshot.{Header, Book, headerOk, headerOf, takeHeader, deliveryOf, bookOk, bookOf, readBook, slotsForBook}
 use Rattle.model.proofs.Tests.{and-fst, and-snd, of-true}
 use Rattle.model.proofs.ListLaws.{map-take, map-drop, every-cut}
-use Rattle.model.proofs.DirectoryLaws.{Fits, directory-again}
+use Rattle.model.proofs.DirectoryLaws.{Fits, count-numbers, length-numbers, directory-again}
 use Rattle.model.proofs.BookLaws.{HeaderGood, header-good}
 use Rattle.model.proofs.LineLaws.{Fit, fit-first}
+use Rattle.fields.proofs.Columns.{and-never}
 use Rattle.lines.specs.Lines.{columnAt, lineOk, linesOk, rowsAt}
 use Rattle.lines.proofs.Storing.{length-column}
 use Rattle.lines.proofs.Forms.{chain, line-at, lines-at, column-of, lines-cut, rows-cut, length-rows-at, line-long, lines-long, nothing-left, column-fits, pairs-swap}
 use Rattle.snapshot.specs.Texts.{headerAt, headOk, directoryAt, lowOf, highOf, rowOk, deliveryOk, deliveriesOk, partsOk}
-use Rattle.snapshot.specs.Answers.{numbersOk}
+use Rattle.directory.specs.Numbers.{Numbered}
+use Rattle.snapshot.specs.Answers.{rightParts, numbersOk}
 use Rattle.snapshot.proofs.FenceLaws.{place-bounds}
 
 -- Tests in another order.
@@ -38,9 +40,6 @@ swap true true = refl
 swap true false = refl
 swap false true = refl
 swap false false = refl
-
-and-never : (a : Bool) → a && false ≡ false
-and-never a = swap a false
 
 module _ (t : List ℕ) where
   -- n delivery lines of one partition: the lines are good, and so is each one's numbers
@@ -153,12 +152,6 @@ module _ (t : List ℕ) where
   growers-are [] = refl
   growers-are (l ∷ rs) = ap (λ (x : List ℕ). nth 0 l ∷ x) (growers-are rs)
 
-  pub header-form : takeHeader 64 t ≡ onlyIf (headOk t) (taken h (drop 34 t))
-  unfolding takeHeader headOk
-  header-form =
-      chain (takeLine 3 t) (lineOk 3 0 t) (taken (columnAt 11 0 3 t) (drop 34 t))
-      (λ (r : Taken (List ℕ)). onlyIf (headerOk 64 (headerOf (r .value))) (taken (headerOf (r .value)) (r .rest))) (headerOk 64 h) (taken h (drop 34 t)) (line-at t 3 0) refl
-
   abbrev rowsPart : List (List ℕ) → List ℕ → Option Book
   rowsPart ps u = andThen (takeLines m 3 u) (λ (ds : Taken (List (List ℕ))). onlyIf (eqb (length (ds .rest)) 0 && bookOk h (bookOf h ps (ds .value))) (bookOf h ps (ds .value)))
 
@@ -177,46 +170,7 @@ module _ (t : List ℕ) where
       (leb (length t) (start + 34 * m) && bookOk h bookAt) bookAt (lines-at t m 3 start)
       (rw (nothing-left t (start + 34 * m), book-there))
 
-  pub book-form : readBook 64 t ≡ onlyIf (headOk t && linesRight) bookAt
-  unfolding readBook
-  book-form =
-      chain (takeHeader 64 t) (headOk t) (taken h (drop 34 t)) (λ (x : Taken Header). andThen (takeLines (x .value .count) 2 (x .rest)) (λ (ps : Taken (List (List ℕ))).
-      andThen (takeLines (x .value .used) 3 (ps .rest))
-      (λ (ds : Taken (List (List ℕ))). onlyIf (eqb (length (ds .rest)) 0 && bookOk (x .value) (bookOf (x .value) (ps .value) (ds .value)))
-      (bookOf (x .value) (ps .value) (ds .value)))))
-      linesRight bookAt header-form
-      (chain (takeLines k 2 (drop 34 t)) (linesOk 2 k 34 t) (taken (rowsAt 2 k 34 t) (drop start t)) (λ (ps : Taken (List (List ℕ))). rowsPart (ps .value) (ps .rest))
-      (linesOk 3 m start t && (leb (length t) (start + 34 * m) && bookOk h bookAt)) bookAt (lines-at t k 2 34) rows-form)
-
-  pub slots-form : (n : ℕ) → headOk t ≡ true → slotsForBook 64 t n ≡ leb m n
-  unfolding slotsForBook
-  slots-form n e = rw (header-form, e)
-
-  pub head-good : headOk t ≡ true → HeaderGood 64 h
-  unfolding headOk
-  head-good e = header-good 64 h (and-snd (lineOk 3 0 t) (headerOk 64 h) (of-true (lineOk 3 0 t && headerOk 64 h) e))
-
-  -- a text of another length is no book
-  pub wrong-size : headOk t ≡ true → (length t ≡ start + 34 * m → ⊥) → linesRight ≡ false
-  unfolding headOk
-  wrong-size e other = go (linesOk 2 k 34 t) (linesOk 3 m start t) (leb (length t) (start + 34 * m)) refl refl refl
-    where
-      first : 34 ≤ length t
-      first = line-long t 3 0 (and-fst (lineOk 3 0 t) (headerOk 64 h) (of-true (lineOk 3 0 t && headerOk 64 h) e))
-
-      go : (a b c : Bool) → linesOk 2 k 34 t ≡ a → linesOk 3 m start t ≡ b → leb (length t) (start + 34 * m) ≡ c → a && (b && (c && bookOk h bookAt)) ≡ false
-      go false b c p q r = refl
-      go true false c p q r = refl
-      go true true false p q r = refl
-      go true true true p q r =
-          let x = lines-long t 2 k 34 first (of-true (linesOk 2 k 34 t) p) in
-          let y = lines-long t 3 m start x (of-true (linesOk 3 m start t) q) in
-          absurd (other (omega (arith, leb→le (length t) (start + 34 * m) (of-true (leb (length t) (start + 34 * m)) r))))
-
-  -- the numbers that the code tests are those of the book
-  abbrev numbersRight : Bool
-  numbersRight = rising fs && (eqb (sumOf ls) m && partsOk fs 0 ls start t)
-
+  -- the parts that the code tests are those of the book
   parts-right : rising fs ≡ true → sumOf ls ≡ m → partsOk fs 0 ls start t ≡ linesOk 3 m start t && (every inRange (bookAt .deliveries) && soundGrowers ls fs (map growerOf (bookAt .deliveries)))
   unfolding soundGrowers
   parts-right r s =
@@ -226,7 +180,7 @@ module _ (t : List ℕ) where
       ∙ ap (λ (n : ℕ). linesOk 3 n start t && (every inRange (map deliveryOf (rowsAt 3 n start t)) && everyAt (inPlace fs) 0 (parts ls (map (nth 0) (rowsAt 3 n start t))))) s
       ∙ ap (λ (l : List ℕ). linesOk 3 m start t && (every inRange (bookAt .deliveries) && everyAt (inPlace fs) 0 (parts ls l))) (sym (growers-are (rowsAt 3 m start t)))
 
-  pub numbers-right : length t ≡ start + 34 * m → linesOk 3 m start t && (leb (length t) (start + 34 * m) && bookOk h bookAt) ≡ numbersRight
+  pub numbers-right : length t ≡ start + 34 * m → linesOk 3 m start t && (leb (length t) (start + 34 * m) && bookOk h bookAt) ≡ rightParts t start (bookAt .directory) m
   unfolding bookOk
   numbers-right size = rw (le-leb (length t) (start + 34 * m) (omega arith)) (go (rising fs) (eqb (sumOf ls) m) refl refl)
     where
@@ -241,21 +195,59 @@ module _ (t : List ℕ) where
       go true false p q = and-never (linesOk 3 m start t)
       go true true p q = sym (parts-right p (eqb→eq (sumOf ls) m (of-true (eqb (sumOf ls) m) q)))
 
--- The parts of a directory's numbers.
+-- L is the block limit
+module _ (L : ℕ) (t : List ℕ) where
+  pub header-form : takeHeader L t ≡ onlyIf (headOk L t) (taken (h t) (drop 34 t))
+  unfolding takeHeader headOk
+  header-form =
+      chain (takeLine 3 t) (lineOk 3 0 t) (taken (columnAt 11 0 3 t) (drop 34 t))
+      (λ (r : Taken (List ℕ)). onlyIf (headerOk L (headerOf (r .value))) (taken (headerOf (r .value)) (r .rest))) (headerOk L (h t)) (taken (h t) (drop 34 t)) (line-at t 3 0) refl
 
-module _ (t : List ℕ) (b k : ℕ) (few : k ≤ 64) where
-  abbrev d : Directory
-  d = directoryAt b k t
+  pub book-form : readBook L t ≡ onlyIf (headOk L t && linesRight t) (bookAt t)
+  unfolding readBook
+  book-form =
+      chain (takeHeader L t) (headOk L t) (taken (h t) (drop 34 t)) (λ (x : Taken Header). andThen (takeLines (x .value .count) 2 (x .rest)) (λ (ps : Taken (List (List ℕ))).
+      andThen (takeLines (x .value .used) 3 (ps .rest))
+      (λ (ds : Taken (List (List ℕ))). onlyIf (eqb (length (ds .rest)) 0 && bookOk (x .value) (bookOf (x .value) (ps .value) (ds .value)))
+      (bookOf (x .value) (ps .value) (ds .value)))))
+      (linesRight t) (bookAt t) header-form
+      (chain (takeLines (k t) 2 (drop 34 t)) (linesOk 2 (k t) 34 t) (taken (rowsAt 2 (k t) 34 t) (drop (start t) t)) (λ (ps : Taken (List (List ℕ))). rowsPart t (ps .value) (ps .rest))
+      (linesOk 3 (m t) (start t) t && (leb (length t) (start t + 34 * m t) && bookOk (h t) (bookAt t))) (bookAt t) (lines-at t (k t) 2 34) (rows-form t))
 
-  in-parts : Fits 64 d
+  pub slots-form : (n : ℕ) → headOk L t ≡ true → slotsForBook L t n ≡ leb (m t) n
+  unfolding slotsForBook
+  slots-form n e = rw (header-form, e)
+
+  pub head-good : headOk L t ≡ true → HeaderGood L (h t)
+  unfolding headOk
+  head-good e = header-good L (h t) (and-snd (lineOk 3 0 t) (headerOk L (h t)) (of-true (lineOk 3 0 t && headerOk L (h t)) e))
+
+  -- a text of another length is no book
+  pub wrong-size : headOk L t ≡ true → (length t ≡ start t + 34 * m t → ⊥) → linesRight t ≡ false
+  unfolding headOk
+  wrong-size e other = go (linesOk 2 (k t) 34 t) (linesOk 3 (m t) (start t) t) (leb (length t) (start t + 34 * m t)) refl refl refl
+    where
+      first : 34 ≤ length t
+      first = line-long t 3 0 (and-fst (lineOk 3 0 t) (headerOk L (h t)) (of-true (lineOk 3 0 t && headerOk L (h t)) e))
+
+      go : (a b c : Bool) → linesOk 2 (k t) 34 t ≡ a → linesOk 3 (m t) (start t) t ≡ b → leb (length t) (start t + 34 * m t) ≡ c → a && (b && (c && bookOk (h t) (bookAt t))) ≡ false
+      go false b c p q r = refl
+      go true false c p q r = refl
+      go true true false p q r = refl
+      go true true true p q r =
+          let x = lines-long t 2 (k t) 34 first (of-true (linesOk 2 (k t) 34 t) p) in
+          let y = lines-long t 3 (m t) (start t) x (of-true (linesOk 3 (m t) (start t) t) q) in
+          absurd (other (omega (arith, leb→le (length t) (start t + 34 * m t) (of-true (leb (length t) (start t + 34 * m t)) r))))
+
+-- The numbers of a directory.
+
+module _ (L : ℕ) (t : List ℕ) (b k : ℕ) (few : k ≤ L) where
+  in-parts : Fits L (directoryAt b k t)
   in-parts = record { even = length-column 23 45 k t ∙ sym (length-column 23 34 k t); few = omega (arith, length-column 23 34 k t) }
 
-  pub numbers-are : (start m : ℕ) → numbersOk t start (directoryNumbers 64 d) k m ≡ rising (d .fences) && (eqb (sumOf (d .lengths)) m && partsOk (d .fences) 0 (d .lengths) start t)
-  unfolding numbersOk directoryOf directoryNumbers
-  numbers-are start m =
-      let n = length-column 23 34 k t in
-      let x : take k (drop 2 (directoryNumbers 64 d)) ≡ d .lengths
-      = ap (λ (j : ℕ). take j (drop 2 (directoryNumbers 64 d))) (sym n) ∙ ap (λ (e : Directory). e .lengths) (directory-again 64 d in-parts) in
-      let y : take k (drop 66 (directoryNumbers 64 d)) ≡ d .fences
-      = ap (λ (j : ℕ). take j (drop 66 (directoryNumbers 64 d))) (sym n) ∙ ap (λ (e : Directory). e .fences) (directory-again 64 d in-parts) in
-      ap₂ (λ (l f : List ℕ). rising f && (eqb (sumOf l) m && partsOk f 0 l start t)) x y
+  pub numbers-there : Numbered L (directoryNumbers L (directoryAt b k t))
+  numbers-there = record { size = length-numbers L (directoryAt b k t) in-parts; few = omega (arith, count-numbers L (directoryAt b k t), length-column 23 34 k t) }
+
+  pub numbers-are : (start m : ℕ) → numbersOk L t start (directoryNumbers L (directoryAt b k t)) m ≡ rightParts t start (directoryAt b k t) m
+  unfolding numbersOk
+  numbers-are start m = ap (λ (d : Directory). rightParts t start d m) (directory-again L (directoryAt b k t) in-parts)

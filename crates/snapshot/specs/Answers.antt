@@ -3,13 +3,14 @@ use Prim.Native.Nat.{ℕ, _+_, _*_}
 use mathlib.Core.Bool.{Bool, cond, _&&_}
 use mathlib.Core.Option.{Option, none, some}
 use mathlib.Core.List.{List}
-use lib.ListN.{length, take, drop}
+use lib.ListN.{length}
 use lib.Dec.{eqb}
 use Rattle.model.specs.declared.Applied.{Applied}
 use Rattle.model.specs.Lists.{sumOf, rising}
-use Rattle.model.specs.Directory.{noDirectory, directoryNumbers}
+use Rattle.model.specs.Directory.{Directory, directoryOf, noDirectory, directoryNumbers}
 use Rattle.model.specs.Checks.{firstFailed}
 use Rattle.model.specs.Column.{Column, lengthsOf}
+use Rattle.model.specs.Lent.{Lent, columnOf}
 use Rattle.model.specs.Questions.{writeChecks}
 use Rattle.model.specs.Snapshot.{Book, readBook, slotsForBook}
 use Rattle.model.specs.SnapshotCalls.{ReadResult}
@@ -17,37 +18,43 @@ use Rattle.snapshot.specs.declared.Judged.{Judged}
 use Rattle.snapshot.specs.declared.Checked.{Checked}
 use Rattle.snapshot.specs.Texts.{partsOk}
 
--- do the fences rise, do the lengths add up to m, are the delivery lines from a byte on right?
-unfoldable pub numbersOk : List ℕ → ℕ → List ℕ → ℕ → ℕ → Bool
-numbersOk t start ns k m =
-    let ls : List ℕ = take k (drop 2 ns) in
-    let fs : List ℕ = take k (drop 66 ns) in
-    rising fs && (eqb (sumOf ls) m && partsOk fs 0 ls start t)
-
-abbrev pub notJudged : ℕ → Judged
-notJudged n = record { refusal = n; used = 0; start = 0; directory = noDirectory 64 }
-
--- what a text that is a book holds
-abbrev pub judgedBook : Option Book → Judged
-judgedBook none = notJudged 14
-judgedBook (some b) = record { refusal = 0; used = length (b .deliveries); start = 34 + 23 * length (b .directory .lengths); directory = directoryNumbers 64 (b .directory) }
-
--- checks 12 and 14 of a text for n slots
-unfoldable pub judgedOf : List ℕ → ℕ → Judged
-judgedOf t n = cond (slotsForBook 64 t n) (judgedBook (readBook 64 t)) (notJudged 12)
-
-abbrev pub refusedRead : ℕ → Applied
-refusedRead n = record { refusal = n; directory = noDirectory 64 }
-
--- an answer and the slices as one result
+-- an answer and the slices as one result: the slices given, and those after the call
 abbrev pub resultOf : Applied → List ℕ → List ℕ → List ℕ → ReadResult
-resultOf a gs ws ys = record { refusal = a .refusal; column = record { directory = a .directory; growers = gs; weights = ws; yields = ys } }
+resultOf a gs ws ys = record { refusal = a .refusal; column = columnOf (a .directory) gs ws ys }
 
--- the checks of writing, and how many deliveries there are
+abbrev pub readOut : Applied → Lent → Lent → Lent → ReadResult
+readOut a g w y = resultOf a (g .exit .now) (w .exit .now) (y .exit .now)
+
+-- the checks of writing refused
 abbrev pub notChecked : ℕ → Checked
 notChecked n = record { refusal = n; used = 0 }
 
-unfoldable pub checkedOf : Column → ℕ → Checked
-checkedOf c room =
-    let n : ℕ = firstFailed (writeChecks 64 c room) in
-    record { refusal = n; used = cond (eqb n 0) (sumOf (lengthsOf 64 c)) 0 }
+-- do the fences rise, do the lengths add up to m, are the delivery lines from a byte on right?
+abbrev pub rightParts : List ℕ → ℕ → Directory → ℕ → Bool
+rightParts t start d m = rising (d .fences) && (eqb (sumOf (d .lengths)) m && partsOk (d .fences) 0 (d .lengths) start t)
+
+-- L is the block limit
+module _ (L : ℕ) where
+  unfoldable pub numbersOk : List ℕ → ℕ → List ℕ → ℕ → Bool
+  numbersOk t start ns m = rightParts t start (directoryOf L ns) m
+
+  abbrev pub notJudged : ℕ → Judged
+  notJudged n = record { refusal = n; used = 0; start = 0; directory = noDirectory L }
+
+  -- what a text that is a book holds
+  abbrev pub judgedBook : Option Book → Judged
+  judgedBook none = notJudged 14
+  judgedBook (some b) = record { refusal = 0; used = length (b .deliveries); start = 34 + 23 * length (b .directory .lengths); directory = directoryNumbers L (b .directory) }
+
+  -- checks 12 and 14 of a text for n slots
+  unfoldable pub judgedOf : List ℕ → ℕ → Judged
+  judgedOf t n = cond (slotsForBook L t n) (judgedBook (readBook L t)) (notJudged 12)
+
+  abbrev pub refusedRead : ℕ → Applied
+  refusedRead n = record { refusal = n; directory = noDirectory L }
+
+  -- the checks of writing, and how many deliveries there are
+  unfoldable pub checkedOf : Column → ℕ → Checked
+  checkedOf c room =
+      let n : ℕ = firstFailed (writeChecks L c room) in
+      record { refusal = n; used = cond (eqb n 0) (sumOf (lengthsOf L c)) 0 }

@@ -18,27 +18,29 @@ use Rattle.snapshot.specs.declared.Listed.{Listed}
 abbrev pub headerAt : List ℕ → Header
 headerAt t = headerOf (columnAt 11 0 3 t)
 
-unfoldable pub headOk : List ℕ → Bool
-headOk t = lineOk 3 0 t && headerOk 64 (headerAt t)
-
 abbrev pub noHead : Head
 noHead = record { refusal = 14; block = 0; used = 0; count = 0 }
 
 abbrev pub headIn : Header → Head
 headIn h = record { refusal = 0; block = h .block; used = h .used; count = h .count }
 
-unfoldable pub headFound : List ℕ → Head
-headFound t = cond (headOk t) (headIn (headerAt t)) noHead
-
 -- k partition lines behind it: "length, fence"
 abbrev pub directoryAt : ℕ → ℕ → List ℕ → Directory
 directoryAt b k t = record { block = b; lengths = columnAt 23 34 k t; fences = columnAt 23 45 k t }
 
-abbrev pub notListed : Listed
-notListed = record { refusal = 14; numbers = noDirectory 64 }
+-- L is the block limit
+module _ (L : ℕ) where
+  unfoldable pub headOk : List ℕ → Bool
+  headOk t = lineOk 3 0 t && headerOk L (headerAt t)
 
-unfoldable pub listedIn : ℕ → ℕ → List ℕ → Listed
-listedIn b k t = cond (linesOk 2 k 34 t) (record { refusal = 0; numbers = directoryNumbers 64 (directoryAt b k t) }) notListed
+  unfoldable pub headFound : List ℕ → Head
+  headFound t = cond (headOk t) (headIn (headerAt t)) noHead
+
+  abbrev pub notListed : Listed
+  notListed = record { refusal = 14; numbers = noDirectory L }
+
+  unfoldable pub listedIn : ℕ → ℕ → List ℕ → Listed
+  listedIn b k t = cond (linesOk 2 k 34 t) (record { refusal = 0; numbers = directoryNumbers L (directoryAt b k t) }) notListed
 
 -- a partition's growers: above the fence before it; up to its own, the last partition open above
 unfoldable pub lowOf : List ℕ → ℕ → ℕ

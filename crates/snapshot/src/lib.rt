@@ -5,40 +5,37 @@ ghost use Prim.Native.Nat.{_+_, _*_, _≤_, _<_};
 ghost use mathlib.Core.List.{map};
 ghost use lib.ListN.{length};
 ghost use lib.Dec.{T};
+ghost use Rattle.model.specs.Bounds.{blockLimit};
 ghost use Rattle.model.specs.Lists.{sumOf, rising};
 ghost use mathlib.Core.Bool.{_&&_};
 ghost use Rattle.model.specs.Deliveries.{rows};
 ghost use Rattle.model.specs.Column.{soundGrowers};
+ghost use Rattle.model.specs.Lent.{Even, columnIn};
 ghost use Rattle.model.specs.Fields.{lines};
 ghost use Rattle.model.specs.Snapshot.{headerOk, partitionRows, deliveryRow};
 ghost use Rattle.model.specs.SnapshotCalls.{readCall, writeCall};
 ghost use Rattle.slices.specs.Slices.{allWithin};
-ghost use Rattle.checks.specs.Lent.{columnOf};
+ghost use Rattle.directory.specs.Numbers.{Numbered};
 ghost use Rattle.fields.specs.Writing.{placed};
 ghost use Rattle.lines.specs.Lines.{textRefusal};
 ghost use Rattle.snapshot.specs.Texts.{headFound, noHead, listedIn, notListed, lowOf, highOf, deliveryOk, deliveriesOk, partsOk, allFrom};
-ghost use Rattle.snapshot.specs.Answers.{numbersOk, notJudged, judgedOf, refusedRead, resultOf, notChecked, checkedOf};
+ghost use Rattle.snapshot.specs.Answers.{numbersOk, notJudged, judgedOf, refusedRead, readOut, notChecked, checkedOf};
 use fields::Field;
 use fields::WIDTH;
 use lines::NOT_A_TEXT;
 use lines::THREE;
 use lines::TWO;
 use model::Applied;
+use model::BLOCK_LIMIT;
+use model::DIRECTORY_SIZE;
 use model::Delivery;
+use model::MOST_SLOTS;
 use model::Written;
 
-// The most deliveries (01: 262,144) and partitions (01: 64).
-const MOST_SLOTS: u32 = 262144;
-
-const MOST_PARTITIONS: u32 = 64;
 // The answer of an accepted call, and the refusal of a text with more deliveries than slots (01: 0 and 12).
 const ACCEPTED: u32 = 0;
 
 const TOO_FEW_SLOTS: u32 = 12;
-// Where a directory's lengths and fences begin.
-const LENGTHS: usize = 2;
-
-const FENCES: usize = 66;
 
 // Line 1: block length, deliveries and partitions, or the refusal of the text.
 struct Head {
@@ -61,22 +58,22 @@ fn no_head() -> Head
 
 // Whether the numbers of line 1 are in range.
 fn header_ok(block: u32, used: u32, count: u32) -> bool
-    ensures { λ r. ⌜ r ≡ headerOk 64 (record { block = block; used = used; count = count }) ⌝ }
+    ensures { λ r. ⌜ r ≡ headerOk blockLimit (record { block = block; used = used; count = count }) ⌝ }
 {
     if !checks::block_length_ok(block) {
         return false;
     }
-    if MOST_SLOTS < used {
+    if MOST_SLOTS < used as usize {
         return false;
     }
     if count < 1 {
         return false;
     }
-    count <= MOST_PARTITIONS
+    count as usize <= BLOCK_LIMIT
 }
 
 fn head_of(text: &[u8]) -> Head
-    ensures { λ r. ⌜ r ≡ headFound (now (text .entry)) ⌝ }
+    ensures { λ r. ⌜ r ≡ headFound blockLimit (now (text .entry)) ⌝ }
 {
     let f = fields::number_at(text, 0);
     let Field::Number { number: b, next: p } = f else {
@@ -107,25 +104,23 @@ fn head_of(text: &[u8]) -> Head
 // The numbers of a directory whose lengths and fences are the partition lines, or the refusal of the text.
 struct Listed {
     refusal: u32,
-    numbers: [u32; 130],
+    numbers: [u32; DIRECTORY_SIZE],
 }
 
 fn not_listed() -> Listed
-    ensures { λ r. ⌜ r ≡ notListed ⌝ }
+    ensures { λ r. ⌜ r ≡ notListed blockLimit ⌝ }
 {
     Listed {
         refusal: NOT_A_TEXT,
-        numbers: [0u32; 130],
+        numbers: [0u32; DIRECTORY_SIZE],
     }
 }
 
 fn list_parts(text: &[u8], block: u32, k: usize) -> Listed
-    requires { ⌜ k ≤ 64 ⌝ }
-    ensures { λ r. ⌜ r ≡ listedIn block k (now (text .entry)) ⌝ }
+    requires { ⌜ k ≤ blockLimit ⌝ }
+    ensures { λ r. ⌜ r ≡ listedIn blockLimit block k (now (text .entry)) ⌝ }
 {
-    let mut d = [0u32; 130];
-    d[0] = block;
-    d[1] = k as u32;
+    let mut d = directory::blank(block, k);
     let mut i = 0;
     let mut at = THREE;
     while i < k {
@@ -140,10 +135,7 @@ fn list_parts(text: &[u8], block: u32, k: usize) -> Listed
         if !lines::ends(text, e) {
             return not_listed();
         }
-        let x = LENGTHS + i;
-        let y = FENCES + i;
-        d[x] = n;
-        d[y] = m;
+        directory::put(&mut d[..], i, n, m);
         at += TWO;
         i += 1;
     }
@@ -261,19 +253,19 @@ fn judge_parts(text: &[u8], at: usize, lens: &[u32], fences: &[u32]) -> u32
 }
 
 // The refusal of a text whose fences do not rise, whose lengths do not add up to m or whose delivery lines are not right.
-fn judge_numbers(text: &[u8], start: usize, numbers: &[u32], k: usize, m: usize) -> u32
-    requires { ⌜ (length (now numbers) ≡ 130) × (k ≤ 64) × (start + 34 * m ≤ length (now text)) ⌝ }
-    ensures { λ r. ⌜ r ≡ textRefusal (numbersOk (now (text .entry)) start (now (numbers .entry)) k m) ⌝ }
+fn judge_numbers(text: &[u8], start: usize, numbers: &[u32], m: usize) -> u32
+    requires { ⌜ Numbered blockLimit (now numbers) × (start + 34 * m ≤ length (now text)) ⌝ }
+    ensures { λ r. ⌜ r ≡ textRefusal (numbersOk blockLimit (now (text .entry)) start (now (numbers .entry)) m) ⌝ }
 {
-    let a = LENGTHS + k;
-    let f = FENCES + k;
-    if !slices::strictly_rising(&numbers[FENCES..f]) {
+    let lens = directory::lengths(numbers);
+    let fences = directory::fences(numbers);
+    if !slices::strictly_rising(fences) {
         return NOT_A_TEXT;
     }
-    if slices::total(&numbers[LENGTHS..a]) != m as u64 {
+    if slices::total(lens) != m as u64 {
         return NOT_A_TEXT;
     }
-    judge_parts(text, start, &numbers[LENGTHS..a], &numbers[FENCES..f])
+    judge_parts(text, start, lens, fences)
 }
 
 // What judging a text finds: a refusal, or how many deliveries there are, where their lines start, and the directory.
@@ -281,23 +273,23 @@ struct Judged {
     refusal: u32,
     used: usize,
     start: usize,
-    directory: [u32; 130],
+    directory: [u32; DIRECTORY_SIZE],
 }
 
 fn not_judged(n: u32) -> Judged
-    ensures { λ r. ⌜ r ≡ notJudged n ⌝ }
+    ensures { λ r. ⌜ r ≡ notJudged blockLimit n ⌝ }
 {
     Judged {
         refusal: n,
         used: 0,
         start: 0,
-        directory: [0u32; 130],
+        directory: [0u32; DIRECTORY_SIZE],
     }
 }
 
 // Checks 12 and 14 of a text for c slots, in one pass over the text.
 fn judge(text: &[u8], c: usize) -> Judged
-    ensures { λ r. ⌜ r ≡ judgedOf (now (text .entry)) c ⌝ }
+    ensures { λ r. ⌜ r ≡ judgedOf blockLimit (now (text .entry)) c ⌝ }
 {
     let h = head_of(text);
     if h.refusal != 0 {
@@ -317,7 +309,7 @@ fn judge(text: &[u8], c: usize) -> Judged
         return not_judged(l.refusal);
     }
     let d = l.numbers;
-    let n = judge_numbers(text, start, &d, k, m);
+    let n = judge_numbers(text, start, &d, m);
     if n != 0 {
         return not_judged(n);
     }
@@ -330,18 +322,18 @@ fn judge(text: &[u8], c: usize) -> Judged
 }
 
 fn refused(n: u32) -> Applied
-    ensures { λ r. ⌜ r ≡ refusedRead n ⌝ }
+    ensures { λ r. ⌜ r ≡ refusedRead blockLimit n ⌝ }
 {
     Applied {
         refusal: n,
-        directory: [0u32; 130],
+        directory: [0u32; DIRECTORY_SIZE],
     }
 }
 
 // Reads a text into the slices: its directory, or a refusal, a directory of zeros and the slices as they were.
 pub fn read(text: &[u8], growers: &mut [u32], weights: &mut [u32], yields: &mut [u32]) -> Applied
-    ensures { λ r. ⌜ resultOf r (now (growers .exit)) (now (weights .exit)) (now (yields .exit))
-        ≡ readCall 64 (now (text .entry)) (now (growers .entry)) (now (weights .entry)) (now (yields .entry)) ⌝ }
+    ensures { λ r. ⌜ readOut r growers weights yields
+        ≡ readCall blockLimit (now (text .entry)) (now (growers .entry)) (now (weights .entry)) (now (yields .entry)) ⌝ }
 {
     if !checks::slices_ok(growers, weights, yields) {
         return refused(3);
@@ -377,7 +369,7 @@ fn put_parts(text: &mut [u8], at: usize, lens: &[u32], fences: &[u32])
 
 // The delivery lines from a byte on.
 fn put_rows(text: &mut [u8], at: usize, g: &[u32], w: &[u32], y: &[u32])
-    requires { ⌜ (length (now w) ≡ length (now g)) × (length (now y) ≡ length (now g)) × (at + 34 * length (now g) ≤ length (now text)) ⌝ }
+    requires { ⌜ Even (now g) (now w) (now y) × (at + 34 * length (now g) ≤ length (now text)) ⌝ }
     ensures { λ _. ⌜ now (text .exit) ≡ placed at (lines (map deliveryRow (rows (now (g .entry)) (now (w .entry)) (now (y .entry))))) (now (text .entry)) ⌝ }
 {
     let mut i = 0;
@@ -449,24 +441,25 @@ fn not_checked(n: u32) -> Checked
 }
 
 fn check_write(directory: &[u32], g: &[u32], w: &[u32], y: &[u32], room: usize) -> Checked
-    ensures { λ r. ⌜ r ≡ checkedOf (columnOf (now (directory .entry)) (now (g .entry)) (now (w .entry)) (now (y .entry))) room ⌝ }
+    ensures { λ r. ⌜ r ≡ checkedOf blockLimit (columnIn directory g w y) room ⌝ }
 {
-    let shape = checks::lent(directory, g, w, y, 0);
+    let shape = directory::lent(directory, g, w, y, 0);
     let n = shape.refusal;
     if n != 0 {
         return not_checked(n);
     }
     let m = shape.used;
-    let k = directory[1] as usize;
-    let a = LENGTHS + k;
-    let f = FENCES + k;
-    if !sound_ok(g, &directory[LENGTHS..a], &directory[FENCES..f]) {
+    if !sound_ok(
+        g,
+        directory::lengths(directory),
+        directory::fences(directory),
+    ) {
         return not_checked(6);
     }
     if !checks::values_ok(&w[..m], &y[..m]) {
         return not_checked(8);
     }
-    if room < THREE + TWO * k + THREE * m {
+    if room < THREE + TWO * directory::count(directory) + THREE * m {
         return not_checked(15);
     }
     Checked {
@@ -484,7 +477,7 @@ pub fn write(
     text: &mut [u8],
 ) -> Written
     ensures { λ r. ⌜ record { answer = r; text = now (text .exit) }
-        ≡ writeCall 64 (columnOf (now (directory .entry)) (now (growers .entry)) (now (weights .entry)) (now (yields .entry))) (now (text .entry)) ⌝ }
+        ≡ writeCall blockLimit (columnIn directory growers weights yields) (now (text .entry)) ⌝ }
 {
     let c = check_write(directory, growers, weights, yields, text.len());
     let n = c.refusal;
@@ -495,12 +488,15 @@ pub fn write(
         };
     }
     let m = c.used;
-    let k = directory[1] as usize;
-    let a = LENGTHS + k;
-    let f = FENCES + k;
+    let k = directory::count(directory);
     let start = THREE + TWO * k;
-    lines::put_three(text, 0, directory[0], m as u32, directory[1]);
-    put_parts(text, THREE, &directory[LENGTHS..a], &directory[FENCES..f]);
+    lines::put_three(text, 0, directory::block(directory), m as u32, k as u32);
+    put_parts(
+        text,
+        THREE,
+        directory::lengths(directory),
+        directory::fences(directory),
+    );
     put_rows(text, start, &growers[..m], &weights[..m], &yields[..m]);
     Written {
         refusal: 0,

@@ -56,11 +56,16 @@ loop-less c = omega arith
 loop-again : tie.Need-loop-again Inv-loop μ-loop
 loop-again c =
     λ ws ys.
-    fill-next blockLimit _ _ _ _ _ (c .before .before .before .before .before .before .loop-test .taken) (layout-same blockLimit _ _ _ _ _ ws ys _ (c .before .before .before .before .before .before .before .before .before .before .before .pre .1))
-    (c .before .before .before .before .before .before .before .loop .inv ws ys) _ _ _ (c .before .put .ensures) (c .before .before .before .before .block-stop .ensures [] ws ys) (c .before .before .before .last-grower .ensures ws ys)
+    fill-next blockLimit _ _ _ _ _ (c .before .before .before .before .before .before .loop-test .taken)
+    (layout-same blockLimit _ _ _ _ _ ws ys _ (c .before .before .before .before .before .before .before .before .before .before .before .pre .1))
+    (c .before .before .before .before .before .before .before .loop .inv ws ys) _ _ _ (c .before .put .ensures)
+    (c .before .before .before .before .block-stop .ensures [] ws ys) (c .before .before .before .last-grower .ensures ws ys)
 
 returns : tie.Need-returns Inv-loop μ-loop
 returns c = λ ws ys. fill-end blockLimit _ _ _ _ _ (c .loop-test .left) (c .before .loop .inv ws ys)
 
 pub directory-of-spec : {M : Type 1} → statement M
-directory-of-spec = tie.close (tie.spec Inv-loop μ-loop blank-requires loop-holds mul-e shared-slice-read-e block-stop-requires last-grower-requires slice-aggregate-put sub-put put-requires add-i loop-less loop-again returns)
+directory-of-spec =
+    tie.close
+    (tie.spec Inv-loop μ-loop blank-requires loop-holds mul-e shared-slice-read-e block-stop-requires last-grower-requires
+    slice-aggregate-put sub-put put-requires add-i loop-less loop-again returns)

@@ -1,19 +1,21 @@
 -- `layplan_text::judge_call` meets its contract: each number that is missing, the line's end, the kind or an unused number refuses the line. Assumes nothing.
 use Prim.Native.Nat.{ℕ}
-use mathlib.Core.Path.{_≡_, sym, ap, _∙_}
+use mathlib.Core.Path.{_≡_, sym, _∙_}
 use mathlib.Core.Bool.{true, false}
 use mathlib.Core.List.{List, [], _∷_, _++_}
 use native.Mathlib.Omega.{arith}
 use borrow.Author.Needs.{needs}
 use borrow.Author.Tests.{not-true, not-false}
-use Rattle.fields.specs.Reading.{readOf}
 use Rattle.lines.specs.Lines.{lineOk}
 use Rattle.lines.proofs.Reading.{Took, took-start, took-next, took-stop, took-end}
 use Rattle.layplan_text.proofs.CallLaws.{no-line, call-decided}
 use Rattle.layplan_text.proofs.judge_call.Statement.{statement}
 use Rattle.layplan_text.proofs.judge_call.Tie as tie
 
--- The numbers taken so far.
+-- The first i numbers of the line are taken.
+
+abbrev Taken : tie.Start → ℕ → ℕ → List ℕ → Type 0
+Taken s i e ns = Took (s .args .text .now) (s .args .at) 5 i e ns
 
 abbrev from-one : tie.After-f → tie.Start
 from-one c = c .before .before .before .before
@@ -21,56 +23,47 @@ from-one c = c .before .before .before .before
 abbrev ns-one : tie.After-f → List ℕ
 ns-one c = c .f .given .0 .0 ∷ []
 
-one : (c : tie.After-f) → Took (from-one c .args .text .now) (from-one c .args .at) 5 1 (c .f .given .0 .1 .0) (ns-one c)
-one c = took-next (took-start _ _ 5) (omega arith) _ (ap readOf (sym (c .f .given .1)) ∙ c .before .before .number-at .ensures)
+one : (c : tie.After-f) → Taken (from-one c) 1 (c .f .given .0 .1 .0) (ns-one c)
+one c = took-next (took-start _ _ 5) (omega arith) (c .before .before .number-at .ensures) (c .f .given .1)
 
 abbrev to-one : tie.After-g → tie.After-f
 to-one c = c .before .before .before .before
 
-abbrev from-two : tie.After-g → tie.Start
-from-two c = from-one (to-one c)
-
 abbrev ns-two : tie.After-g → List ℕ
 ns-two c = ns-one (to-one c) ++ c .g .given .0 .0 ∷ []
 
-two : (c : tie.After-g) → Took (from-two c .args .text .now) (from-two c .args .at) 5 2 (c .g .given .0 .1 .0) (ns-two c)
-two c = took-next (one (to-one c)) (omega arith) _ (ap readOf (sym (c .g .given .1)) ∙ c .before .before .number-at2 .ensures)
+two : (c : tie.After-g) → Taken (from-one (to-one c)) 2 (c .g .given .0 .1 .0) (ns-two c)
+two c = took-next (one (to-one c)) (omega arith) (c .before .before .number-at2 .ensures) (c .g .given .1)
 
 abbrev to-two : tie.After-h → tie.After-g
 to-two c = c .before .before .before .before
 
-abbrev from-three : tie.After-h → tie.Start
-from-three c = from-two (to-two c)
-
 abbrev ns-three : tie.After-h → List ℕ
 ns-three c = ns-two (to-two c) ++ c .h .given .0 .0 ∷ []
 
-three : (c : tie.After-h) → Took (from-three c .args .text .now) (from-three c .args .at) 5 3 (c .h .given .0 .1 .0) (ns-three c)
-three c = took-next (two (to-two c)) (omega arith) _ (ap readOf (sym (c .h .given .1)) ∙ c .before .before .number-at3 .ensures)
+three : (c : tie.After-h) → Taken (from-one (to-one (to-two c))) 3 (c .h .given .0 .1 .0) (ns-three c)
+three c = took-next (two (to-two c)) (omega arith) (c .before .before .number-at3 .ensures) (c .h .given .1)
 
 abbrev to-three : tie.After-i → tie.After-h
 to-three c = c .before .before .before .before
 
-abbrev from-four : tie.After-i → tie.Start
-from-four c = from-three (to-three c)
-
 abbrev ns-four : tie.After-i → List ℕ
 ns-four c = ns-three (to-three c) ++ c .i .given .0 .0 ∷ []
 
-four : (c : tie.After-i) → Took (from-four c .args .text .now) (from-four c .args .at) 5 4 (c .i .given .0 .1 .0) (ns-four c)
-four c = took-next (three (to-three c)) (omega arith) _ (ap readOf (sym (c .i .given .1)) ∙ c .before .before .number-at4 .ensures)
+four : (c : tie.After-i) → Taken (from-one (to-one (to-two (to-three c)))) 4 (c .i .given .0 .1 .0) (ns-four c)
+four c = took-next (three (to-three c)) (omega arith) (c .before .before .number-at4 .ensures) (c .i .given .1)
 
 abbrev to-four : tie.After-j → tie.After-i
 to-four c = c .before .before .before .before
 
 abbrev from-five : tie.After-j → tie.Start
-from-five c = from-four (to-four c)
+from-five c = from-one (to-one (to-two (to-three (to-four c))))
 
 abbrev ns-five : tie.After-j → List ℕ
 ns-five c = ns-four (to-four c) ++ c .j .given .0 .0 ∷ []
 
-five : (c : tie.After-j) → Took (from-five c .args .text .now) (from-five c .args .at) 5 5 (c .j .given .0 .1 .0) (ns-five c)
-five c = took-next (four (to-four c)) (omega arith) _ (ap readOf (sym (c .j .given .1)) ∙ c .before .before .number-at5 .ensures)
+five : (c : tie.After-j) → Taken (from-five c) 5 (c .j .given .0 .1 .0) (ns-five c)
+five c = took-next (four (to-four c)) (omega arith) (c .before .before .number-at5 .ensures) (c .j .given .1)
 
 -- an LF behind them: the line is good
 abbrev last : tie.Else1 → tie.After-j
@@ -89,7 +82,7 @@ enum-told : tie.Need-enum-told
 enum-told c = search needs
 
 returns : tie.Need-returns
-returns c = no-line _ _ (took-stop (took-start _ _ 5) (omega arith) (ap readOf (sym (c .enum-told .given .1)) ∙ c .before .before .number-at .ensures))
+returns c = no-line _ _ (took-stop (took-start _ _ 5) (omega arith) (c .before .before .number-at .ensures) (c .enum-told .given .1))
 
 number-at-requires-2 : tie.Need-number-at-requires-2
 number-at-requires-2 c κs = search needs
@@ -101,7 +94,7 @@ enum-told-2 : tie.Need-enum-told-2
 enum-told-2 c = search needs
 
 returns-2 : tie.Need-returns-2
-returns-2 c = no-line _ _ (took-stop (one (c .before .before .before .before)) (omega arith) (ap readOf (sym (c .enum-told2 .given .1)) ∙ c .before .before .number-at2 .ensures))
+returns-2 c = no-line _ _ (took-stop (one (c .before .before .before .before)) (omega arith) (c .before .before .number-at2 .ensures) (c .enum-told2 .given .1))
 
 number-at-requires-3 : tie.Need-number-at-requires-3
 number-at-requires-3 c κs = search needs
@@ -113,7 +106,7 @@ enum-told-3 : tie.Need-enum-told-3
 enum-told-3 c = search needs
 
 returns-3 : tie.Need-returns-3
-returns-3 c = no-line _ _ (took-stop (two (c .before .before .before .before)) (omega arith) (ap readOf (sym (c .enum-told3 .given .1)) ∙ c .before .before .number-at3 .ensures))
+returns-3 c = no-line _ _ (took-stop (two (c .before .before .before .before)) (omega arith) (c .before .before .number-at3 .ensures) (c .enum-told3 .given .1))
 
 number-at-requires-4 : tie.Need-number-at-requires-4
 number-at-requires-4 c κs = search needs
@@ -125,7 +118,7 @@ enum-told-4 : tie.Need-enum-told-4
 enum-told-4 c = search needs
 
 returns-4 : tie.Need-returns-4
-returns-4 c = no-line _ _ (took-stop (three (c .before .before .before .before)) (omega arith) (ap readOf (sym (c .enum-told4 .given .1)) ∙ c .before .before .number-at4 .ensures))
+returns-4 c = no-line _ _ (took-stop (three (c .before .before .before .before)) (omega arith) (c .before .before .number-at4 .ensures) (c .enum-told4 .given .1))
 
 number-at-requires-5 : tie.Need-number-at-requires-5
 number-at-requires-5 c κs = search needs
@@ -137,7 +130,7 @@ enum-told-5 : tie.Need-enum-told-5
 enum-told-5 c = search needs
 
 returns-5 : tie.Need-returns-5
-returns-5 c = no-line _ _ (took-stop (four (c .before .before .before .before)) (omega arith) (ap readOf (sym (c .enum-told5 .given .1)) ∙ c .before .before .number-at5 .ensures))
+returns-5 c = no-line _ _ (took-stop (four (c .before .before .before .before)) (omega arith) (c .before .before .number-at5 .ensures) (c .enum-told5 .given .1))
 
 ends-requires : tie.Need-ends-requires
 ends-requires c κs = search needs

@@ -8,6 +8,7 @@ use borrow.Author.Needs.{needs}
 use borrow.Author.Tests.{le-leb, lt-leb}
 use lib.Dec.{leb}
 use lib.ListN.{length}
+use Rattle.model.specs.Bounds.{mostDeliveries, mostCalls}
 use Rattle.model.proofs.Tests.{of-true}
 use Rattle.lines.specs.Lines.{textRefusal, linesOk}
 use Rattle.lines.proofs.Reading.{passed}
@@ -38,10 +39,10 @@ q c = c .spelled-at2 .result
 abbrev stops : tie.After-spelled-at2 → ℕ
 stops c = 91 + 34 * m c + 56 * q c
 
-few : (c : tie.After-spelled-at2) → m c ≤ 1024
+few : (c : tie.After-spelled-at2) → m c ≤ mostDeliveries
 few c = omega (arith, lines (c .before .before) .few, c .before .spelled-at .ensures)
 
-calls : (c : tie.After-spelled-at2) → q c ≤ 1000
+calls : (c : tie.After-spelled-at2) → q c ≤ mostCalls
 calls c = omega (arith, lines (c .before .before) .calls, c .spelled-at2 .ensures)
 
 -- The lines that are missing, and what the text's end decides then.

@@ -1,10 +1,11 @@
 -- `layplan_text::layplan_text` meets its contract: a text that is no input is refused by 14; of one that is, each slice takes its column and one free slot. Assumes nothing.
-use Prim.Native.Nat.{_<_}
+use Prim.Native.Nat.{_+_, _<_}
 use mathlib.Core.Path.{_≡_, sym}
 use mathlib.Core.Bool.{true}
 use native.Mathlib.Omega.{arith}
 use borrow.Author.Needs.{needs}
 use lib.Seq.{length-take-le}
+use Rattle.model.specs.Bounds.{mostDeliveries}
 use Rattle.model.proofs.Tests.{of-true}
 use Rattle.lines.proofs.Reading.{passed}
 use Rattle.layplan_text.specs.Week.{weekOk}
@@ -24,7 +25,7 @@ held c = deliveries _ _ (week (c .before)) (c .spelled-at .ensures)
 abbrev spelled : tie.After-yields2 → tie.After-spelled-at
 spelled c = c .before .before .before .before .before .before .before .before .before
 
-few : (c : tie.After-yields2) → spelled c .spelled-at .result < 1025
+few : (c : tie.After-yields2) → spelled c .spelled-at .result < mostDeliveries + 1
 few c = held (spelled c) .few
 
 -- The slices, each with its column.
@@ -75,22 +76,23 @@ add-c : tie.Need-add-c
 add-c c = search needs
 
 array-share-prefix-growers : tie.Need-array-share-prefix-growers
-array-share-prefix-growers c = omega (arith, stored-room _ 91 _ 1025 (few c) _ (growers c .store .ensures))
+array-share-prefix-growers c = omega (arith, stored-room _ 91 _ (mostDeliveries + 1) (few c) _ (growers c .store .ensures))
 
 slice-aggregate-answer : tie.Need-slice-aggregate-answer
-slice-aggregate-answer c = sym (length-take-le _ _ (omega (arith, stored-room _ 91 _ 1025 (few (c .before)) _ (growers (c .before) .store .ensures))))
+slice-aggregate-answer c = sym (length-take-le _ _ (omega (arith, stored-room _ 91 _ (mostDeliveries + 1) (few (c .before)) _ (growers (c .before) .store .ensures))))
 
 array-share-prefix-weights : tie.Need-array-share-prefix-weights
-array-share-prefix-weights c = omega (arith, stored-room _ 102 _ 1025 (few (c .before)) _ (weights (c .before) .store2 .ensures))
+array-share-prefix-weights c = omega (arith, stored-room _ 102 _ (mostDeliveries + 1) (few (c .before)) _ (weights (c .before) .store2 .ensures))
 
 slice-aggregate-answer-2 : tie.Need-slice-aggregate-answer-2
-slice-aggregate-answer-2 c = sym (length-take-le _ _ (omega (arith, stored-room _ 102 _ 1025 (few (c .before .before)) _ (weights (c .before .before) .store2 .ensures))))
+slice-aggregate-answer-2 c = sym (length-take-le _ _ (omega (arith, stored-room _ 102 _ (mostDeliveries + 1) (few (c .before .before)) _ (weights (c .before .before) .store2 .ensures))))
 
 array-share-prefix-yields : tie.Need-array-share-prefix-yields
-array-share-prefix-yields c = omega (arith, stored-room _ 113 _ 1025 (few (c .before .before)) _ (yields (c .before .before) .store3 .ensures))
+array-share-prefix-yields c = omega (arith, stored-room _ 113 _ (mostDeliveries + 1) (few (c .before .before)) _ (yields (c .before .before) .store3 .ensures))
 
 slice-aggregate-answer-3 : tie.Need-slice-aggregate-answer-3
-slice-aggregate-answer-3 c = sym (length-take-le _ _ (omega (arith, stored-room _ 113 _ 1025 (few (c .before .before .before)) _ (yields (c .before .before .before) .store3 .ensures))))
+slice-aggregate-answer-3 c =
+    sym (length-take-le _ _ (omega (arith, stored-room _ 113 _ (mostDeliveries + 1) (few (c .before .before .before)) _ (yields (c .before .before .before) .store3 .ensures))))
 
 answer-requires : tie.Need-answer-requires
 answer-requires c κs = of-true _ (week (spelled (c .before .before .before) .before))

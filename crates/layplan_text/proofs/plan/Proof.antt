@@ -2,6 +2,7 @@
 use mathlib.Core.Path.{sym}
 use borrow.Author.Needs.{needs}
 use lib.Seq.{length-take-le}
+use Rattle.model.specs.Bounds.{blockLimit}
 use Rattle.layplan_text.proofs.WeekLaws.{head}
 use Rattle.layplan_text.proofs.AnswerLaws.{Prices, plan-refuses, plan-fits, plan-few, plan-prints}
 use Rattle.layplan_text.proofs.plan.Statement.{statement}
@@ -44,7 +45,7 @@ refused-requires c κs = search needs
 returns : tie.Need-returns
 returns c =
     let p = prices (c .before .before .before .before .before) in
-    plan-refuses _ _ _ _ _ p _ _ (c .before .before .before .plan .ensures) _ (c .before .if1 .taken) (c .refused .ensures)
+    plan-refuses blockLimit _ _ _ _ _ p _ _ (c .before .before .before .plan .ensures) _ (c .before .if1 .taken) (c .refused .ensures)
 
 cast-k : tie.Need-cast-k
 cast-k c = search needs
@@ -52,24 +53,24 @@ cast-k c = search needs
 array-share-prefix-ends : tie.Need-array-share-prefix-ends
 array-share-prefix-ends c =
     let p = prices (c .before .before .before .before .before) in
-    plan-fits _ _ _ _ _ p _ _ (c .before .before .before .plan .ensures) (c .before .if1 .left) .count-in
+    plan-fits blockLimit _ _ _ _ _ p _ _ (c .before .before .before .plan .ensures) (c .before .if1 .left) .count-in
 
 slice-aggregate-planned : tie.Need-slice-aggregate-planned
 slice-aggregate-planned c =
     let p = prices (c .before .before .before .before .before .before) in
-    sym (length-take-le _ _ (plan-fits _ _ _ _ _ p _ _ (c .before .before .before .before .plan .ensures) (c .before .before .if1 .left) .count-in))
+    sym (length-take-le _ _ (plan-fits blockLimit _ _ _ _ _ p _ _ (c .before .before .before .before .plan .ensures) (c .before .before .if1 .left) .count-in))
 
 planned-requires : tie.Need-planned-requires
 planned-requires c κs =
     let p = prices (c .before .before .before .before .before .before .before) in
     let e = c .before .before .before .before .before .plan .ensures in
     let z = c .before .before .before .if1 .left in
-    (plan-few _ _ _ _ _ p _ _ e z, plan-fits _ _ _ _ _ p _ _ e z .fit)
+    (plan-few blockLimit _ _ _ _ _ p _ _ e z, plan-fits blockLimit _ _ _ _ _ p _ _ e z .fit)
 
 returns-2 : tie.Need-returns-2
 returns-2 c =
     let p = prices (c .before .before .before .before .before .before .before .before) in
-    plan-prints _ _ _ _ _ p _ _ (c .before .before .before .before .before .before .plan .ensures) _ (c .before .before .before .before .if1 .left)
+    plan-prints blockLimit _ _ _ _ _ p _ _ (c .before .before .before .before .before .before .plan .ensures) _ (c .before .before .before .before .if1 .left)
     (record { sfits = c .before .struct-told .given .1 .1 .0 .1 }) (c .planned .ensures)
 
 pub plan-spec : {M : Type 1} → statement M

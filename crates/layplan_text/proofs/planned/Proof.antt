@@ -3,6 +3,7 @@ use Prim.Native.Nat.{ℕ}
 use mathlib.Core.Path.{sym}
 use borrow.Author.Needs.{needs}
 use lib.ListN.{replicate, length-replicate}
+use Rattle.layplan_text.specs.Texts.{outputSize}
 use Rattle.layplan_text.proofs.Outputs.{bill-put, output-is, length-ends-text, ends-room, plan-put}
 use Rattle.layplan_text.proofs.planned.Statement.{statement}
 use Rattle.layplan_text.proofs.planned.Tie as tie
@@ -31,9 +32,9 @@ slice-aggregate-put-ends c = search needs
 put-ends-requires : tie.Need-put-ends-requires
 put-ends-requires c κs =
     let s = c .before .before .before .before .before .before .before .before in
-    let z = length-replicate {A = ℕ} 1504 0 in
+    let z = length-replicate {A = ℕ} outputSize 0 in
     let b = bill-put _ _ _ (s .fits .cost) (c .before .before .put-signed .ensures) in
-    (ends-room (s .args .cost) (s .args .ends .now) (replicate 1504 0) _ _ z (s .pre .0) (c .before .before .before .before .before .put-number .ensures) b, s .pre .1)
+    (ends-room (s .args .cost) (s .args .ends .now) (replicate outputSize 0) _ _ z (s .pre .0) (c .before .before .before .before .before .put-number .ensures) b, s .pre .1)
 
 mul-count : tie.Need-mul-count
 mul-count c = search needs
@@ -44,7 +45,7 @@ add-count c = search needs
 returns : tie.Need-returns
 returns c =
     let s = c .before .before .before .before .before .before .before .before .before .before in
-    let z = length-replicate {A = ℕ} 1504 0 in
+    let z = length-replicate {A = ℕ} outputSize 0 in
     let b = bill-put _ _ _ (s .fits .cost) (c .before .before .before .before .put-signed .ensures) in
     output-is _ _ _ (plan-put _ _ _ _ _ z (s .pre .0) (c .before .before .before .before .before .before .before .put-number .ensures) b _ (c .before .put-ends .ensures)) (sym (length-ends-text _ _))
 

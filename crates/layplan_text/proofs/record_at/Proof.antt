@@ -1,5 +1,6 @@
 -- `layplan_text::record_at` meets its contract: the kind says which call of the recorder the line is. Assumes nothing.
 use borrow.Author.Needs.{needs}
+use Rattle.model.specs.Bounds.{blockLimit}
 use Rattle.layplan_text.proofs.CallLaws.{Four, first-field, later-fields, found-at, ranged-at, inserted-at, deleted-at, moved-at}
 use Rattle.layplan_text.proofs.record_at.Statement.{statement}
 use Rattle.layplan_text.proofs.record_at.Tie as tie
@@ -48,7 +49,7 @@ same-length : tie.Need-same-length
 same-length c = search needs
 
 returns : tie.Need-returns
-returns c = found-at (four (c .before .before .before .before .before)) _ _ _ (c .before .before .before .before .if1 .taken) (c .before .before .record-find .ensures)
+returns c = found-at blockLimit (four (c .before .before .before .before .before)) _ _ _ (c .before .before .before .before .if1 .taken) (c .before .before .record-find .ensures)
 
 record-range-requires : tie.Need-record-range-requires
 record-range-requires c κs = search needs
@@ -57,7 +58,7 @@ same-length-2 : tie.Need-same-length-2
 same-length-2 c = search needs
 
 returns-2 : tie.Need-returns-2
-returns-2 c = ranged-at (four (c .before .before .before .before .before .before)) _ _ _ (c .before .before .before .before .if2 .taken) (c .before .before .record-range .ensures)
+returns-2 c = ranged-at blockLimit (four (c .before .before .before .before .before .before)) _ _ _ (c .before .before .before .before .if2 .taken) (c .before .before .record-range .ensures)
 
 record-insert-requires : tie.Need-record-insert-requires
 record-insert-requires c κs = search needs
@@ -66,7 +67,8 @@ same-length-3 : tie.Need-same-length-3
 same-length-3 c = search needs
 
 returns-3 : tie.Need-returns-3
-returns-3 c = inserted-at (four (c .before .before .before .before .before .before .before)) _ _ _ (c .before .before .before .before .if3 .taken) (c .before .before .record-insert .ensures)
+returns-3 c =
+    inserted-at blockLimit (four (c .before .before .before .before .before .before .before)) _ _ _ (c .before .before .before .before .if3 .taken) (c .before .before .record-insert .ensures)
 
 record-delete-requires : tie.Need-record-delete-requires
 record-delete-requires c κs = search needs
@@ -75,7 +77,8 @@ same-length-4 : tie.Need-same-length-4
 same-length-4 c = search needs
 
 returns-4 : tie.Need-returns-4
-returns-4 c = deleted-at (four (c .before .before .before .before .before .before .before .before)) _ _ _ (c .before .before .before .before .if4 .taken) (c .before .before .record-delete .ensures)
+returns-4 c =
+    deleted-at blockLimit (four (c .before .before .before .before .before .before .before .before)) _ _ _ (c .before .before .before .before .if4 .taken) (c .before .before .record-delete .ensures)
 
 add-spelled-at-3 : tie.Need-add-spelled-at-3
 add-spelled-at-3 c = search needs
@@ -95,7 +98,7 @@ same-length-5 c = search needs
 returns-5 : tie.Need-returns-5
 returns-5 c =
     let e = c .before .before .before .before .before in
-    moved-at (four (e .before .before .before .before)) _ _ _ _ (c .before .before .before .before .spelled-at5 .ensures)
+    moved-at blockLimit (four (e .before .before .before .before)) _ _ _ _ (c .before .before .before .before .spelled-at5 .ensures)
     (e .before .before .before .if1 .left) (e .before .before .if2 .left) (e .before .if3 .left) (e .if4 .left) (c .before .before .record-move .ensures)
 
 pub record-at-spec : {M : Type 1} → statement M

@@ -2,7 +2,7 @@
 use Prim.Native.Nat.{_-_}
 use native.Mathlib.Omega.{arith}
 use borrow.Author.Needs.{needs}
-use Rattle.checks.specs.Lent.{setOf}
+use Rattle.model.specs.Lent.{setOf}
 use Rattle.layplan_text.proofs.CallLaws.{RecordsLeft, records-start, next-line, records-stop, records-next, records-end}
 use Rattle.layplan_text.proofs.record_lines.Statement.{statement}
 use Rattle.layplan_text.proofs.record_lines.Tie as tie

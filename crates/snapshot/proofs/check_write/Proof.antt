@@ -1,17 +1,22 @@
--- `snapshot::check_write` meets its contract: past the shape, the column is `Lent`, and each test is the check that it is named for. Assumes nothing.
-use mathlib.Core.Path.{_≡_, refl, sym, _∙_}
+-- `snapshot::check_write` meets its contract: past the shape, each test is the check that it is named for. Assumes nothing.
+use mathlib.Core.Path.{_≡_, refl, sym, ap₂, _∙_}
 use mathlib.Core.Bool.{true}
+use mathlib.Core.List.{List}
+use Prim.Native.Nat.{ℕ, _≤_}
 use native.Mathlib.Omega.{arith}
 use borrow.Author.Needs.{needs}
 use borrow.Author.Tests.{not-true, not-false}
+use lib.ListN.{length}
 use lib.Seq.{length-take-le}
-use Rattle.model.specs.Lists.{sumOf, every}
+use Rattle.model.specs.Bounds.{blockLimit, mostSlots}
+use Rattle.model.specs.Lists.{every}
 use Rattle.model.specs.Deliveries.{inRange}
-use Rattle.model.specs.Column.{Column, lengthsOf, allRecords, sound}
+use Rattle.model.specs.Column.{Column, soundGrowers, allRecords, sound}
+use Rattle.model.specs.Lent.{columnOf}
 use Rattle.model.specs.Questions.{lentChecks}
-use Rattle.checks.specs.Lent.{columnOf}
-use Rattle.checks.proofs.Answers.{Carried, shape-refusal, carried}
-use Rattle.snapshot.proofs.WriteAnswers.{Lent, lent-is, asked, check-lent, sound-is, values-there, check-sound, check-values, check-room, check-passed}
+use Rattle.directory.proofs.Shapes.{Carried, shape-refusal, carried}
+use Rattle.directory.proofs.LentColumns.{LentColumn, lent-column, numbered}
+use Rattle.snapshot.proofs.WriteAnswers.{check-lent, parts-lent, values-there, check-sound, check-values, check-room, check-passed}
 use Rattle.snapshot.proofs.check_write.Statement.{statement}
 use Rattle.snapshot.proofs.check_write.Tie as tie
 
@@ -23,25 +28,40 @@ lent s = columnOf (s .args .directory .now) (s .args .g .now) (s .args .w .now) 
 abbrev col : tie.Else1 → Column
 col c = lent (c .before .before .before .before .before .before)
 
-carry : (c : tie.Else1) → Carried (lentChecks 64 (col c)) (col c .directory) 0 (c .before .lent .result)
-carry c = carried (lentChecks 64 (col c)) (col c .directory) 0 _ (c .before .lent .ensures) (c .if1 .left)
+carry : (c : tie.Else1) → Carried blockLimit (lentChecks blockLimit (col c)) (col c .directory) 0 (c .before .lent .result)
+carry c = carried blockLimit (lentChecks blockLimit (col c)) (col c .directory) 0 _ (c .before .lent .ensures) (c .if1 .left)
 
-held : (c : tie.Else1) → Lent (col c)
-held c = lent-is (col c) (carry c .passed)
+held : (c : tie.Else1) → LentColumn blockLimit (col c)
+held c = lent-column blockLimit (col c) (carry c .passed)
 
-used : (c : tie.Else1) → c .before .lent .result .used ≡ sumOf (lengthsOf 64 (col c))
-used c = carry c .used
+-- the used slots are there, and few
+used : (c : tie.Else1) → (c .before .lent .result .used ≤ length (col c .growers)) × (c .before .lent .result .used ≤ mostSlots)
+used c = let l = held c in let u = carry c .used in (omega (arith, u, l .shape .room), omega (arith, u, l .shape .room, l .most))
 
-is-sound : (c : tie.After-sound-ok) → sound 64 (col (c .before .before .before .before)) ≡ c .sound-ok .result
-is-sound c = sound-is (col (c .before .before .before .before)) (held (c .before .before .before .before)) _ (c .sound-ok .ensures)
+-- soundness tested, and passed
+abbrev shaped : tie.After-sound-ok → tie.Else1
+shaped c = c .before .before .before
 
-sound-there : (c : tie.Else2) → sound 64 (col (c .before .before .before .before .before)) ≡ true
+is-sound : (c : tie.After-sound-ok) → sound blockLimit (col (shaped c)) ≡ c .sound-ok .result
+unfolding sound
+is-sound c = sym (c .sound-ok .ensures ∙ ap₂ (λ (a b : List ℕ). soundGrowers a b (col (shaped c) .growers)) (c .before .before .lengths .ensures) (c .before .fences .ensures))
+
+sound-there : (c : tie.Else2) → sound blockLimit (col (shaped (c .before))) ≡ true
 sound-there c = is-sound (c .before) ∙ not-false _ (c .if2 .left)
 
-in-range : (c : tie.After-values-ok) → every inRange (allRecords 64 (col (c .before .before .before .before .before .before .before .before))) ≡ c .values-ok .result
-in-range c =
-    values-there (col (c .before .before .before .before .before .before .before .before)) (held (c .before .before .before .before .before .before .before .before)) _ _
-    (used (c .before .before .before .before .before .before .before .before)) (c .values-ok .ensures)
+-- the values tested
+abbrev good : tie.After-values-ok → tie.Else2
+good c = c .before .before .before
+
+in-range : (c : tie.After-values-ok) → every inRange (allRecords blockLimit (col (shaped (good c .before)))) ≡ c .values-ok .result
+in-range c = let e = shaped (good c .before) in values-there blockLimit (col e) (held e) _ _ (carry e .used) (c .values-ok .ensures)
+
+-- the text's length fits
+abbrev counted : tie.After-count → tie.Else1
+counted c = shaped (good (c .before .before) .before)
+
+fits : (c : tie.After-count) → (c .count .result ≤ blockLimit) × (counted c .before .lent .result .used ≤ mostSlots)
+fits c = (omega (arith, c .count .ensures, held (counted c) .shape .few), used (counted c) .1)
 
 lent-requires : tie.Need-lent-requires
 lent-requires c κs = search needs
@@ -52,58 +72,33 @@ not-checked-requires c κs = search needs
 returns : tie.Need-returns
 returns c =
     let s = c .before .before .before .before .before .before .before in
-    check-lent (lent s) _ _ _ (shape-refusal (lentChecks 64 (lent s)) _ 0 _ (c .before .before .lent .ensures)) (c .before .if1 .taken) (c .not-checked .ensures)
+    check-lent blockLimit (lent s) _ _ _ (shape-refusal blockLimit (lentChecks blockLimit (lent s)) _ 0 _ (c .before .before .lent .ensures)) (c .before .if1 .taken) (c .not-checked .ensures)
 
-shared-slice-read-k : tie.Need-shared-slice-read-k
-shared-slice-read-k c = omega (arith, held (c .before) .size, held (c .before) .few)
+lengths-requires : tie.Need-lengths-requires
+lengths-requires c κs = numbered blockLimit (col c) (held c)
 
-cast-k : tie.Need-cast-k
-cast-k c = omega (arith, held (c .before) .size, held (c .before) .few)
-
-add-a : tie.Need-add-a
-add-a c = omega (arith, held (c .before) .size, held (c .before) .few)
-
-add-f : tie.Need-add-f
-add-f c = omega (arith, held (c .before) .size, held (c .before) .few)
-
-sub-sound-ok : tie.Need-sub-sound-ok
-sub-sound-ok c = search needs
-
-part-sound-ok-start : tie.Need-part-sound-ok-start
-part-sound-ok-start c = search needs
-
-part-sound-ok-end : tie.Need-part-sound-ok-end
-part-sound-ok-end c = omega (arith, held (c .before) .size, held (c .before) .few)
-
-sub-sound-ok-2 : tie.Need-sub-sound-ok-2
-sub-sound-ok-2 c = search needs
-
-part-sound-ok-start-2 : tie.Need-part-sound-ok-start-2
-part-sound-ok-start-2 c = search needs
-
-part-sound-ok-end-2 : tie.Need-part-sound-ok-end-2
-part-sound-ok-end-2 c = omega (arith, held (c .before .before) .size, held (c .before .before) .few)
+fences-requires : tie.Need-fences-requires
+fences-requires c κs = numbered blockLimit (col (c .before)) (held (c .before))
 
 sound-ok-requires : tie.Need-sound-ok-requires
-sound-ok-requires c κs = let a = asked (col (c .before .before .before)) (held (c .before .before .before)) in (a .even, a .rises, a .room)
+sound-ok-requires c κs =
+    let e = c .before .before in
+    let p = parts-lent blockLimit (col e) (held e) (c .before .lengths .ensures) (c .fences .ensures) in
+    (p .even, p .rises, p .room)
 
 not-checked-requires-2 : tie.Need-not-checked-requires-2
 not-checked-requires-2 c κs = search needs
 
 returns-2 : tie.Need-returns-2
 returns-2 c =
-    check-sound (col (c .before .before .before .before .before .before)) _ (held (c .before .before .before .before .before .before)) _
-    (is-sound (c .before .before) ∙ not-true _ (c .before .if2 .taken)) (c .not-checked2 .ensures)
+    let e = shaped (c .before .before) in
+    check-sound blockLimit (col e) _ (carry e .passed) _ (is-sound (c .before .before) ∙ not-true _ (c .before .if2 .taken)) (c .not-checked2 .ensures)
 
 slice-aggregate-values-ok : tie.Need-slice-aggregate-values-ok
-slice-aggregate-values-ok c =
-    let l = held (c .before .before .before .before .before .before) in
-    sym (length-take-le _ _ (omega (arith, used (c .before .before .before .before .before .before), l .room, l .sl .weights)))
+slice-aggregate-values-ok c = let e = shaped (c .before .before) in sym (length-take-le _ _ (omega (arith, used e .0, held e .even .weights)))
 
 slice-aggregate-values-ok-2 : tie.Need-slice-aggregate-values-ok-2
-slice-aggregate-values-ok-2 c =
-    let l = held (c .before .before .before .before .before .before .before) in
-    sym (length-take-le _ _ (omega (arith, used (c .before .before .before .before .before .before .before), l .room, l .sl .yields)))
+slice-aggregate-values-ok-2 c = let e = shaped (c .before .before .before) in sym (length-take-le _ _ (omega (arith, used e .0, held e .even .yields)))
 
 values-ok-requires : tie.Need-values-ok-requires
 values-ok-requires c κs = search needs
@@ -113,47 +108,43 @@ not-checked-requires-3 c κs = search needs
 
 returns-3 : tie.Need-returns-3
 returns-3 c =
-    check-values (col (c .before .before .before .before .before .before .before .before .before .before)) _
-    (held (c .before .before .before .before .before .before .before .before .before .before)) _ (sound-there (c .before .before .before .before .before))
-    (in-range (c .before .before) ∙ not-true _ (c .before .if3 .taken)) (c .not-checked3 .ensures)
+    let v = c .before .before in
+    let e = shaped (good v .before) in
+    check-values blockLimit (col e) _ (carry e .passed) (sound-there (good v)) _ (in-range v ∙ not-true _ (c .before .if3 .taken)) (c .not-checked3 .ensures)
+
+count-requires : tie.Need-count-requires
+count-requires c κs = held (shaped (good (c .before) .before)) .shape .size
 
 mul-if4 : tie.Need-mul-if4
-mul-if4 c =
-    let l = held (c .before .before .before .before .before .before .before .before .before) in
-    omega (arith, l .few, used (c .before .before .before .before .before .before .before .before .before), l .room, l .sl .most)
+mul-if4 c = let f = fits c in omega (arith, f .0, f .1)
 
 add-if4 : tie.Need-add-if4
-add-if4 c =
-    let l = held (c .before .before .before .before .before .before .before .before .before) in
-    omega (arith, l .few, used (c .before .before .before .before .before .before .before .before .before), l .room, l .sl .most)
+add-if4 c = let f = fits c in omega (arith, f .0, f .1)
 
 mul-if4-2 : tie.Need-mul-if4-2
-mul-if4-2 c =
-    let l = held (c .before .before .before .before .before .before .before .before .before) in
-    omega (arith, l .few, used (c .before .before .before .before .before .before .before .before .before), l .room, l .sl .most)
+mul-if4-2 c = let f = fits c in omega (arith, f .0, f .1)
 
 add-if4-2 : tie.Need-add-if4-2
-add-if4-2 c =
-    let l = held (c .before .before .before .before .before .before .before .before .before) in
-    omega (arith, l .few, used (c .before .before .before .before .before .before .before .before .before), l .room, l .sl .most)
+add-if4-2 c = let f = fits c in omega (arith, f .0, f .1)
 
 not-checked-requires-4 : tie.Need-not-checked-requires-4
 not-checked-requires-4 c κs = search needs
 
 returns-4 : tie.Need-returns-4
 returns-4 c =
-    check-room (col (c .before .before .before .before .before .before .before .before .before .before .before)) _
-    (held (c .before .before .before .before .before .before .before .before .before .before .before)) _ (sound-there (c .before .before .before .before .before .before))
-    (in-range (c .before .before .before) ∙ not-false _ (c .before .before .if3 .left))
-    (omega (arith, used (c .before .before .before .before .before .before .before .before .before .before .before), c .before .if4 .taken)) (c .not-checked4 .ensures)
+    let k = c .before .before in
+    let v = k .before .before in
+    let e = counted k in
+    check-room blockLimit (col e) _ (carry e .passed) (sound-there (good v)) (in-range v ∙ not-false _ (k .before .if3 .left)) _
+    (omega (arith, carry e .used, k .count .ensures)) (c .not-checked4 .ensures)
 
 returns-5 : tie.Need-returns-5
 returns-5 c =
-    check-passed (col (c .before .before .before .before .before .before .before .before .before .before)) _
-    (held (c .before .before .before .before .before .before .before .before .before .before)) _ _ (sound-there (c .before .before .before .before .before))
-    (in-range (c .before .before) ∙ not-false _ (c .before .if3 .left))
-    (omega (arith, used (c .before .before .before .before .before .before .before .before .before .before), c .if4 .left))
-    (used (c .before .before .before .before .before .before .before .before .before .before)) refl
+    let k = c .before in
+    let v = k .before .before in
+    let e = counted k in
+    check-passed blockLimit (col e) _ (carry e .passed) (sound-there (good v)) (in-range v ∙ not-false _ (k .before .if3 .left)) _ _
+    (omega (arith, carry e .used, k .count .ensures)) (carry e .used) refl
 
 pub check-write-spec : {M : Type 1} → statement M
 check-write-spec =
@@ -162,16 +153,8 @@ check-write-spec =
     lent-requires
     not-checked-requires
     returns
-    shared-slice-read-k
-    cast-k
-    add-a
-    add-f
-    sub-sound-ok
-    part-sound-ok-start
-    part-sound-ok-end
-    sub-sound-ok-2
-    part-sound-ok-start-2
-    part-sound-ok-end-2
+    lengths-requires
+    fences-requires
     sound-ok-requires
     not-checked-requires-2
     returns-2
@@ -180,6 +163,7 @@ check-write-spec =
     values-ok-requires
     not-checked-requires-3
     returns-3
+    count-requires
     mul-if4
     add-if4
     mul-if4-2

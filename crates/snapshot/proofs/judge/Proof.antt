@@ -3,25 +3,26 @@ use Prim.Native.Nat.{_≤_}
 use mathlib.Core.Path.{_≡_, refl}
 use native.Mathlib.Omega.{arith}
 use borrow.Author.Needs.{needs}
+use Rattle.model.specs.Bounds.{blockLimit, mostSlots}
 use Rattle.snapshot.specs.Texts.{headFound}
-use Rattle.snapshot.proofs.ReadAnswers.{few, most, answer-no-head, answer-few, answer-size, answer-lines, answer-numbers, answer-yes}
+use Rattle.snapshot.proofs.ReadAnswers.{few, most, answer-no-head, answer-few, answer-size, answer-lines, numbers-listed, answer-numbers, answer-yes}
 use Rattle.snapshot.proofs.judge.Statement.{statement}
 use Rattle.snapshot.proofs.judge.Tie as tie
 
 -- Line 1, once it is accepted, and once there are slots enough.
 
-head : (c : tie.Else1) → c .before .before .head-of .result ≡ headFound (c .before .before .before .before .args .text .now)
+head : (c : tie.Else1) → c .before .before .head-of .result ≡ headFound blockLimit (c .before .before .before .before .args .text .now)
 head c = c .before .before .head-of .ensures
 
 abbrev accepted : tie.Else2 → tie.Else1
 accepted c = c .before .before
 
 -- it is in range
-count : (c : tie.Else1) → c .before .before .head-of .result .count ≤ 64
-count c = few _ _ (head c) (c .if1 .left)
+count : (c : tie.Else1) → c .before .before .head-of .result .count ≤ blockLimit
+count c = few blockLimit _ _ (head c) (c .if1 .left)
 
-used : (c : tie.Else1) → c .before .before .head-of .result .used ≤ 262144
-used c = most _ _ (head c) (c .if1 .left)
+used : (c : tie.Else1) → c .before .before .head-of .result .used ≤ mostSlots
+used c = most blockLimit _ _ (head c) (c .if1 .left)
 
 head-of-requires : tie.Need-head-of-requires
 head-of-requires c κs = search needs
@@ -30,7 +31,7 @@ not-judged-requires : tie.Need-not-judged-requires
 not-judged-requires c κs = search needs
 
 returns : tie.Need-returns
-returns c = answer-no-head _ _ _ _ (c .before .before .before .head-of .ensures) (c .before .if1 .taken) (c .not-judged .ensures)
+returns c = answer-no-head blockLimit _ _ _ _ (c .before .before .before .head-of .ensures) (c .before .if1 .taken) (c .not-judged .ensures)
 
 cast-m : tie.Need-cast-m
 cast-m c = search needs
@@ -39,7 +40,7 @@ not-judged-requires-2 : tie.Need-not-judged-requires-2
 not-judged-requires-2 c κs = search needs
 
 returns-2 : tie.Need-returns-2
-returns-2 c = answer-few _ _ _ _ (head (c .before .before .before)) (c .before .before .before .if1 .left) (c .before .if2 .taken) (c .not-judged2 .ensures)
+returns-2 c = answer-few blockLimit _ _ _ _ (head (c .before .before .before)) (c .before .before .before .if1 .left) (c .before .if2 .taken) (c .not-judged2 .ensures)
 
 cast-k : tie.Need-cast-k
 cast-k c = search needs
@@ -61,7 +62,7 @@ not-judged-requires-3 c κs = search needs
 
 returns-3 : tie.Need-returns-3
 returns-3 c =
-    answer-size _ _ _ _ (head (accepted (c .before .before .before))) (accepted (c .before .before .before) .if1 .left) (c .before .before .before .if2 .left)
+    answer-size blockLimit _ _ _ _ (head (accepted (c .before .before .before))) (accepted (c .before .before .before) .if1 .left) (c .before .before .before .if2 .left)
     (λ z. omega (arith, z)) (c .not-judged3 .ensures)
 
 list-parts-requires : tie.Need-list-parts-requires
@@ -72,21 +73,23 @@ not-judged-requires-4 c κs = search needs
 
 returns-4 : tie.Need-returns-4
 returns-4 c =
-    answer-lines _ _ _ _ (head (accepted (c .before .before .before .before .before .before))) (accepted (c .before .before .before .before .before .before) .if1 .left)
+    answer-lines blockLimit _ _ _ _ (head (accepted (c .before .before .before .before .before .before))) (accepted (c .before .before .before .before .before .before) .if1 .left)
     (c .before .before .before .before .before .before .if2 .left) _ (c .before .before .before .list-parts .ensures) (c .before .if4 .taken) (c .not-judged4 .ensures)
 
 slice-aggregate-judge-numbers : tie.Need-slice-aggregate-judge-numbers
 slice-aggregate-judge-numbers c = search needs
 
 judge-numbers-requires : tie.Need-judge-numbers-requires
-judge-numbers-requires c κs = (search needs, count (c .before .before .before .before .before .before .before .before .before), omega arith)
+judge-numbers-requires c κs =
+    let e = accepted (c .before .before .before .before .before .before .before) in
+    (numbers-listed blockLimit _ _ (head e) (e .if1 .left) _ (c .before .before .before .before .list-parts .ensures) (c .before .before .if4 .left), omega arith)
 
 not-judged-requires-5 : tie.Need-not-judged-requires-5
 not-judged-requires-5 c κs = search needs
 
 returns-5 : tie.Need-returns-5
 returns-5 c =
-    answer-numbers _ _ _ _ (head (accepted (c .before .before .before .before .before .before .before .before .before .before)))
+    answer-numbers blockLimit _ _ _ _ (head (accepted (c .before .before .before .before .before .before .before .before .before .before)))
     (accepted (c .before .before .before .before .before .before .before .before .before .before) .if1 .left)
     (c .before .before .before .before .before .before .before .before .before .before .if2 .left) _
     (c .before .before .before .before .before .before .before .list-parts .ensures) (c .before .before .before .before .before .if4 .left) (omega arith) _
@@ -94,7 +97,7 @@ returns-5 c =
 
 returns-6 : tie.Need-returns-6
 returns-6 c =
-    answer-yes _ _ _ _ (head (accepted (c .before .before .before .before .before .before .before .before .before)))
+    answer-yes blockLimit _ _ _ _ (head (accepted (c .before .before .before .before .before .before .before .before .before)))
     (accepted (c .before .before .before .before .before .before .before .before .before) .if1 .left)
     (c .before .before .before .before .before .before .before .before .before .if2 .left) _ (c .before .before .before .before .before .before .list-parts .ensures)
     (c .before .before .before .before .if4 .left) (omega arith) _ (c .before .judge-numbers .ensures) (c .if5 .left) refl

@@ -1,5 +1,5 @@
 -- `snapshot::judge_delivery` meets its contract: each number that is missing, the line's end, the fences or the range refuses the line. Assumes nothing.
-use mathlib.Core.Path.{_≡_, sym, ap, _∙_}
+use mathlib.Core.Path.{_≡_, sym, _∙_}
 use mathlib.Core.Bool.{true}
 use Prim.Native.Nat.{ℕ}
 use mathlib.Core.List.{List, [], _∷_}
@@ -7,7 +7,6 @@ use native.Mathlib.Omega.{arith}
 use borrow.Author.Needs.{needs}
 use borrow.Author.Tests.{not-true, not-false}
 use Rattle.lines.specs.Lines.{lineOk}
-use Rattle.fields.specs.Reading.{readOf}
 use Rattle.lines.proofs.Reading.{Took, took-start, took-next, took-stop, took-end}
 use Rattle.snapshot.proofs.Judging.{line-fails, below-low, above-high, out-of-range, delivery-good}
 use Rattle.snapshot.proofs.judge_delivery.Statement.{statement}
@@ -19,13 +18,13 @@ abbrev from : tie.After-f → tie.Start
 from c = c .before .before .before .before
 
 one : (c : tie.After-f) → Took (from c .args .text .now) (from c .args .at) 3 1 (c .f .given .0 .1 .0) (c .f .given .0 .0 ∷ [])
-one c = took-next (took-start _ _ 3) (omega arith) _ (ap readOf (sym (c .f .given .1)) ∙ c .before .before .number-at .ensures)
+one c = took-next (took-start _ _ 3) (omega arith) (c .before .before .number-at .ensures) (c .f .given .1)
 
 abbrev first : tie.After-g → tie.After-f
 first c = c .before .before .before .before
 
 two : (c : tie.After-g) → Took (from (first c) .args .text .now) (from (first c) .args .at) 3 2 (c .g .given .0 .1 .0) (first c .f .given .0 .0 ∷ c .g .given .0 .0 ∷ [])
-two c = took-next (one (first c)) (omega arith) _ (ap readOf (sym (c .g .given .1)) ∙ c .before .before .number-at2 .ensures)
+two c = took-next (one (first c)) (omega arith) (c .before .before .number-at2 .ensures) (c .g .given .1)
 
 abbrev second : tie.After-h → tie.After-g
 second c = c .before .before .before .before
@@ -34,7 +33,7 @@ abbrev numbers : tie.After-h → List ℕ
 numbers c = first (second c) .f .given .0 .0 ∷ second c .g .given .0 .0 ∷ c .h .given .0 .0 ∷ []
 
 three : (c : tie.After-h) → Took (from (first (second c)) .args .text .now) (from (first (second c)) .args .at) 3 3 (c .h .given .0 .1 .0) (numbers c)
-three c = took-next (two (second c)) (omega arith) _ (ap readOf (sym (c .h .given .1)) ∙ c .before .before .number-at3 .ensures)
+three c = took-next (two (second c)) (omega arith) (c .before .before .number-at3 .ensures) (c .h .given .1)
 
 -- an LF behind them: the line is good
 abbrev start : tie.Else1 → tie.Start
@@ -53,7 +52,7 @@ enum-told : tie.Need-enum-told
 enum-told c = search needs
 
 returns : tie.Need-returns
-returns c = line-fails _ _ _ _ (took-stop (took-start _ _ 3) (omega arith) (ap readOf (sym (c .enum-told .given .1)) ∙ c .before .before .number-at .ensures))
+returns c = line-fails _ _ _ _ (took-stop (took-start _ _ 3) (omega arith) (c .before .before .number-at .ensures) (c .enum-told .given .1))
 
 number-at-requires-2 : tie.Need-number-at-requires-2
 number-at-requires-2 c κs = search needs
@@ -65,7 +64,7 @@ enum-told-2 : tie.Need-enum-told-2
 enum-told-2 c = search needs
 
 returns-2 : tie.Need-returns-2
-returns-2 c = line-fails _ _ _ _ (took-stop (one (c .before .before .before .before)) (omega arith) (ap readOf (sym (c .enum-told2 .given .1)) ∙ c .before .before .number-at2 .ensures))
+returns-2 c = line-fails _ _ _ _ (took-stop (one (c .before .before .before .before)) (omega arith) (c .before .before .number-at2 .ensures) (c .enum-told2 .given .1))
 
 number-at-requires-3 : tie.Need-number-at-requires-3
 number-at-requires-3 c κs = search needs
@@ -77,7 +76,7 @@ enum-told-3 : tie.Need-enum-told-3
 enum-told-3 c = search needs
 
 returns-3 : tie.Need-returns-3
-returns-3 c = line-fails _ _ _ _ (took-stop (two (c .before .before .before .before)) (omega arith) (ap readOf (sym (c .enum-told3 .given .1)) ∙ c .before .before .number-at3 .ensures))
+returns-3 c = line-fails _ _ _ _ (took-stop (two (c .before .before .before .before)) (omega arith) (c .before .before .number-at3 .ensures) (c .enum-told3 .given .1))
 
 ends-requires : tie.Need-ends-requires
 ends-requires c κs = search needs

@@ -1,18 +1,18 @@
 -- `snapshot::list_parts` meets its contract. The loop's invariant: the numbers so far are those of the lines passed. Assumes nothing.
 use Prim.Native.Nat.{ℕ, _-_}
-use mathlib.Core.Path.{refl, sym, ap, _∙_}
+use mathlib.Core.Path.{refl, sym, _∙_}
 use mathlib.Core.List.{List, [], _∷_}
 use native.Mathlib.Omega.{arith}
 use borrow.Author.Needs.{needs}
 use borrow.Author.Tests.{not-true, not-false}
-use Rattle.fields.specs.Reading.{readOf}
+use Rattle.model.specs.Bounds.{blockLimit}
 use Rattle.lines.proofs.Reading.{Took, took-start, took-next, took-stop, took-end}
 use Rattle.snapshot.proofs.Judging.{Listing, list-start, list-stop, list-next, list-end}
 use Rattle.snapshot.proofs.list_parts.Statement.{statement}
 use Rattle.snapshot.proofs.list_parts.Tie as tie
 
 abbrev Inv-loop : tie.InvT-loop
-Inv-loop text block k d₀ i₀ at₀ d i at = Listing text block k d i at
+Inv-loop text block k d₀ i₀ at₀ d i at = Listing blockLimit text block k d i at
 
 abbrev μ-loop : tie.MeasureT-loop
 μ-loop text block k d₀ i₀ at₀ d i at = k - i
@@ -23,28 +23,22 @@ abbrev from : tie.After-f Inv-loop μ-loop → tie.At-loop Inv-loop μ-loop
 from c = c .before .before .before .before
 
 abbrev text : tie.After-f Inv-loop μ-loop → List ℕ
-text c = c .before .before .before .before .before .before .args .text .now
+text c = from c .before .before .before .args .text .now
 
 one : (c : tie.After-f Inv-loop μ-loop) → Took (text c) (from c .loop .at) 2 1 (c .f .given .0 .1 .0) (c .f .given .0 .0 ∷ [])
-one c = took-next (took-start _ _ 2) (omega arith) _ (ap readOf (sym (c .f .given .1)) ∙ c .before .before .number-at .ensures)
+one c = took-next (took-start _ _ 2) (omega arith) (c .before .before .number-at .ensures) (c .f .given .1)
 
 abbrev first : tie.After-g Inv-loop μ-loop → tie.After-f Inv-loop μ-loop
 first c = c .before .before .before .before
 
 two : (c : tie.After-g Inv-loop μ-loop) → Took (text (first c)) (from (first c) .loop .at) 2 2 (c .g .given .0 .1 .0) (first c .f .given .0 .0 ∷ c .g .given .0 .0 ∷ [])
-two c = took-next (one (first c)) (omega arith) _ (ap readOf (sym (c .g .given .1)) ∙ c .before .before .number-at2 .ensures)
+two c = took-next (one (first c)) (omega arith) (c .before .before .number-at2 .ensures) (c .g .given .1)
 
-array-write-d : tie.Need-array-write-d Inv-loop μ-loop
-array-write-d c = search needs
-
-cast-d : tie.Need-cast-d Inv-loop μ-loop
-cast-d c = search needs
-
-array-write-d-2 : tie.Need-array-write-d-2 Inv-loop μ-loop
-array-write-d-2 c = search needs
+blank-requires : tie.Need-blank-requires Inv-loop μ-loop
+blank-requires c κs = c .before .pre
 
 loop-holds : tie.Need-loop-holds Inv-loop μ-loop
-loop-holds c = list-start _ _ _ (c .before .pre)
+loop-holds c = rw (c .blank .ensures) (list-start blockLimit _ _ _ (c .before .before .pre))
 
 number-at-requires : tie.Need-number-at-requires Inv-loop μ-loop
 number-at-requires c κs = search needs
@@ -61,7 +55,7 @@ not-listed-requires c κs = search needs
 returns : tie.Need-returns Inv-loop μ-loop
 returns c =
     list-stop (c .before .before .before .before .before .loop .inv) (c .before .before .before .before .loop-test .taken) _
-    (took-stop (took-start _ _ 2) (omega arith) (ap readOf (sym (c .before .enum-told .given .1)) ∙ c .before .before .before .number-at .ensures)) (c .not-listed .ensures)
+    (took-stop (took-start _ _ 2) (omega arith) (c .before .before .before .number-at .ensures) (c .before .enum-told .given .1)) (c .not-listed .ensures)
 
 number-at-requires-2 : tie.Need-number-at-requires-2 Inv-loop μ-loop
 number-at-requires-2 c κs = search needs
@@ -79,7 +73,7 @@ returns-2 : tie.Need-returns-2 Inv-loop μ-loop
 returns-2 c =
     list-stop (c .before .before .before .before .before .before .before .before .before .loop .inv)
     (c .before .before .before .before .before .before .before .before .loop-test .taken) _
-    (took-stop (one (c .before .before .before .before .before)) (omega arith) (ap readOf (sym (c .before .enum-told2 .given .1)) ∙ c .before .before .before .number-at2 .ensures))
+    (took-stop (one (c .before .before .before .before .before)) (omega arith) (c .before .before .before .number-at2 .ensures) (c .before .enum-told2 .given .1))
     (c .not-listed2 .ensures)
 
 ends-requires : tie.Need-ends-requires Inv-loop μ-loop
@@ -94,26 +88,18 @@ returns-3 c =
     (c .before .before .before .before .before .before .before .before .before .before .before .loop-test .taken) _
     (sym (not-true _ (c .before .if1 .taken)) ∙ c .before .before .ends .ensures ∙ took-end (two (c .before .before .before .before)) (omega arith)) (c .not-listed3 .ensures)
 
-add-x : tie.Need-add-x Inv-loop μ-loop
-add-x c = omega (arith, c .before .before .before .before .before .before .before .before .before .before .before .loop .inv .few)
+-- the invariant, past the line's end
+abbrev so-far : tie.Else1 Inv-loop μ-loop → tie.At-loop Inv-loop μ-loop
+so-far c = from (first (c .before .before .before))
 
-add-y : tie.Need-add-y Inv-loop μ-loop
-add-y c = omega (arith, c .before .before .before .before .before .before .before .before .before .before .before .loop .inv .few)
+slice-aggregate-put : tie.Need-slice-aggregate-put Inv-loop μ-loop
+slice-aggregate-put c = sym (so-far (c .before) .loop .inv .long)
 
-mul-d : tie.Need-mul-d Inv-loop μ-loop
-mul-d c = omega (arith, c .before .before .before .before .before .before .before .before .before .before .before .loop .inv .few)
-
-array-write-d-3 : tie.Need-array-write-d-3 Inv-loop μ-loop
-array-write-d-3 c = omega (arith, c .before .before .before .before .before .before .before .before .before .before .before .loop .inv .few)
-
-mul-d-2 : tie.Need-mul-d-2 Inv-loop μ-loop
-mul-d-2 c = omega (arith, c .before .before .before .before .before .before .before .before .before .before .before .loop .inv .few)
-
-array-write-d-4 : tie.Need-array-write-d-4 Inv-loop μ-loop
-array-write-d-4 c = omega (arith, c .before .before .before .before .before .before .before .before .before .before .before .loop .inv .few)
+put-requires : tie.Need-put-requires Inv-loop μ-loop
+put-requires c κs = let w = so-far (c .before) .loop .inv in (w .long, omega (arith, w .few))
 
 add-at : tie.Need-add-at Inv-loop μ-loop
-add-at c = let w = c .before .before .before .before .before .before .before .before .before .before .before .loop .inv in omega (arith, w .few, w .at-line)
+add-at c = let w = so-far (c .before .before .before) .loop .inv in omega (arith, w .few, w .at-line)
 
 add-i : tie.Need-add-i Inv-loop μ-loop
 add-i c = omega arith
@@ -123,10 +109,10 @@ loop-less c = omega arith
 
 loop-again : tie.Need-loop-again Inv-loop μ-loop
 loop-again c =
-    let w = two (c .before .before .before) in
-    list-next (c .before .before .before .before .before .before .before .before .before .before .before .loop .inv)
-    (c .before .before .before .before .before .before .before .before .before .before .loop-test .taken) _ _
-    (sym (took-end w (omega arith)) ∙ sym (c .before .ends .ensures) ∙ not-false _ (c .if1 .left)) (w .values)
+    let e = c .before .before .before in
+    let w = two (e .before .before .before) in
+    list-next (so-far e .loop .inv) (first (e .before .before .before) .before .before .before .loop-test .taken) _ _ _
+    (sym (took-end w (omega arith)) ∙ sym (e .before .ends .ensures) ∙ not-false _ (e .if1 .left)) (w .values) (c .before .put .ensures)
 
 returns-4 : tie.Need-returns-4 Inv-loop μ-loop
 returns-4 c = list-end (c .before .loop .inv) (c .loop-test .left) _ refl
@@ -137,9 +123,7 @@ list-parts-spec =
     (tie.spec
     Inv-loop
     μ-loop
-    array-write-d
-    cast-d
-    array-write-d-2
+    blank-requires
     loop-holds
     number-at-requires
     enum-known-f
@@ -154,12 +138,8 @@ list-parts-spec =
     ends-requires
     not-listed-requires-3
     returns-3
-    add-x
-    add-y
-    mul-d
-    array-write-d-3
-    mul-d-2
-    array-write-d-4
+    slice-aggregate-put
+    put-requires
     add-at
     add-i
     loop-less

@@ -28,7 +28,7 @@ add-result c =
 
 returns-2 : tie.Need-returns-2
 unfolding lowOf
-returns-2 c = rw (ne-eqb _ 0 (c .before .if1 .left))
+returns-2 c = rw (ne-eqb _ 0 (c .before .if1 .left)) (omega arith)
 
 pub low-of-spec : {M : Type 1} → statement M
 low-of-spec =

@@ -14,7 +14,7 @@ abbrev μ-loop : tie.MeasureT-loop
 μ-loop text₀ at g w y i₀ e₀ text i e = length g - i
 
 loop-holds : tie.Need-loop-holds Inv-loop μ-loop
-loop-holds c = rows-start _ _ _ _ _ (c .before .before .before .before .pre .0) (c .before .before .before .before .pre .1) (c .before .before .before .before .pre .2)
+loop-holds c = let p = c .before .before .before .before .pre in rows-start _ _ _ _ _ (p .0) (p .1)
 
 mul-put-three : tie.Need-mul-put-three Inv-loop μ-loop
 mul-put-three c = search needs
@@ -26,13 +26,13 @@ mul-put-three-2 : tie.Need-mul-put-three-2 Inv-loop μ-loop
 mul-put-three-2 c = search needs
 
 shared-slice-read-put-three-2 : tie.Need-shared-slice-read-put-three-2 Inv-loop μ-loop
-shared-slice-read-put-three-2 c = omega (arith, c .before .before .before .before .loop .inv .even-w)
+shared-slice-read-put-three-2 c = omega (arith, c .before .before .before .before .loop .inv .even .weights)
 
 mul-put-three-3 : tie.Need-mul-put-three-3 Inv-loop μ-loop
 mul-put-three-3 c = search needs
 
 shared-slice-read-put-three-3 : tie.Need-shared-slice-read-put-three-3 Inv-loop μ-loop
-shared-slice-read-put-three-3 c = omega (arith, c .before .before .before .before .before .loop .inv .even-y)
+shared-slice-read-put-three-3 c = omega (arith, c .before .before .before .before .before .loop .inv .even .yields)
 
 put-three-requires : tie.Need-put-three-requires Inv-loop μ-loop
 put-three-requires c κs = row-room (c .before .before .before .before .before .loop .inv) (c .before .before .before .before .loop-test .taken)

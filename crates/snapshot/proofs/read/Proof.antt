@@ -7,9 +7,10 @@ use borrow.Author.Needs.{needs}
 use borrow.Author.Tests.{not-true, not-false}
 use lib.ListN.{length}
 use mathlib.Core.Bool.{true}
+use Rattle.model.specs.Bounds.{blockLimit}
 use Rattle.model.specs.Blocks.{slicesOk}
 use Rattle.model.proofs.Tests.{of-true}
-use Rattle.model.proofs.WriteLaws.{Sliced, sliced}
+use Rattle.model.proofs.SetLaws.{Sliced, sliced}
 use Rattle.snapshot.specs.Answers.{judgedOf}
 use Rattle.snapshot.proofs.ReadAnswers.{Stored, stored, read-three, read-refused, read-done}
 use Rattle.snapshot.proofs.read.Statement.{statement}
@@ -23,14 +24,14 @@ text c = c .before .before .before .before .before .before .before .before .befo
 abbrev from : tie.Else2 → tie.Start
 from c = c .before .before .before .before .before .before .before .before .before .before .before
 
-judged : (c : tie.Else2) → c .before .judge .result ≡ judgedOf (text c) (length (from c .args .growers .now))
+judged : (c : tie.Else2) → c .before .judge .result ≡ judgedOf blockLimit (text c) (length (from c .args .growers .now))
 judged c = c .before .judge .ensures
 
 even : (c : tie.Else2) → slicesOk (from c .args .growers .now) (from c .args .weights .now) (from c .args .yields .now) ≡ true
 even c = sym (c .before .before .before .slices-ok .ensures) ∙ not-false _ (c .before .before .if1 .left)
 
-lent : (c : tie.Else2) → Stored (text c) (length (from c .args .growers .now)) (c .before .judge .result)
-lent c = stored _ _ _ (judged c) (c .if2 .left)
+lent : (c : tie.Else2) → Stored blockLimit (text c) (length (from c .args .growers .now)) (c .before .judge .result)
+lent c = stored blockLimit _ _ _ (judged c) (c .if2 .left)
 
 slices : (c : tie.Else2) → Sliced (from c .args .growers .now) (from c .args .weights .now) (from c .args .yields .now)
 slices c = sliced _ _ _ (of-true _ (even c))
@@ -55,7 +56,7 @@ same-length-3 : tie.Need-same-length-3
 same-length-3 c = search needs
 
 returns : tie.Need-returns
-returns c = read-three _ _ _ _ _ (sym (c .before .before .slices-ok .ensures) ∙ not-true _ (c .before .if1 .taken)) (c .refused .ensures)
+returns c = read-three blockLimit _ _ _ _ _ (sym (c .before .before .slices-ok .ensures) ∙ not-true _ (c .before .if1 .taken)) (c .refused .ensures)
 
 judge-requires : tie.Need-judge-requires
 judge-requires c κs = search needs
@@ -74,7 +75,7 @@ same-length-6 c = search needs
 
 returns-2 : tie.Need-returns-2
 returns-2 c =
-    read-refused _ _ _ _ (sym (c .before .before .before .before .slices-ok .ensures) ∙ not-false _ (c .before .before .before .if1 .left)) _ (c .before .before .judge .ensures) _
+    read-refused blockLimit _ _ _ _ (sym (c .before .before .before .before .slices-ok .ensures) ∙ not-false _ (c .before .before .before .if1 .left)) _ (c .before .before .judge .ensures) _
     (c .before .if2 .taken) (c .refused2 .ensures)
 
 store-requires : tie.Need-store-requires
@@ -86,7 +87,7 @@ add-store c = omega (arith, lent (c .before .before .before .before) .begins)
 store-requires-2 : tie.Need-store-requires-2
 store-requires-2 c κs =
     let w = lent (c .before .before .before .before .before) in
-    (omega (arith, w .begins), w .used, omega (arith, w .room, slices (c .before .before .before .before .before) .weights), w .weights)
+    (omega (arith, w .begins), w .used, omega (arith, w .room, slices (c .before .before .before .before .before) .even .weights), w .weights)
 
 mul-store : tie.Need-mul-store
 mul-store c = search needs
@@ -97,7 +98,7 @@ add-store-2 c = omega (arith, lent (c .before .before .before .before .before .b
 store-requires-3 : tie.Need-store-requires-3
 store-requires-3 c κs =
     let w = lent (c .before .before .before .before .before .before .before .before .before) in
-    (omega (arith, w .begins), w .used, omega (arith, w .room, slices (c .before .before .before .before .before .before .before .before .before) .yields), w .yields)
+    (omega (arith, w .begins), w .used, omega (arith, w .room, slices (c .before .before .before .before .before .before .before .before .before) .even .yields), w .yields)
 
 same-length-7 : tie.Need-same-length-7
 same-length-7 c = search needs
@@ -111,7 +112,7 @@ same-length-9 c = search needs
 returns-3 : tie.Need-returns-3
 returns-3 c =
     let e = passed c in
-    read-done _ _ _ _ (even e) _ (judged e) (e .if2 .left) _ _ _ (c .before .before .before .before .before .before .before .before .before .before .before .store .ensures)
+    read-done blockLimit _ _ _ _ (even e) _ (judged e) (e .if2 .left) _ _ _ (c .before .before .before .before .before .before .before .before .before .before .before .store .ensures)
     (c .before .before .before .before .before .before .before .store2 .ensures) (c .before .before .before .store3 .ensures)
 
 pub read-spec : {M : Type 1} → statement M

@@ -1,13 +1,15 @@
 -- `snapshot::write` meets its contract: where every check passes, the three groups of lines, placed one behind the other, are the text. Assumes nothing.
-use Prim.Native.Nat.{_≤_}
+use Prim.Native.Nat.{_+_, _*_, _≤_}
 use mathlib.Core.Path.{sym, _∙_}
 use native.Mathlib.Omega.{arith}
 use borrow.Author.Needs.{needs}
 use lib.ListN.{length}
 use lib.Seq.{length-take-le}
+use Rattle.model.specs.Bounds.{blockLimit, mostSlots}
 use Rattle.model.specs.Column.{Column}
-use Rattle.checks.specs.Lent.{columnOf}
-use Rattle.snapshot.proofs.WriteAnswers.{CanWrite, can-write, asked, write-refused, write-done}
+use Rattle.model.specs.Lent.{columnOf}
+use Rattle.directory.proofs.LentColumns.{numbered}
+use Rattle.snapshot.proofs.WriteAnswers.{CanWrite, can-write, parts-lent, write-refused, write-done}
 use Rattle.snapshot.proofs.write.Statement.{statement}
 use Rattle.snapshot.proofs.write.Tie as tie
 
@@ -22,110 +24,119 @@ from c = c .before .before .before .before .before .before .before
 abbrev col : tie.Else1 → Column
 col c = lent (from c)
 
-can : (c : tie.Else1) → CanWrite (col c) (from c .args .text .now) (c .before .check-write .result) (c .before .check-write .ensures)
-can c = can-write (col c) (from c .args .text .now) _ (c .before .check-write .ensures) (c .if1 .left)
-
--- places: line 1 is written, and then the partition lines
-abbrev headed : tie.After-slice-known2 → tie.Else1
-headed c = c .before .before .before .before .before .before .before
-
-abbrev listed : tie.After-slice-known3 → tie.After-slice-known2
-listed c = c .before .before .before .before .before .before
+can : (c : tie.Else1) → CanWrite blockLimit (col c) (from c .args .text .now) (c .before .check-write .result) (c .before .check-write .ensures)
+can c = can-write blockLimit (col c) (from c .args .text .now) _ (c .before .check-write .ensures) (c .if1 .left)
 
 -- each slice has the used slots
 lengths : (c : tie.Else1)
     → (c .before .check-write .result .used ≤ length (col c .growers)) × (c .before .check-write .result .used ≤ length (col c .weights)) ×
     (c .before .check-write .result .used ≤ length (col c .yields))
-lengths c = let w = can c in let l = w .lent in (omega (arith, w .used, l .room), omega (arith, w .used, l .room, l .sl .weights), omega (arith, w .used, l .room, l .sl .yields))
+lengths c =
+    let w = can c in
+    let l = w .lent in
+    let u = w .used-is in
+    (omega (arith, u, l .shape .room), omega (arith, u, l .shape .room, l .even .weights), omega (arith, u, l .shape .room, l .even .yields))
+
+-- the partitions are few, the text has room for all lines, and its length fits
+sizes : (c : tie.After-count)
+    → (c .count .result ≤ blockLimit) × (c .before .before .check-write .result .used ≤ mostSlots) ×
+    (34 + 23 * c .count .result + 34 * c .before .before .check-write .result .used ≤ length (from (c .before) .args .text .now))
+sizes c =
+    let w = can (c .before) in
+    let l = w .lent in
+    let k = c .count .ensures in
+    (omega (arith, k, l .shape .few), omega (arith, w .used-is, l .shape .room, l .most), omega (arith, k, w .used-is, w .room))
+
+-- places: the partitions counted, line 1 written, and then the partition lines
+abbrev counted : tie.After-block → tie.After-count
+counted c = c .before .before
+
+abbrev headed : tie.After-slice-known2 → tie.After-block
+headed c = c .before .before .before
+
+abbrev listed : tie.After-slice-known3 → tie.After-fences
+listed c = c .before .before .before
+
+abbrev parted : tie.After-fences → tie.After-block
+parted c = headed (c .before .before .before)
+
+abbrev checked : tie.After-fences → tie.Else1
+checked c = counted (parted c) .before
 
 check-write-requires : tie.Need-check-write-requires
 check-write-requires c κs = search needs
 
 returns : tie.Need-returns
-returns c = let s = c .before .before .before .before .before .before .before in write-refused (lent s) (s .args .text .now) _ (c .before .check-write .ensures) (c .if1 .taken)
+returns c =
+    let s = c .before .before .before .before .before .before .before in
+    write-refused blockLimit (lent s) (s .args .text .now) _ (c .before .check-write .ensures) (c .if1 .taken)
 
-shared-slice-read-k : tie.Need-shared-slice-read-k
-shared-slice-read-k c = let w = can (c .before) in let l = w .lent in omega (arith, l .size, l .few, w .used, w .room, l .room, l .sl .most)
-
-cast-k : tie.Need-cast-k
-cast-k c = let w = can (c .before) in let l = w .lent in omega (arith, l .size, l .few, w .used, w .room, l .room, l .sl .most)
-
-add-a : tie.Need-add-a
-add-a c = let w = can (c .before) in let l = w .lent in omega (arith, l .size, l .few, w .used, w .room, l .room, l .sl .most)
-
-add-f : tie.Need-add-f
-add-f c = let w = can (c .before) in let l = w .lent in omega (arith, l .size, l .few, w .used, w .room, l .room, l .sl .most)
+count-requires : tie.Need-count-requires
+count-requires c κs = can c .lent .shape .size
 
 mul-start : tie.Need-mul-start
-mul-start c = let w = can (c .before) in let l = w .lent in omega (arith, l .size, l .few, w .used, w .room, l .room, l .sl .most)
+mul-start c = omega (arith, sizes c .0)
 
 add-start : tie.Need-add-start
-add-start c = let w = can (c .before) in let l = w .lent in omega (arith, l .size, l .few, w .used, w .room, l .room, l .sl .most)
+add-start c = omega (arith, sizes c .0)
 
-shared-slice-read-put-three : tie.Need-shared-slice-read-put-three
-shared-slice-read-put-three c = let w = can (c .before .before .before) in let l = w .lent in omega (arith, l .size, l .few, w .used, w .room, l .room, l .sl .most)
+block-requires : tie.Need-block-requires
+block-requires c κs = can (c .before .before) .lent .shape .size
 
 cast-put-three : tie.Need-cast-put-three
-cast-put-three c = let w = can (c .before .before .before) in let l = w .lent in omega (arith, l .size, l .few, w .used, w .room, l .room, l .sl .most)
+cast-put-three c = omega (arith, sizes (counted c) .1)
 
-shared-slice-read-put-three-2 : tie.Need-shared-slice-read-put-three-2
-shared-slice-read-put-three-2 c = let w = can (c .before .before .before .before) in let l = w .lent in omega (arith, l .size, l .few, w .used, w .room, l .room, l .sl .most)
+cast-put-three-2 : tie.Need-cast-put-three-2
+cast-put-three-2 c = omega (arith, sizes (counted c) .0)
 
 put-three-requires : tie.Need-put-three-requires
-put-three-requires c κs = let w = can (c .before .before .before .before) in let l = w .lent in omega (arith, l .size, l .few, w .used, w .room, l .room, l .sl .most)
+put-three-requires c κs = omega (arith, sizes (counted c) .2)
 
-sub-put-parts : tie.Need-sub-put-parts
-sub-put-parts c = search needs
+lengths-requires : tie.Need-lengths-requires
+lengths-requires c κs = let e = counted (headed (c .before)) .before in numbered blockLimit (col e) (can e .lent)
 
-part-put-parts-start : tie.Need-part-put-parts-start
-part-put-parts-start c = search needs
-
-part-put-parts-end : tie.Need-part-put-parts-end
-part-put-parts-end c = let w = can (headed (c .before)) in let l = w .lent in omega (arith, l .size, l .few, w .used, w .room, l .room, l .sl .most)
-
-sub-put-parts-2 : tie.Need-sub-put-parts-2
-sub-put-parts-2 c = search needs
-
-part-put-parts-start-2 : tie.Need-part-put-parts-start-2
-part-put-parts-start-2 c = search needs
-
-part-put-parts-end-2 : tie.Need-part-put-parts-end-2
-part-put-parts-end-2 c = let w = can (headed (c .before .before)) in let l = w .lent in omega (arith, l .size, l .few, w .used, w .room, l .room, l .sl .most)
+fences-requires : tie.Need-fences-requires
+fences-requires c κs = let e = counted (headed (c .before .before)) .before in numbered blockLimit (col e) (can e .lent)
 
 put-parts-requires : tie.Need-put-parts-requires
-put-parts-requires c κs = let w = can (headed (c .before .before .before)) in let a = asked (col (headed (c .before .before .before))) (w .lent) in (a .even, omega (arith, a .many, w .room))
+put-parts-requires c κs =
+    let e = checked c in
+    let p = parts-lent blockLimit (col e) (can e .lent) (c .before .lengths .ensures) (c .fences .ensures) in
+    (p .even, omega (arith, p .many, can e .room))
 
 slice-aggregate-put-rows : tie.Need-slice-aggregate-put-rows
-slice-aggregate-put-rows c = sym (length-take-le _ _ (lengths (headed (listed (c .before .before))) .0))
+slice-aggregate-put-rows c = sym (length-take-le _ _ (lengths (checked (listed (c .before .before))) .0))
 
 slice-aggregate-put-rows-2 : tie.Need-slice-aggregate-put-rows-2
-slice-aggregate-put-rows-2 c = sym (length-take-le _ _ (lengths (headed (listed (c .before .before .before))) .1))
+slice-aggregate-put-rows-2 c = sym (length-take-le _ _ (lengths (checked (listed (c .before .before .before))) .1))
 
 slice-aggregate-put-rows-3 : tie.Need-slice-aggregate-put-rows-3
-slice-aggregate-put-rows-3 c = sym (length-take-le _ _ (lengths (headed (listed (c .before .before .before .before))) .2))
+slice-aggregate-put-rows-3 c = sym (length-take-le _ _ (lengths (checked (listed (c .before .before .before .before))) .2))
 
 put-rows-requires : tie.Need-put-rows-requires
 put-rows-requires c κs =
-    let w = can (headed (listed (c .before .before .before .before))) in
-    let l = lengths (headed (listed (c .before .before .before .before))) in
+    let f = listed (c .before .before .before .before) in
+    let l = lengths (checked f) in
     let x = length-take-le _ _ (l .0) in
-    (length-take-le _ _ (l .1) ∙ sym x, length-take-le _ _ (l .2) ∙ sym x, omega (arith, x, w .room, w .used))
+    (record { weights = length-take-le _ _ (l .1) ∙ sym x; yields = length-take-le _ _ (l .2) ∙ sym x }, omega (arith, x, sizes (counted (parted f)) .2))
 
-mul-t30 : tie.Need-mul-t30
-mul-t30 c = let w = can (headed (listed (c .before .before .before .before .before .before .before))) in let l = w .lent in omega (arith, l .size, l .few, w .used, w .room, l .room, l .sl .most)
+mul-t11 : tie.Need-mul-t11
+mul-t11 c = let s = sizes (counted (parted (listed (c .before .before .before .before .before .before .before)))) in omega (arith, s .0, s .1)
 
-add-t13 : tie.Need-add-t13
-add-t13 c = let w = can (headed (listed (c .before .before .before .before .before .before .before))) in let l = w .lent in omega (arith, l .size, l .few, w .used, w .room, l .room, l .sl .most)
+add-t31 : tie.Need-add-t31
+add-t31 c = let s = sizes (counted (parted (listed (c .before .before .before .before .before .before .before)))) in omega (arith, s .0, s .1)
 
 same-length : tie.Need-same-length
 same-length c = search needs
 
 returns-2 : tie.Need-returns-2
 returns-2 c =
-    let e = headed (listed (c .before .before .before .before .before .before .before)) in
-    write-done (col e) (from e .args .text .now) _ (e .before .check-write .ensures) (e .if1 .left) _ _ _
-    (listed (c .before .before .before .before .before .before .before) .before .before .put-three .ensures)
-    (c .before .before .before .before .before .before .before .before .before .put-parts .ensures) (c .before .before .put-rows .ensures)
+    let p = c .before .before .before .before .before .before .before in
+    let f = listed p in
+    let b = parted f in
+    let e = checked f in
+    write-done blockLimit (col e) (from e .args .text .now) _ (e .before .check-write .ensures) (can e) _ _ _ _ _ _ _ _ (b .block .ensures) (counted b .count .ensures) (omega arith)
+    (f .before .lengths .ensures) (f .fences .ensures) (f .before .before .before .before .before .put-three .ensures) (p .before .before .put-parts .ensures) (c .before .before .put-rows .ensures)
 
 pub write-spec : {M : Type 1} → statement M
 write-spec =
@@ -133,28 +144,21 @@ write-spec =
     (tie.spec
     check-write-requires
     returns
-    shared-slice-read-k
-    cast-k
-    add-a
-    add-f
+    count-requires
     mul-start
     add-start
-    shared-slice-read-put-three
+    block-requires
     cast-put-three
-    shared-slice-read-put-three-2
+    cast-put-three-2
     put-three-requires
-    sub-put-parts
-    part-put-parts-start
-    part-put-parts-end
-    sub-put-parts-2
-    part-put-parts-start-2
-    part-put-parts-end-2
+    lengths-requires
+    fences-requires
     put-parts-requires
     slice-aggregate-put-rows
     slice-aggregate-put-rows-2
     slice-aggregate-put-rows-3
     put-rows-requires
-    mul-t30
-    add-t13
+    mul-t11
+    add-t31
     same-length
     returns-2)
