@@ -78,7 +78,11 @@ pub extern "C" fn meltusk_insert(
     ensures { λ r. ⌜ record { answer = r; column = columnOut directory growers weights yields }
         ≡ columnCall blockLimit (columnIn directory growers weights yields) (insert (delivery grower weight «oil_yield»)) ⌝ }
 {
-    let d = Delivery::new(grower, weight, oil_yield);
+    let d = Delivery {
+        grower,
+        weight,
+        oil_yield,
+    };
     column::insert(directory, growers, weights, yields, d)
 }
 
@@ -96,7 +100,11 @@ pub extern "C" fn meltusk_delete(
     ensures { λ r. ⌜ record { answer = r; column = columnOut directory growers weights yields }
         ≡ columnCall blockLimit (columnIn directory growers weights yields) (delete (delivery grower weight «oil_yield»)) ⌝ }
 {
-    let d = Delivery::new(grower, weight, oil_yield);
+    let d = Delivery {
+        grower,
+        weight,
+        oil_yield,
+    };
     column::delete(directory, growers, weights, yields, d)
 }
 
@@ -115,7 +123,11 @@ pub extern "C" fn meltusk_move(
     ensures { λ r. ⌜ record { answer = r; column = columnOut directory growers weights yields }
         ≡ columnCall blockLimit (columnIn directory growers weights yields) (move (delivery grower weight «oil_yield») «new_grower») ⌝ }
 {
-    let d = Delivery::new(grower, weight, oil_yield);
+    let d = Delivery {
+        grower,
+        weight,
+        oil_yield,
+    };
     column::move_delivery(directory, growers, weights, yields, d, new_grower)
 }
 
@@ -183,7 +195,11 @@ pub extern "C" fn meltusk_record_insert(
         ≡ recordCall blockLimit (setIn block used growers weights yields) (now (histograms .entry))
         (insert (delivery grower weight «oil_yield»)) ⌝ }
 {
-    let d = Delivery::new(grower, weight, oil_yield);
+    let d = Delivery {
+        grower,
+        weight,
+        oil_yield,
+    };
     recorder::record_insert(histograms, block, used, growers, weights, yields, d)
 }
 
@@ -204,7 +220,11 @@ pub extern "C" fn meltusk_record_delete(
         ≡ recordCall blockLimit (setIn block used growers weights yields) (now (histograms .entry))
         (delete (delivery grower weight «oil_yield»)) ⌝ }
 {
-    let d = Delivery::new(grower, weight, oil_yield);
+    let d = Delivery {
+        grower,
+        weight,
+        oil_yield,
+    };
     recorder::record_delete(histograms, block, used, growers, weights, yields, d)
 }
 
@@ -226,7 +246,11 @@ pub extern "C" fn meltusk_record_move(
         ≡ recordCall blockLimit (setIn block used growers weights yields) (now (histograms .entry))
         (move (delivery grower weight «oil_yield») «new_grower») ⌝ }
 {
-    let d = Delivery::new(grower, weight, oil_yield);
+    let d = Delivery {
+        grower,
+        weight,
+        oil_yield,
+    };
     recorder::record_move(
         histograms,
         block,

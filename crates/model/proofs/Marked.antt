@@ -19,6 +19,7 @@ use Rattle.model.specs.Directory.{directoryOf, unusedNumbers, directoryN
 use Rattle.model.specs.Column.{soundGrowers, sound, scannedOk, hasFreeSlot, isHeld, lengthsFrom, directoryFor}
 use Rattle.model.specs.Accesses.{blocksOf, blocksScanned, readsOf, scanCounts, scanNear, callCounts, missCounts}
 use Rattle.model.specs.Fields.{leading, justified, signedField, spelled, readField, line, takeNumbers, afterLineEnd, takeLine, takeLines}
+use Rattle.model.specs.Tallies.{tallyChecks}
 use Rattle.model.specs.Questions.{recorderChecks, costChecks, plannerChecks, applyChecks, callChecks, columnChecks, partitionChecks, writeChecks, readChecks, ledgerChecks}
 use Rattle.model.specs.Recorder.{recorderRefusal, recordCall, recordCalls, acceptedCalls}
 use Rattle.model.specs.Planner.{costCall, plannedEnds, plannerRefusal, planCall}
@@ -60,5 +61,24 @@ unfolding flatten sumOf ceilDiv upFrom every keep rising neverFalls sameList fir
 refusals = record { missing = refl; nowhere = refl; backwards = refl; heavy = refl; full = refl; heavy-and-full = refl; rich-and-missing = refl; lowest = refl }
 
 pub questions-in-order : (L : ℕ) → QuestionsInOrder L
-unfolding recorderChecks costChecks plannerChecks applyChecks callChecks columnChecks partitionChecks writeChecks readChecks
-questions-in-order L = record { recorder = λ s hs c. refl; cost = λ p s ends hs. refl; planner = λ p l s hs needed room. refl; applying = λ s ends. refl; finding = λ c g. refl; ranging = λ c lo hi. refl; inserting = λ c d. refl; deleting = λ c d. refl; moving = λ c d g. refl; partition = λ ns gs. refl; writing = λ c room. refl; reading = λ text gs ws ys. refl }
+unfolding recorderChecks costChecks plannerChecks applyChecks callChecks columnChecks partitionChecks writeChecks readChecks tallyChecks ledgerChecks
+questions-in-order L = record {
+  recorder = λ s hs c. refl;
+  cost = λ p s ends hs. refl;
+  planner = λ p l s hs needed room. refl;
+  applying = λ s ends. refl;
+  finding = λ c g. refl;
+  ranging = λ c lo hi. refl;
+  inserting = λ c d. refl;
+  deleting = λ c d. refl;
+  moving = λ c d g. refl;
+  partition = λ ns gs. refl;
+  writing = λ c room. refl;
+  reading = λ text gs ws ys. refl;
+  tallying = λ t n. refl;
+  ledger-finding = λ c b g. refl;
+  ledger-ranging = λ c b lo hi. refl;
+  ledger-inserting = λ c b d. refl;
+  ledger-deleting = λ c b d. refl;
+  ledger-moving = λ c b d g. refl;
+}

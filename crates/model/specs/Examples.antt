@@ -22,7 +22,9 @@ use Rattle.model.specs.Moves.{inserted, deleted, moved}
 use Rattle.model.specs.Directory.{directoryNumbers}
 use Rattle.model.specs.Column.{Column, allRecords}
 use Rattle.model.specs.Accesses.{counts, noCounts, readsOf}
-use Rattle.model.specs.Questions.{recorderChecks, costChecks, plannerChecks, applyChecks, columnChecks, partitionChecks, writeChecks, readChecks}
+use Rattle.model.specs.declared.Tally.{Tally}
+use Rattle.model.specs.Tallies.{tallyChecks}
+use Rattle.model.specs.Questions.{recorderChecks, costChecks, plannerChecks, applyChecks, columnChecks, partitionChecks, writeChecks, readChecks, ledgerChecks}
 use Rattle.model.specs.Recorder.{recordedFromZeros}
 use Rattle.model.specs.Planner.{PlanResult, planCall}
 use Rattle.model.specs.ColumnCalls.{Called, laidColumn, columnCall}
@@ -211,3 +213,9 @@ pub record QuestionsInOrder (L : ℕ) : Type 0 where
   pub partition : (ns gs : List ℕ) → map number (partitionChecks L ns gs) ≡ 2 ∷ 3 ∷ 6 ∷ []
   pub writing : (c : Column) (room : ℕ) → map number (writeChecks L c room) ≡ 2 ∷ 3 ∷ 6 ∷ 6 ∷ 8 ∷ 15 ∷ []
   pub reading : (text gs ws ys : List ℕ) → map number (readChecks L text gs ws ys) ≡ 3 ∷ 12 ∷ 14 ∷ []
+  pub tallying : (t : Tally) (n : Counts) → map number (tallyChecks t n) ≡ 10 ∷ []
+  pub ledger-finding : (c : ℕ) (bag : List Delivery) (g : ℕ) → map number (ledgerChecks c bag (find g)) ≡ []
+  pub ledger-ranging : (c : ℕ) (bag : List Delivery) (lo hi : ℕ) → map number (ledgerChecks c bag (range lo hi)) ≡ 7 ∷ []
+  pub ledger-inserting : (c : ℕ) (bag : List Delivery) (d : Delivery) → map number (ledgerChecks c bag (insert d)) ≡ 8 ∷ 12 ∷ []
+  pub ledger-deleting : (c : ℕ) (bag : List Delivery) (d : Delivery) → map number (ledgerChecks c bag (delete d)) ≡ 8 ∷ 13 ∷ []
+  pub ledger-moving : (c : ℕ) (bag : List Delivery) (d : Delivery) (g : ℕ) → map number (ledgerChecks c bag (move d g)) ≡ 8 ∷ 13 ∷ []

@@ -1,7 +1,7 @@
 // The terms of the store: what a call is given and what it answers. What they mean is in specs/.
 ghost use mathlib.Core.Path.{_≡_};
 ghost use Rattle.model.specs.Bounds.{mostSlots};
-ghost use Rattle.model.specs.Deliveries.{delivery, noTotals, LightTotals, plusTotals};
+ghost use Rattle.model.specs.Deliveries.{noTotals, LightTotals, plusTotals};
 ghost use Rattle.model.specs.Accesses.{noCounts};
 ghost use Rattle.model.specs.Prices.{factory};
 ghost use Rattle.model.specs.Tallies.{emptyTally};
@@ -65,18 +65,6 @@ pub struct Delivery {
     pub grower: u32,
     pub weight: u32,
     pub oil_yield: u32,
-}
-
-impl Delivery {
-    pub fn new(grower: u32, weight: u32, oil_yield: u32) -> Self
-        ensures { λ r. ⌜ r ≡ delivery grower weight «oil_yield» ⌝ }
-    {
-        Delivery {
-            grower,
-            weight,
-            oil_yield,
-        }
-    }
 }
 
 // The prices of a random read, a sequential read and a random write (01: the card).

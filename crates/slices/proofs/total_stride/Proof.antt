@@ -27,7 +27,7 @@ returns-2 c =
     let b = c .before .before .before .before .before .before .before in
     let g = b .args in
     let m = b .pre in
-    c .total-all .ensures ∙ all-between (g .lo) (g .hi) (g .g .now) (g .w .now) (g .y .now) m (sym (c .before .before .before .count-between .ensures) ∙ c .before .if2 .taken)
+    c .total-all .ensures ∙ all-between (g .lo) (g .hi) (g .g .now) (g .w .now) (g .y .now) m (omega (arith, c .before .before .before .count-between .ensures, c .before .if2 .taken))
 
 total-tested-requires : tie.Need-total-tested-requires
 total-tested-requires c κs = search needs
