@@ -17,6 +17,9 @@ head c = c .before .before .head-of .ensures
 abbrev accepted : tie.Else2 → tie.Else1
 accepted c = c .before .before
 
+abbrev sized : tie.Else4 → tie.Else2
+sized c = c .before .before .before .before .before
+
 -- it is in range
 count : (c : tie.Else1) → c .before .before .head-of .result .count ≤ blockLimit
 count c = few blockLimit _ _ (head c) (c .if1 .left)
@@ -62,8 +65,8 @@ not-judged-requires-3 c κs = search needs
 
 returns-3 : tie.Need-returns-3
 returns-3 c =
-    answer-size blockLimit _ _ _ _ (head (accepted (c .before .before .before))) (accepted (c .before .before .before) .if1 .left) (c .before .before .before .if2 .left)
-    (λ z. omega (arith, z)) (c .not-judged3 .ensures)
+    let e = c .before .before .before in
+    answer-size blockLimit _ _ _ _ (head (accepted e)) (accepted e .if1 .left) (e .if2 .left) (λ z. omega (arith, z)) (c .not-judged3 .ensures)
 
 list-parts-requires : tie.Need-list-parts-requires
 list-parts-requires c κs = count (c .before .before .before .before)
@@ -73,34 +76,36 @@ not-judged-requires-4 c κs = search needs
 
 returns-4 : tie.Need-returns-4
 returns-4 c =
-    answer-lines blockLimit _ _ _ _ (head (accepted (c .before .before .before .before .before .before))) (accepted (c .before .before .before .before .before .before) .if1 .left)
-    (c .before .before .before .before .before .before .if2 .left) _ (c .before .before .before .list-parts .ensures) (c .before .if4 .taken) (c .not-judged4 .ensures)
+    let e = c .before .before .before .before .before .before in
+    answer-lines blockLimit _ _ _ _ (head (accepted e)) (accepted e .if1 .left) (e .if2 .left) _ (c .before .before .before .list-parts .ensures) (c .before .if4 .taken) (c .not-judged4 .ensures)
 
 slice-aggregate-judge-numbers : tie.Need-slice-aggregate-judge-numbers
 slice-aggregate-judge-numbers c = search needs
 
 judge-numbers-requires : tie.Need-judge-numbers-requires
 judge-numbers-requires c κs =
-    let e = accepted (c .before .before .before .before .before .before .before) in
-    (numbers-listed blockLimit _ _ (head e) (e .if1 .left) _ (c .before .before .before .before .list-parts .ensures) (c .before .before .if4 .left), omega arith)
+    let l = c .before .before in
+    let e = accepted (sized l) in
+    (numbers-listed blockLimit _ _ (head e) (e .if1 .left) _ (l .before .before .list-parts .ensures) (l .if4 .left), omega arith)
 
 not-judged-requires-5 : tie.Need-not-judged-requires-5
 not-judged-requires-5 c κs = search needs
 
 returns-5 : tie.Need-returns-5
 returns-5 c =
-    answer-numbers blockLimit _ _ _ _ (head (accepted (c .before .before .before .before .before .before .before .before .before .before)))
-    (accepted (c .before .before .before .before .before .before .before .before .before .before) .if1 .left)
-    (c .before .before .before .before .before .before .before .before .before .before .if2 .left) _
-    (c .before .before .before .before .before .before .before .list-parts .ensures) (c .before .before .before .before .before .if4 .left) (omega arith) _
-    (c .before .before .judge-numbers .ensures) (c .before .if5 .taken) (c .not-judged5 .ensures)
+    let j = c .before .before in
+    let l = j .before .before .before in
+    let e = sized l in
+    answer-numbers blockLimit _ _ _ _ (head (accepted e)) (accepted e .if1 .left) (e .if2 .left) _ (l .before .before .list-parts .ensures) (l .if4 .left) (omega arith) _
+    (j .judge-numbers .ensures) (c .before .if5 .taken) (c .not-judged5 .ensures)
 
 returns-6 : tie.Need-returns-6
 returns-6 c =
-    answer-yes blockLimit _ _ _ _ (head (accepted (c .before .before .before .before .before .before .before .before .before)))
-    (accepted (c .before .before .before .before .before .before .before .before .before) .if1 .left)
-    (c .before .before .before .before .before .before .before .before .before .if2 .left) _ (c .before .before .before .before .before .before .list-parts .ensures)
-    (c .before .before .before .before .if4 .left) (omega arith) _ (c .before .judge-numbers .ensures) (c .if5 .left) refl
+    let j = c .before in
+    let l = j .before .before .before in
+    let e = sized l in
+    answer-yes blockLimit _ _ _ _ (head (accepted e)) (accepted e .if1 .left) (e .if2 .left) _ (l .before .before .list-parts .ensures) (l .if4 .left) (omega arith) _
+    (j .judge-numbers .ensures) (c .if5 .left) refl
 
 pub judge-spec : {M : Type 1} → statement M
 judge-spec =
