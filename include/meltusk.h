@@ -6,8 +6,10 @@
  * nothing is kept between calls. A call reads and writes only inside the
  * slices that it is lent, and ends on every input.
  *
- * SLICES OF ONE CALL MUST NOT OVERLAP. That is the one condition that no call
- * can check.
+ * What no call can check: a slice's memory must be valid, aligned for its
+ * elements, initialised and of the stated count for the whole call, and A
+ * SLICE THAT A CALL WRITES MUST NOT OVERLAP ANOTHER OF ITS SLICES. Slices that
+ * a call only reads, those that are const here, may overlap each other.
  *
  * A call first puts its checks, in the order of their numbers. The number of
  * the first that fails is its refusal; 0 means accepted. A refused call writes

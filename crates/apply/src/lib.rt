@@ -18,7 +18,8 @@ use model::DIRECTORY_SIZE;
 fn directory_of(block: u32, used: u32, g: &[u32], ends: &[u32]) -> [u32; DIRECTORY_SIZE]
     requires { ⌜ Sized blockLimit block used (length (now g)) ⌝ }
     requires { ⌜ T (layoutOk (setOf block used (now g) [] []) (now ends)) ⌝ }
-    ensures { λ r. ⌜ ((ws ys : List ℕ) → r ≡ directoryNumbers blockLimit (directoryFor (setOf block used (now (g .entry)) ws ys) (now (ends .entry)))) ⌝ }
+    ensures { λ r. ⌜ ((ws ys : List ℕ)
+        → r ≡ directoryNumbers blockLimit (directoryFor (setOf block used (now (g .entry)) ws ys) (now (ends .entry)))) ⌝ }
 {
     let mut d = directory::blank(block, ends.len());
     let mut start: u32 = 0;

@@ -9,7 +9,7 @@ ghost use Rattle.model.specs.Planner.{costCall, planCall};
 ghost use Rattle.model.specs.ColumnCalls.{applyCall, columnCall, partitionCall};
 ghost use Rattle.model.specs.SnapshotCalls.{writeCall, readCall};
 ghost use Rattle.model.specs.Lent.{columnIn, columnOut, setIn};
-ghost use Rattle.snapshot.specs.Answers.{resultOf};
+ghost use Rattle.snapshot.specs.Answers.{readOut};
 use model::Answer;
 use model::Applied;
 use model::Costed;
@@ -351,7 +351,7 @@ pub extern "C" fn meltusk_read_snapshot(
     weights: &mut [u32],
     yields: &mut [u32],
 ) -> Applied
-    ensures { λ r. ⌜ resultOf r (now (growers .exit)) (now (weights .exit)) (now (yields .exit))
+    ensures { λ r. ⌜ readOut r growers weights yields
         ≡ readCall blockLimit (now (text .entry)) (now (growers .entry)) (now (weights .entry)) (now (yields .entry)) ⌝ }
 {
     snapshot::read(text, growers, weights, yields)

@@ -1,4 +1,5 @@
-// The checks (01: questions) of one number, one delivery or one slice that several calls put. Each answers what its definition says, so that a caller has one test for each.
+// The checks (01: questions) of one number, one delivery or one slice that several calls put.
+// Each answers what its definition says, so that a caller has one test for each.
 ghost use mathlib.Core.Path.{_≡_};
 ghost use Rattle.model.specs.Deliveries.{inRange};
 ghost use Rattle.model.specs.Blocks.{blockLengthOk, slotsOk, slicesOk};

@@ -18,7 +18,8 @@ use model::DIRECTORY_SIZE;
 use model::FENCES;
 use model::LENGTHS;
 
-// The refusal number of checks 2, 3 and 6 of a directory and its slices; the slots that its partitions use; and of a grower its partition and where that starts.
+// The refusal number of checks 2, 3 and 6 of a directory and its slices; the slots that its partitions use;
+// and of a grower its partition and where that starts.
 pub struct Shape {
     pub refusal: u32,
     pub used: usize,

@@ -370,7 +370,8 @@ fn put_parts(text: &mut [u8], at: usize, lens: &[u32], fences: &[u32])
 // The delivery lines from a byte on.
 fn put_rows(text: &mut [u8], at: usize, g: &[u32], w: &[u32], y: &[u32])
     requires { ⌜ Even (now g) (now w) (now y) × (at + 34 * length (now g) ≤ length (now text)) ⌝ }
-    ensures { λ _. ⌜ now (text .exit) ≡ placed at (lines (map deliveryRow (rows (now (g .entry)) (now (w .entry)) (now (y .entry))))) (now (text .entry)) ⌝ }
+    ensures { λ _. ⌜ now (text .exit)
+        ≡ placed at (lines (map deliveryRow (rows (now (g .entry)) (now (w .entry)) (now (y .entry))))) (now (text .entry)) ⌝ }
 {
     let mut i = 0;
     let mut e = at;
