@@ -51,14 +51,14 @@ module _ (L : ℕ) where
           let s = shape .0 in
           shaped-passes L mostSlots ns (record { size = s .size; some = s .some; few = s .few; unused = s .unused; rises = s .rises; room = omega (arith, s .room, shape .1) })
 
-      pub partition-held : HasPartition L ns t
-      partition-held = record {
+      pub partition-has : HasPartition L ns t
+      partition-has = record {
         shaped = partition-directory;
         there = omega (arith, placed (directoryOf L ns .fences) g (omega (arith, dir-count L ns partition-directory, dir-some L ns partition-directory)) .within, dir-count L ns partition-directory);
       }
 
       partition-inside : startOf (directoryOf L ns .lengths) t + getD (directoryOf L ns .lengths) t 0 ≤ length gs
-      partition-inside = omega (arith, stop-le (directoryOf L ns .lengths) t (omega (arith, partition-held .there, dir-many L ns partition-directory)), shape .0 .room)
+      partition-inside = omega (arith, stop-le (directoryOf L ns .lengths) t (omega (arith, partition-has .there, dir-many L ns partition-directory)), shape .0 .room)
 
   -- what is handed back lies in the growers
   pub handed-inside : (ns gs : List ℕ) (g : ℕ) (p : PartitionSlice) → p ≡ partitionCall L ns gs g → p .start + p .count ≤ length gs

@@ -115,8 +115,8 @@ module _ (L : ℕ) where
     pub even : Even (c .growers) (c .weights) (c .yields)
 
   module _ (c : Column) (g : ℕ) (h : firstFailed (lentChecks L c) ≡ 0) (t a : ℕ) (et : t ≡ target L c g) (ea : a ≡ startOf (lengthsOf L c) (target L c g)) where
-    pub near-held : HasPartition L (c .directory) t
-    near-held = rw et (has-partition L c (lent-column L c h) (target L c g) (target-there c h g))
+    pub near-partition : HasPartition L (c .directory) t
+    near-partition = rw et (has-partition L c (lent-column L c h) (target L c g) (target-there c h g))
 
     pub near : (n : ℕ) → n ≡ getD (lengthsOf L c) t 0 → Near c g a n
     near n e =

@@ -16,7 +16,7 @@ use Rattle.model.specs.Deliveries.{rows, inRange, among, firstMatch}
 use Rattle.model.specs.Calls.{delete}
 use Rattle.model.specs.Partitions.{startOf}
 use Rattle.model.specs.Directory.{directoryOf}
-use Rattle.model.specs.Column.{Column, slots, lengthsOf, target, recordsNear, scannedOk, isHeld}
+use Rattle.model.specs.Column.{Column, slots, lengthsOf, target, recordsNear, scannedOk, hasDelivery}
 use Rattle.model.specs.Accesses.{noCounts, blocksOf, readsOf, blocksScanned, scanCounts, scanNear}
 use Rattle.model.specs.Questions.{lentChecks, callChecks}
 use Rattle.model.specs.ColumnCalls.{columnRefusal}
@@ -61,14 +61,14 @@ module _ (L : ℕ) where
         rw (r .0, ne-eqb n 0 h, ne-eqb n 13 (r .1))
 
     module _ (h : firstFailed (lentChecks L c) ≡ 0) where
-      pub refusal-is : (s t : Bool) → inRange d && scannedOk L c (d .grower) (d .grower) ≡ s → isHeld L c d ≡ t → columnRefusal L c (delete d) ≡ cond s (cond t 0 13) 8
+      pub refusal-is : (s t : Bool) → inRange d && scannedOk L c (d .grower) (d .grower) ≡ s → hasDelivery L c d ≡ t → columnRefusal L c (delete d) ≡ cond s (cond t 0 13) 8
       unfolding callChecks firstFailed
       refusal-is s t e f = lent-yes L c (delete d) h ∙ rw (e, f)
 
       -- refused by 8
       pub located-range : inRange d ≡ false → notLocated 8 noCounts ≡ locatedOf L c d
       unfolding locatedOf
-      located-range e = rw (refusal-is false (isHeld L c d) (rw e) refl)
+      located-range e = rw (refusal-is false (hasDelivery L c d) (rw e) refl)
 
       l : LentColumn L c
       l = lent-column L c h
@@ -95,13 +95,13 @@ module _ (L : ℕ) where
 
       pub located-searched : inRange d ≡ true
           → searchedOf (getD (c .directory) 0 0) (target L c (d .grower)) (startOf (lengthsOf L c) (target L c (d .grower))) d (recordsNear L c (d .grower)) ≡ locatedOf L c d
-      unfolding searchedOf locatedOf scannedOk isHeld
+      unfolding searchedOf locatedOf scannedOk hasDelivery
       located-searched e = go (every inRange (recordsNear L c (d .grower))) (ltb (firstMatch d (recordsNear L c (d .grower))) (length (recordsNear L c (d .grower)))) refl refl
         where
           unfolded : (s : Bool) → every inRange (recordsNear L c (d .grower)) ≡ s → inRange d && scannedOk L c (d .grower) (d .grower) ≡ s
           unfolded s f = rw (e, f)
 
-          held : (t : Bool) → ltb (firstMatch d (recordsNear L c (d .grower))) (length (recordsNear L c (d .grower))) ≡ t → isHeld L c d ≡ t
+          held : (t : Bool) → ltb (firstMatch d (recordsNear L c (d .grower))) (length (recordsNear L c (d .grower))) ≡ t → hasDelivery L c d ≡ t
           held t f = among-match d (recordsNear L c (d .grower)) ∙ f
 
           go : (s t : Bool) → every inRange (recordsNear L c (d .grower)) ≡ s → ltb (firstMatch d (recordsNear L c (d .grower))) (length (recordsNear L c (d .grower))) ≡ t

@@ -18,7 +18,7 @@ use Rattle.model.specs.Deliveries.{delivery, inRange}
 use Rattle.model.specs.Calls.{insert, delete, move}
 use Rattle.model.specs.Partitions.{startOf, oneMore, oneFewer}
 use Rattle.model.specs.Directory.{partitionCount, directoryOf, withLengths}
-use Rattle.model.specs.Column.{Column, lengthsOf, target, recordsNear, scannedOk, hasFreeSlot, isHeld}
+use Rattle.model.specs.Column.{Column, lengthsOf, target, recordsNear, scannedOk, hasFreeSlot, hasDelivery}
 use Rattle.model.specs.Accesses.{counts, noCounts, andAlso, onward, apart, scanNear, scanCounts, callCounts, missCounts}
 use Rattle.model.specs.Questions.{lentChecks, callChecks, columnChecks}
 use Rattle.model.specs.ColumnCalls.{Called, columnRefusal, columnAfter, columnCall, callTotals, refusedCounts, slotOf, moveSlices}
@@ -82,9 +82,9 @@ module _ (L : ℕ) where
     changed : Kept L (oneFewer t ls) ns
     changed = with-lengths L (oneFewer t ls) ns (s .size) (length-set ls t (getD ls t 0 - 1) ∙ count) (s .few)
 
-    pub held-after : u < partitionCount L ns → HasPartition L (withLengths (oneFewer t (directoryOf L ns .lengths)) ns) u
+    pub partition-after : u < partitionCount L ns → HasPartition L (withLengths (oneFewer t (directoryOf L ns .lengths)) ns) u
     unfolding ls
-    held-after m = record {
+    partition-after m = record {
       shaped = shaped-passes L mostSlots _ (shaped-with L mostSlots (oneFewer t ls) ns s (length-set ls t (getD ls t 0 - 1) ∙ count) (omega (arith, fewer, s .room)));
       there = rw (changed .count) m;
     }
@@ -221,7 +221,7 @@ module _ (L : ℕ) where
       pub inside : slotOf L c d < getD (lengthsOf L c) (target L c (d .grower)) 0
 
     pub found : f .refusal ≡ 0 → Found
-    unfolding locatedOf isHeld
+    unfolding locatedOf hasDelivery
     found h =
         let e : columnRefusal L c (delete d) ≡ 0 = sym located-refusal ∙ h in
         let l = accepted-lent L c (delete d) e in
@@ -234,10 +234,10 @@ module _ (L : ℕ) where
           slot-is = ap (λ (v : Located). v .slot) x;
           counts-are = ap (λ (v : Located). v .counts) x;
           inside = by-test (inRange d && scannedOk L c (d .grower) (d .grower)) _
-              (λ p. by-test (isHeld L c d) _
+              (λ p. by-test (hasDelivery L c d) _
               (λ q. omega (arith, near-length L c d l, ltb-true (slotOf L c d) (length (recordsNear L c (d .grower))) (sym (among-match d (recordsNear L c (d .grower))) ∙ q)))
               (λ q. absurd (omega (arith, e, refusal-is L c d l true false p q))))
-              (λ p. absurd (omega (arith, e, refusal-is L c d l false (isHeld L c d) p refl)));
+              (λ p. absurd (omega (arith, e, refusal-is L c d l false (hasDelivery L c d) p refl)));
         }
 
     -- a scan's counts leave room

@@ -16,7 +16,7 @@ use Rattle.model.specs.Plan.{permittedLayouts, cheapest}
 use Rattle.model.specs.Partitions.{parts, free, startOf, between}
 use Rattle.model.specs.Moves.{rotateLeft, rotateRight, fillFromEnd, fillFromFront, insertAt, deleteAt, moveForward, moveBackward, moveWithin, moveAt, inserted, deleted, moved}
 use Rattle.model.specs.Directory.{directoryOf, unusedNumbers, directoryNumbers, directoryBlockOk, directoryOk, withLengths}
-use Rattle.model.specs.Column.{soundGrowers, sound, scannedOk, hasFreeSlot, isHeld, lengthsFrom, directoryFor}
+use Rattle.model.specs.Column.{soundGrowers, sound, scannedOk, hasFreeSlot, hasDelivery, lengthsFrom, directoryFor}
 use Rattle.model.specs.Accesses.{blocksOf, blocksScanned, readsOf, scanCounts, scanNear, callCounts, missCounts}
 use Rattle.model.specs.Fields.{leading, justified, signedField, spelled, readField, line, takeNumbers, afterLineEnd, takeLine, takeLines}
 use Rattle.model.specs.Tallies.{tallyChecks}
@@ -29,7 +29,7 @@ use Rattle.model.specs.Program.{callOf, callsOf, sizesOk, takeSizes, rea
 use Rattle.model.specs.Examples.{OnThatColumn, Costs, UnderLimits, MainCase, EmptyPartitions, AllRecords, Reads, Refusals, QuestionsInOrder}
 
 pub on-that-column : OnThatColumn
-unfolding flatten sumOf ceilDiv upFrom every keep rising neverFalls sameList firstFailed place rows among firstMatch totalsOf blockOf blockLengthOk slotsOk slicesOk usedOk growersOk valuesOk pricesOk limitsOk priced before after trailing isLayout layoutOk blockCounts mostPartitions longestPartition permitted layoutsFrom parts free startOf between rotateLeft rotateRight fillFromEnd fillFromFront insertAt deleteAt moveForward moveBackward moveWithin moveAt inserted deleted moved directoryOf unusedNumbers directoryNumbers directoryBlockOk directoryOk withLengths soundGrowers sound scannedOk hasFreeSlot isHeld lengthsFrom directoryFor blocksOf blocksScanned readsOf scanCounts scanNear callCounts missCounts recorderChecks costChecks plannerChecks applyChecks callChecks columnChecks partitionChecks writeChecks readChecks ledgerChecks moveSlices applyCall laidColumn callTotals columnAfter columnRefusal refusedCounts columnCall columnCalls reportAlone partitionCall
+unfolding flatten sumOf ceilDiv upFrom every keep rising neverFalls sameList firstFailed place rows among firstMatch totalsOf blockOf blockLengthOk slotsOk slicesOk usedOk growersOk valuesOk pricesOk limitsOk priced before after trailing isLayout layoutOk blockCounts mostPartitions longestPartition permitted layoutsFrom parts free startOf between rotateLeft rotateRight fillFromEnd fillFromFront insertAt deleteAt moveForward moveBackward moveWithin moveAt inserted deleted moved directoryOf unusedNumbers directoryNumbers directoryBlockOk directoryOk withLengths soundGrowers sound scannedOk hasFreeSlot hasDelivery lengthsFrom directoryFor blocksOf blocksScanned readsOf scanCounts scanNear callCounts missCounts recorderChecks costChecks plannerChecks applyChecks callChecks columnChecks partitionChecks writeChecks readChecks ledgerChecks moveSlices applyCall laidColumn callTotals columnAfter columnRefusal refusedCounts columnCall columnCalls reportAlone partitionCall
 on-that-column = record { laid = refl; find-30 = refl; find-99 = refl; range-40-50 = refl; insert-15 = refl; delete-30 = refl; move-20-70 = refl; move-70-20 = refl; move-20-25 = refl }
 
 pub costs : Costs
@@ -57,7 +57,7 @@ unfolding readsOf
 reads = record { none = refl; one = refl; three = refl }
 
 pub refusals : Refusals
-unfolding flatten sumOf ceilDiv upFrom every keep rising neverFalls sameList firstFailed place rows among firstMatch totalsOf blockOf blockLengthOk slotsOk slicesOk usedOk growersOk valuesOk pricesOk limitsOk priced before after trailing isLayout layoutOk blockCounts mostPartitions longestPartition permitted layoutsFrom parts free startOf between rotateLeft rotateRight fillFromEnd fillFromFront insertAt deleteAt moveForward moveBackward moveWithin moveAt inserted deleted moved directoryOf unusedNumbers directoryNumbers directoryBlockOk directoryOk withLengths soundGrowers sound scannedOk hasFreeSlot isHeld lengthsFrom directoryFor blocksOf blocksScanned readsOf scanCounts scanNear callCounts missCounts recorderChecks costChecks plannerChecks applyChecks callChecks columnChecks partitionChecks writeChecks readChecks ledgerChecks moveSlices applyCall laidColumn callTotals columnAfter columnRefusal refusedCounts columnCall columnCalls reportAlone partitionCall
+unfolding flatten sumOf ceilDiv upFrom every keep rising neverFalls sameList firstFailed place rows among firstMatch totalsOf blockOf blockLengthOk slotsOk slicesOk usedOk growersOk valuesOk pricesOk limitsOk priced before after trailing isLayout layoutOk blockCounts mostPartitions longestPartition permitted layoutsFrom parts free startOf between rotateLeft rotateRight fillFromEnd fillFromFront insertAt deleteAt moveForward moveBackward moveWithin moveAt inserted deleted moved directoryOf unusedNumbers directoryNumbers directoryBlockOk directoryOk withLengths soundGrowers sound scannedOk hasFreeSlot hasDelivery lengthsFrom directoryFor blocksOf blocksScanned readsOf scanCounts scanNear callCounts missCounts recorderChecks costChecks plannerChecks applyChecks callChecks columnChecks partitionChecks writeChecks readChecks ledgerChecks moveSlices applyCall laidColumn callTotals columnAfter columnRefusal refusedCounts columnCall columnCalls reportAlone partitionCall
 refusals = record { missing = refl; nowhere = refl; backwards = refl; heavy = refl; full = refl; heavy-and-full = refl; rich-and-missing = refl; lowest = refl }
 
 pub questions-in-order : (L : ℕ) → QuestionsInOrder L

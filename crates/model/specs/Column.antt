@@ -68,8 +68,8 @@ module _ (L : ℕ) where
   hasFreeSlot c = ltb (sumOf (lengthsOf c)) (length (c .growers))
 
   -- check 13: "is the delivery in the partition?"
-  unfoldable pub isHeld : Column → Delivery → Bool
-  isHeld c d = among d (recordsNear c (d .grower))
+  unfoldable pub hasDelivery : Column → Delivery → Bool
+  hasDelivery c d = among d (recordsNear c (d .grower))
 
 -- Applying a layout (01: laying). "Laying moves no record."
 

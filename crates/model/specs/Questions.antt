@@ -17,7 +17,7 @@ use Rattle.model.specs.Histograms.{raises, countsOk, roomToRaise}
 use Rattle.model.specs.Layouts.{layoutOk}
 use Rattle.model.specs.Plan.{permittedLayouts}
 use Rattle.model.specs.Directory.{directoryBlockOk, directoryOk}
-use Rattle.model.specs.Column.{Column, allRecords, sound, scannedOk, hasFreeSlot, isHeld}
+use Rattle.model.specs.Column.{Column, allRecords, sound, scannedOk, hasFreeSlot, hasDelivery}
 use Rattle.model.specs.Snapshot.{snapshotText, slotsForBook, isBook}
 
 -- L is the block limit
@@ -58,8 +58,8 @@ module _ (L : ℕ) where
   callChecks c (find g) = ask 8 (scannedOk L c g g) ∷ []
   callChecks c (range lo hi) = ask 7 (leb lo hi) ∷ ask 8 (scannedOk L c lo hi) ∷ []
   callChecks c (insert d) = ask 8 (inRange d) ∷ ask 12 (hasFreeSlot L c) ∷ []
-  callChecks c (delete d) = ask 8 (inRange d && scannedOk L c (d .grower) (d .grower)) ∷ ask 13 (isHeld L c d) ∷ []
-  callChecks c (move d g) = ask 8 (inRange d && scannedOk L c (d .grower) (d .grower)) ∷ ask 13 (isHeld L c d) ∷ []
+  callChecks c (delete d) = ask 8 (inRange d && scannedOk L c (d .grower) (d .grower)) ∷ ask 13 (hasDelivery L c d) ∷ []
+  callChecks c (move d g) = ask 8 (inRange d && scannedOk L c (d .grower) (d .grower)) ∷ ask 13 (hasDelivery L c d) ∷ []
 
   unfoldable pub columnChecks : Column → Call → List Check
   columnChecks c k = lentChecks c ++ callChecks c k

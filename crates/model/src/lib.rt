@@ -24,6 +24,9 @@ pub const MOST_COUNT: u32 = 1000000;
 pub const MOST_PRICE: u32 = 1000;
 
 pub const MOST_LIMIT: u32 = 1000000;
+// How many records a loop over slices takes at a time.
+pub const STRIDE: usize = 64;
+
 // A directory (01: 130 numbers): where B and K stand, where the lengths and the fences begin, and how many numbers it has.
 pub const BLOCK: usize = 0;
 

@@ -29,8 +29,8 @@ use Rattle.sets.proofs.Sets.{Whole, whole, set-passed, set-first, blocks-least,
 
 -- The set has the delivery.
 
-pub held-law : (d : Delivery) (m n : ℕ) (g w y : List ℕ) → m ≤ length g → Even g w y → n ≡ firstMatch d (rows (take m g) (take m w) (take m y)) → ltb n m ≡ among d (take m (rows g w y))
-held-law d m n g w y h v e =
+pub has-law : (d : Delivery) (m n : ℕ) (g w y : List ℕ) → m ≤ length g → Even g w y → n ≡ firstMatch d (rows (take m g) (take m w) (take m y)) → ltb n m ≡ among d (take m (rows g w y))
+has-law d m n g w y h v e =
     let k : length (take m (rows g w y)) ≡ m = length-take-le m (rows g w y) (omega (arith, length-rows g w y (v .weights) (v .yields))) in
     ap (λ (j : ℕ). ltb j m) (e ∙ ap (firstMatch d) (rows-part m 0 g w y))
     ∙ ap (ltb (firstMatch d (take m (rows g w y)))) (sym k)

@@ -17,7 +17,7 @@ use model::UTB;
 use model::UTF;
 
 // Whether the set has the delivery.
-fn is_held(used: u32, g: &[u32], w: &[u32], y: &[u32], d: Delivery) -> bool
+fn has_delivery(used: u32, g: &[u32], w: &[u32], y: &[u32], d: Delivery) -> bool
     requires { ⌜ (used ≤ length (now g)) × Even (now g) (now w) (now y) ⌝ }
     ensures { λ r. ⌜ r ≡ among d (take used (rows (now (g .entry)) (now (w .entry)) (now (y .entry)))) ⌝ }
 {
@@ -131,7 +131,7 @@ pub fn record_delete(
         return n;
     }
     let b = sets::block_of(block, used, growers, d.grower);
-    if is_held(used, growers, weights, yields, d) {
+    if has_delivery(used, growers, weights, yields, d) {
         return histograms::raise_one(histograms, DE, b);
     }
     histograms::raise_one(histograms, PQ, b)
@@ -158,7 +158,7 @@ pub fn record_move(
         return n;
     }
     let a = sets::block_of(block, used, growers, d.grower);
-    if !is_held(used, growers, weights, yields, d) {
+    if !has_delivery(used, growers, weights, yields, d) {
         return histograms::raise_one(histograms, PQ, a);
     }
     let b = sets::block_of(block, used, growers, new_grower);

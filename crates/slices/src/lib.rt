@@ -12,10 +12,8 @@ ghost use Rattle.model.specs.Partitions.{startOf};
 ghost use Rattle.model.specs.Deliveries.{rows, totalsOf, totalsBetween, firstMatch};
 ghost use Rattle.slices.specs.Slices.{allWithin, allZero, sameAt, countBetween, Measured};
 use model::Delivery;
+use model::STRIDE;
 use model::Totals;
-
-// How many records are counted at a time before any is tested.
-const STRIDE: usize = 64;
 
 // Whether none of s is above most.
 pub fn within(s: &[u32], most: u32) -> bool

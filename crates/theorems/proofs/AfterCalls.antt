@@ -11,7 +11,7 @@ use Rattle.model.specs.Deliveries.{delivery, inRange, among}
 use Rattle.model.specs.Calls.{insert, delete, move}
 use Rattle.model.specs.Partitions.{parts, part, oneMore, oneFewer}
 use Rattle.model.specs.Moves.{inserted, deleted, moved}
-use Rattle.model.specs.Column.{Column, slots, inPlace, soundGrowers, lengthsOf, fencesOf, target, recordsNear, allRecords, hasFreeSlot, isHeld}
+use Rattle.model.specs.Column.{Column, slots, inPlace, soundGrowers, lengthsOf, fencesOf, target, recordsNear, allRecords, hasFreeSlot, hasDelivery}
 use Rattle.model.specs.ColumnCalls.{freed, slotOf, columnAfter}
 use Rattle.model.specs.Ledger.{removeOne, changeOne}
 use Rattle.model.proofs.Tests.{and-snd, and-mk}
@@ -24,7 +24,7 @@ use Rattle.model.proofs.SliceLaws.{slots-inserted, slots-deleted, slots-moved}
 use Rattle.theorems.proofs.Bags.{bag-every}
 use Rattle.theorems.proofs.OneDelivery.{InSlot, in-slot, bag-without, bag-changed}
 use Rattle.theorems.proofs.ValidColumn.{Valid, even-slices, target-there, room, sound-growers, near-is, length-part}
-use Rattle.theorems.proofs.Refusals.{held-in-bag, free-in-bag}
+use Rattle.theorems.proofs.Refusals.{delivery-in-bag, free-in-bag}
 use Rattle.theorems.proofs.Changes.{Follows, follows}
 
 -- records of a bag in range
@@ -68,8 +68,8 @@ module _ (L : ℕ) (c : Column) (v : Valid L c) (bag : List Delivery) (p : List�
   module _ (d : Delivery) (held : T (among d bag)) where
     -- the slot that delete and move take holds d
     in-its-slot : InSlot d (recordsNear L c (d .grower)) nobody
-    unfolding isHeld
-    in-its-slot = in-slot d (recordsNear L c (d .grower)) nobody (subst T (sym (held-in-bag L c v bag p d)) held)
+    unfolding hasDelivery
+    in-its-slot = in-slot d (recordsNear L c (d .grower)) nobody (subst T (sym (delivery-in-bag L c v bag p d)) held)
 
     slot-there : slotOf L c d < getD (lengthsOf L c) (target L c (d .grower)) 0
     slot-there =

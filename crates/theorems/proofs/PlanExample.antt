@@ -14,7 +14,7 @@ use Rattle.model.specs.Layouts.{before, after, trailing, isLayout, layoutOk, bl
 use Rattle.model.specs.Cost.{pointPrice, ripplePrice, price, sumBlocks, sumHistograms, costOf}
 use Rattle.model.specs.Partitions.{parts, between}
 use Rattle.model.specs.Directory.{directoryOf, unusedNumbers, directoryNumbers, directoryBlockOk, directoryOk}
-use Rattle.model.specs.Column.{scannedOk, hasFreeSlot, isHeld, lengthsFrom, directoryFor}
+use Rattle.model.specs.Column.{scannedOk, hasFreeSlot, hasDelivery, lengthsFrom, directoryFor}
 use Rattle.model.specs.Accesses.{blocksOf, blocksScanned, readsOf, scanCounts, scanNear, callCounts, missCounts}
 use Rattle.model.specs.Questions.{recorderChecks, applyChecks, callChecks, columnChecks}
 use Rattle.model.specs.Recorder.{recorderRefusal, recordCall, recordCalls, acceptedCalls}
@@ -26,5 +26,5 @@ unfolding ceilDiv every rising neverFalls firstFailed rows blockLengthOk slotsOk
 main-case-meets = record { admitted = refl; free = omega arith; allowed = tt }
 
 pub mixed-sum : MixedSum
-unfolding flatten sumOf ceilDiv upFrom every rising neverFalls firstFailed place rows among blockOf blockLengthOk slotsOk slicesOk usedOk growersOk valuesOk ordered offeredOk position rangeRaises moveRaises raises slot raise raiseAll countsOk roomToRaise priced before after trailing isLayout layoutOk pointPrice ripplePrice price sumBlocks sumHistograms costOf parts between directoryOf unusedNumbers directoryNumbers directoryBlockOk directoryOk scannedOk hasFreeSlot isHeld lengthsFrom directoryFor blocksOf blocksScanned readsOf scanCounts scanNear callCounts missCounts recorderChecks applyChecks callChecks columnChecks recorderRefusal recordCall recordCalls acceptedCalls applyCall laidColumn columnRefusal refusedCounts columnCall reportAlone
+unfolding flatten sumOf ceilDiv upFrom every rising neverFalls firstFailed place rows among blockOf blockLengthOk slotsOk slicesOk usedOk growersOk valuesOk ordered offeredOk position rangeRaises moveRaises raises slot raise raiseAll countsOk roomToRaise priced before after trailing isLayout layoutOk pointPrice ripplePrice price sumBlocks sumHistograms costOf parts between directoryOf unusedNumbers directoryNumbers directoryBlockOk directoryOk scannedOk hasFreeSlot hasDelivery lengthsFrom directoryFor blocksOf blocksScanned readsOf scanCounts scanNear callCounts missCounts recorderChecks applyChecks callChecks columnChecks recorderRefusal recordCall recordCalls acceptedCalls applyCall laidColumn columnRefusal refusedCounts columnCall reportAlone
 mixed-sum = record { accepted = refl; costs = refl; each = refl }

@@ -16,7 +16,7 @@ use Rattle.model.specs.Calls.{Call, find, range, insert, delete, move}
 use Rattle.model.specs.Layouts.{layoutOk}
 use Rattle.model.specs.Directory.{Directory, directorySize, directoryOf, directoryNumbers, directoryBlockOk, directoryOk}
 use Rattle.model.specs.Partitions.{between}
-use Rattle.model.specs.Column.{lengthsOf, target, recordsOf, lengthsFrom, directoryFor, scannedOk, hasFreeSlot, isHeld}
+use Rattle.model.specs.Column.{lengthsOf, target, recordsOf, lengthsFrom, directoryFor, scannedOk, hasFreeSlot, hasDelivery}
 use Rattle.model.specs.Accesses.{callCounts, missCounts}
 use Rattle.model.specs.Questions.{applyChecks, callChecks, columnChecks}
 use Rattle.model.specs.ColumnCalls.{applyCall, laidColumn, columnRefusal, refusedCounts, columnCall, reportAlone}
@@ -100,8 +100,8 @@ module _ (L : ℕ) (s : Set) (h : SetPasses L s) (ends : List ℕ) (t : T (layou
   unfolding hasFreeSlot laidColumn
   slot-free k = rw lengths-laid (is-true _ (lt→ltb (sumOf (lengthsFrom s 0 ends)) (length (s .growers)) (omega (arith, total-used L s o ends l))))
 
-  held-laid : (d : Delivery) → isHeld L (laidColumn L s ends) d ≡ among d (held s)
-  unfolding isHeld
+  held-laid : (d : Delivery) → hasDelivery L (laidColumn L s ends) d ≡ among d (held s)
+  unfolding hasDelivery
   held-laid d = rw (target-laid (d .grower), records-laid (place ends (blockOf s (d .grower))) (place ends (blockOf s (d .grower)))) (among-here L s o ends l d)
 
   -- How each call is answered.

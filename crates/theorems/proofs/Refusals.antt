@@ -9,20 +9,20 @@ use Rattle.model.specs.declared.Delivery.{Delivery}
 use Rattle.model.specs.Checks.{firstFailed}
 use Rattle.model.specs.Deliveries.{among}
 use Rattle.model.specs.Calls.{Call, find, range, insert, delete, move}
-use Rattle.model.specs.Column.{Column, allRecords, hasFreeSlot, isHeld}
+use Rattle.model.specs.Column.{Column, allRecords, hasFreeSlot, hasDelivery}
 use Rattle.model.specs.Questions.{callChecks, columnChecks, ledgerChecks}
 use Rattle.model.specs.ColumnCalls.{columnRefusal}
 use Rattle.theorems.proofs.Bags.{bag-length}
 use Rattle.theorems.proofs.OneDelivery.{bag-among}
-use Rattle.theorems.proofs.ValidColumn.{Valid, held-is, scanned-passes, free-slot-is, lent-pass}
+use Rattle.theorems.proofs.ValidColumn.{Valid, has-is, scanned-passes, free-slot-is, lent-pass}
 
 and-true : (b : Bool) → (b && true) ≡ b
 and-true true = refl
 and-true false = refl
 
 module _ (L : ℕ) (c : Column) (v : Valid L c) (bag : List Delivery) (p : List·Permᴰ (allRecords L c) bag) where
-  pub held-in-bag : (d : Delivery) → isHeld L c d ≡ among d bag
-  held-in-bag d = held-is L c v d ∙ bag-among d p
+  pub delivery-in-bag : (d : Delivery) → hasDelivery L c d ≡ among d bag
+  delivery-in-bag d = has-is L c v d ∙ bag-among d p
 
   pub free-in-bag : hasFreeSlot L c ≡ ltb (length bag) (length (c .growers))
   free-in-bag = free-slot-is L c v ∙ ap (λ (n : ℕ). ltb n (length (c .growers))) (bag-length p)
@@ -32,8 +32,8 @@ module _ (L : ℕ) (c : Column) (v : Valid L c) (bag : List Delivery) (p : List�
   checks-agree (find g) = rw (scanned-passes L c v g g)
   checks-agree (range lo hi) = rw (scanned-passes L c v lo hi)
   checks-agree (insert d) = rw free-in-bag
-  checks-agree (delete d) = rw (scanned-passes L c v (d .grower) (d .grower), and-true, held-in-bag)
-  checks-agree (move d g) = rw (scanned-passes L c v (d .grower) (d .grower), and-true, held-in-bag)
+  checks-agree (delete d) = rw (scanned-passes L c v (d .grower) (d .grower), and-true, delivery-in-bag)
+  checks-agree (move d g) = rw (scanned-passes L c v (d .grower) (d .grower), and-true, delivery-in-bag)
 
   pub refusal-agrees : (k : Call) → columnRefusal L c k ≡ firstFailed (ledgerChecks (length (c .growers)) bag k)
   unfolding columnRefusal columnChecks

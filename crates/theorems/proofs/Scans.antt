@@ -1,7 +1,7 @@
 -- What a scan of some partitions finds, if every record is in its partition. Assumes nothing.
 use Prim.Native.Nat.{ℕ, zero, suc, _+_, _-_, _≤_, _<_}
 use mathlib.Core.Path.{_≡_, refl, sym, ap, ap₂, _∙_}
-use mathlib.Core.Bool.{Bool, true, false, cond}
+use mathlib.Core.Bool.{Bool, false}
 use mathlib.Core.List.{List, [], _∷_, _++_, append-nil, map, flatten}
 use native.Mathlib.Omega.{arith}
 use lib.Dec.{T}

@@ -138,8 +138,8 @@ module _ (L : ℕ) where
 
   -- Read, and written.
 
-  abbrev columnIn : Book → List ℕ → List ℕ → List ℕ → Column
-  columnIn b gs ws ys = record {
+  abbrev bookColumn : Book → List ℕ → List ℕ → List ℕ → Column
+  bookColumn b gs ws ys = record {
     directory = directoryNumbers L (b .directory);
     growers = map growerOf (b .deliveries) ++ drop (length (b .deliveries)) gs;
     weights = map weightOf (b .deliveries) ++ drop (length (b .deliveries)) ws;
@@ -157,40 +157,40 @@ module _ (L : ℕ) where
     length-read : (f : Delivery → ℕ) (old : List ℕ) → length (b .deliveries) ≤ length old → length (map f (b .deliveries) ++ drop (length (b .deliveries)) old) ≡ length old
     length-read f old h = omega (arith, length-append (map f (b .deliveries)) (drop (length (b .deliveries)) old), length-map (b .deliveries) f, length-drop (length (b .deliveries)) old)
 
-    slices-in : Sliced (columnIn b gs ws ys .growers) (columnIn b gs ws ys .weights) (columnIn b gs ws ys .yields)
+    slices-in : Sliced (bookColumn b gs ws ys .growers) (bookColumn b gs ws ys .weights) (bookColumn b gs ws ys .yields)
     slices-in =
         let x = length-read growerOf gs enough in
         let y = length-read weightOf ws (omega (arith, sl .even .weights)) in
         let z = length-read yieldOf ys (omega (arith, sl .even .yields)) in
         record { even = record { weights = y ∙ sl .even .weights ∙ sym x; yields = z ∙ sl .even .yields ∙ sym x }; one = omega (arith, x, sl .one); most = omega (arith, x, sl .most) }
 
-    shape-in : Shaped L (length (columnIn b gs ws ys .growers)) (directoryNumbers L (b .directory))
-    shape-in = numbers-shaped L (length (columnIn b gs ws ys .growers)) (b .directory) directory-fits (g .some-parts) (g .rises) (omega (arith, g .total, length-read growerOf gs enough))
+    shape-in : Shaped L (length (bookColumn b gs ws ys .growers)) (directoryNumbers L (b .directory))
+    shape-in = numbers-shaped L (length (bookColumn b gs ws ys .growers)) (b .directory) directory-fits (g .some-parts) (g .rises) (omega (arith, g .total, length-read growerOf gs enough))
 
-    records-in : allRecords L (columnIn b gs ws ys) ≡ b .deliveries
+    records-in : allRecords L (bookColumn b gs ws ys) ≡ b .deliveries
     records-in =
-        flatten-parts (lengthsOf L (columnIn b gs ws ys)) (slots (columnIn b gs ws ys))
-        ∙ ap (λ (d : Directory). take (sumOf (d .lengths)) (slots (columnIn b gs ws ys))) there
+        flatten-parts (lengthsOf L (bookColumn b gs ws ys)) (slots (bookColumn b gs ws ys))
+        ∙ ap (λ (d : Directory). take (sumOf (d .lengths)) (slots (bookColumn b gs ws ys))) there
         ∙ ap (take (sumOf (b .directory .lengths))) (rows-joined (b .deliveries) (drop (length (b .deliveries)) gs) (drop (length (b .deliveries)) ws) (drop (length (b .deliveries)) ys))
         ∙ take-at (b .deliveries) _ (sumOf (b .directory .lengths)) (sym (g .total))
 
-    text-again : snapshotText L (columnIn b gs ws ys) ≡ bookText b
+    text-again : snapshotText L (bookColumn b gs ws ys) ≡ bookText b
     text-again = ap₂ (λ (d : Directory) (l : List Delivery). bookText (record { directory = d; deliveries = l })) there records-in
 
     block-in : T (directoryBlockOk L (directoryNumbers L (b .directory)))
     unfolding directoryBlockOk directoryNumbers
     block-in = or-snd (not (eqb (length (directoryNumbers L (b .directory))) (directorySize L))) (blockLengthOk (b .directory .block)) (g .block)
 
-    sound-in : T (sound L (columnIn b gs ws ys))
+    sound-in : T (sound L (bookColumn b gs ws ys))
     unfolding sound
     sound-in =
-        let e : soundGrowers (lengthsOf L (columnIn b gs ws ys)) (fencesOf L (columnIn b gs ws ys)) (columnIn b gs ws ys .growers) ≡ soundGrowers (b .directory .lengths)
+        let e : soundGrowers (lengthsOf L (bookColumn b gs ws ys)) (fencesOf L (bookColumn b gs ws ys)) (bookColumn b gs ws ys .growers) ≡ soundGrowers (b .directory .lengths)
         (b .directory .fences) (map growerOf (b .deliveries))
-        = ap (λ (d : Directory). soundGrowers (d .lengths) (d .fences) (columnIn b gs ws ys .growers)) there
+        = ap (λ (d : Directory). soundGrowers (d .lengths) (d .fences) (bookColumn b gs ws ys .growers)) there
         ∙ sound-used (b .directory .lengths) (b .directory .fences) (map growerOf (b .deliveries)) _ (omega (arith, g .total, length-map (b .deliveries) growerOf)) in
         subst T (sym e) (g .sound)
 
-    writable-in : (room : ℕ) → length (bookText b) ≤ room → Writable L (columnIn b gs ws ys) room
+    writable-in : (room : ℕ) → length (bookText b) ≤ room → Writable L (bookColumn b gs ws ys) room
     writable-in room h = record {
       block = block-in;
       slices = slices-pass _ _ _ slices-in;
@@ -201,9 +201,9 @@ module _ (L : ℕ) where
     }
 
     written-again : (out : List ℕ) → length (bookText b) ≤ length out
-        → writeCall L (columnIn b gs ws ys) out ≡ record { answer = record { refusal = 0; bytes = length (bookText b) }; text = bookText b ++ drop (length (bookText b)) out }
+        → writeCall L (bookColumn b gs ws ys) out ≡ record { answer = record { refusal = 0; bytes = length (bookText b) }; text = bookText b ++ drop (length (bookText b)) out }
     written-again out h =
-        write-is L (columnIn b gs ws ys) out (writes L (columnIn b gs ws ys) (length out) (writable-in (length out) h))
+        write-is L (bookColumn b gs ws ys) out (writes L (bookColumn b gs ws ys) (length out) (writable-in (length out) h))
         ∙ ap (λ (t : List ℕ). record { answer = record { refusal = 0; bytes = length t }; text = t ++ drop (length t) out }) text-again
 
   -- what an accepted reading found
@@ -212,7 +212,7 @@ module _ (L : ℕ) where
     pub is-read : readBook L text ≡ some book
     pub slices : T (slicesOk gs ws ys)
     pub room : T (slotsForBook L text (length gs))
-    pub column : readCall L text gs ws ys .column ≡ columnIn book gs ws ys
+    pub column : readCall L text gs ws ys .column ≡ bookColumn book gs ws ys
 
   was-read : (text gs ws ys : List ℕ) → readCall L text gs ws ys .refusal ≡ 0 → WasRead text gs ws ys
   unfolding readCall readChecks isBook columnRead

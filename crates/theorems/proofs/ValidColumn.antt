@@ -1,10 +1,10 @@
 -- A column of proper shape, sound and with every value in range: its records, and what its calls scan. Assumes nothing.
 use Prim.Native.Nat.{ℕ, _+_, _-_, _≤_, _<_}
 use mathlib.Core.Path.{_≡_, sym, ap, _∙_, subst}
-use mathlib.Core.Bool.{Bool, true, _&&_}
+use mathlib.Core.Bool.{Bool, true}
 use mathlib.Core.List.{List, [], _++_, map, flatten, append-nil}
 use native.Mathlib.Omega.{arith}
-use lib.Dec.{T, leb, ltb, eqb, leb→le, le→leb, eqb→eq}
+use lib.Dec.{T, leb, ltb, leb→le, le→leb, eqb→eq}
 use lib.ListN.{length, take, drop, getD, length-map, List·getD-map}
 use lib.Seq.{drop-cons, length-take-le}
 use Rattle.model.specs.declared.Delivery.{Delivery}
@@ -14,7 +14,7 @@ use Rattle.model.specs.Deliveries.{inRange, same, among, matches}
 use Rattle.model.specs.Blocks.{slicesOk}
 use Rattle.model.specs.Partitions.{parts, part, between, startOf}
 use Rattle.model.specs.Directory.{partitionCount, directoryBlockOk, directoryOk}
-use Rattle.model.specs.Column.{Column, slots, inPlace, soundGrowers, lengthsOf, fencesOf, target, recordsOf, recordsNear, allRecords, sound, scannedOk, hasFreeSlot, isHeld}
+use Rattle.model.specs.Column.{Column, slots, inPlace, soundGrowers, lengthsOf, fencesOf, target, recordsOf, recordsNear, allRecords, sound, scannedOk, hasFreeSlot, hasDelivery}
 use Rattle.model.specs.Questions.{lentChecks}
 use Rattle.model.specs.Lent.{Even}
 use Rattle.model.proofs.Tests.{and-fst, and-snd, and-mk, is-true, yes-first, first-passed}
@@ -101,9 +101,9 @@ module _ (L : ℕ) where
             (omega arith, omega arith)
 
     -- check 13: a delivery is in its grower's partition just if the column holds it
-    pub held-is : (d : Delivery) → isHeld L c d ≡ among d (allRecords L c)
-    unfolding isHeld
-    held-is d =
+    pub has-is : (d : Delivery) → hasDelivery L c d ≡ among d (allRecords L c)
+    unfolding hasDelivery
+    has-is d =
         let g = d .grower in
         let near : Delivery → Bool = matches g g in
         sym (among-kept d near own (recordsNear L c g)) ∙ ap (among d) (scan-finds g g) ∙ among-kept d near own (allRecords L c)

@@ -15,7 +15,7 @@ use Rattle.model.specs.Column.{Column}
 use Rattle.model.specs.Questions.{lentChecks}
 use Rattle.directory.proofs.Shapes.{Carried, shape-refusal, carried}
 use Rattle.column.proofs.Searching.{located-lent, located-range, located-searched, near-part}
-use Rattle.column.proofs.Reading.{Near, near, near-held}
+use Rattle.column.proofs.Reading.{Near, near, near-partition}
 use Rattle.column.proofs.locate.Statement.{statement}
 use Rattle.column.proofs.locate.Tie as tie
 
@@ -52,7 +52,7 @@ returns-2 : tie.Need-returns-2
 returns-2 c = c .not-located2 .ensures ∙ located-range blockLimit _ _ (shaped (c .before .before .before) .passed) (sym (c .before .before .in-range .ensures) ∙ not-true _ (c .before .if2 .taken))
 
 length-of-requires : tie.Need-length-of-requires
-length-of-requires c κs = let w = shaped (c .before .before) in near-held blockLimit (the-column (c .before .before .before .before .before .before .before .before)) _ (w .passed) _ _ (w .target) (w .start)
+length-of-requires c κs = let w = shaped (c .before .before) in near-partition blockLimit (the-column (c .before .before .before .before .before .before .before .before)) _ (w .passed) _ _ (w .target) (w .start)
 
 add-e : tie.Need-add-e
 add-e c = let k = near-at (c) in omega (arith, k .inside, k .most, k .even .weights, k .even .yields)

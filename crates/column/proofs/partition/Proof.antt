@@ -10,7 +10,7 @@ use Rattle.model.specs.Place.{place}
 use Rattle.model.specs.Directory.{directoryOf}
 use Rattle.model.specs.Bounds.{blockLimit}
 use Rattle.directory.proofs.Shapes.{Carried, shape-refusal, carried}
-use Rattle.column.proofs.Handing.{partition-refused, partition-done, partition-directory, partition-held}
+use Rattle.column.proofs.Handing.{partition-refused, partition-done, partition-directory, partition-has}
 use Rattle.column.proofs.partition.Statement.{statement}
 use Rattle.column.proofs.partition.Tie as tie
 
@@ -29,7 +29,7 @@ returns : tie.Need-returns
 returns c = c .no-partition .ensures ∙ partition-refused blockLimit _ _ _ _ (shape-refusal blockLimit _ _ _ _ (c .before .before .lent-growers .ensures)) (c .before .if1 .taken)
 
 length-of-requires : tie.Need-length-of-requires
-length-of-requires c κs = let w = shaped c in rw (w .target) (partition-held blockLimit _ _ _ (w .passed))
+length-of-requires c κs = let w = shaped c in rw (w .target) (partition-has blockLimit _ _ _ (w .passed))
 
 cast-t9 : tie.Need-cast-t9
 cast-t9 c = let w = shaped (c .before) in omega (arith, w .start, dir-start blockLimit _ (partition-directory blockLimit _ (c .before .before .before .before .before .args .growers .now) (c .before .before .before .before .before .args .grower) (w .passed)) (place (directoryOf blockLimit (c .before .before .before .before .before .args .directory .now) .fences) (c .before .before .before .before .before .args .grower)))

@@ -6,7 +6,7 @@ use Rattle.model.specs.Moves.{moved}
 use Rattle.model.specs.Bounds.{blockLimit}
 use Rattle.model.specs.Column.{Column, lengthsOf}
 use Rattle.model.specs.Partitions.{oneMore, oneFewer}
-use Rattle.column.proofs.Writing.{held-after, twice, column-is}
+use Rattle.column.proofs.Writing.{partition-after, twice, column-is}
 use Rattle.column.proofs.shift.Statement.{statement}
 use Rattle.column.proofs.shift.Tie as tie
 
@@ -20,7 +20,7 @@ shrink-requires : tie.Need-shrink-requires
 shrink-requires c κs = let p = c .before .before .before .before .before .before .before .before .before .before .before .before .before .before .before .before .pre in (p .0 .here, omega (arith, p .1))
 
 grow-requires : tie.Need-grow-requires
-grow-requires c κs = let p = c .before .before .before .before .before .before .before .before .before .before .before .before .before .before .before .before .before .before .before .before .pre in rw (c .before .before .before .shrink .ensures) (held-after blockLimit _ _ _ (p .0 .here) (omega (arith, p .1)) (p .2))
+grow-requires c κs = let p = c .before .before .before .before .before .before .before .before .before .before .before .before .before .before .before .before .before .before .before .before .pre in rw (c .before .before .before .shrink .ensures) (partition-after blockLimit _ _ _ (p .0 .here) (omega (arith, p .1)) (p .2))
 
 same-length : tie.Need-same-length
 same-length c = search needs

@@ -61,8 +61,8 @@ returns c = let s = c .before .before .before .before .before .before .before .b
 block-of-requires : tie.Need-block-of-requires
 block-of-requires c κs = passed c .whole-set .sized
 
-is-held-requires : tie.Need-is-held-requires
-is-held-requires c κs = let w = passed (c .before) .whole-set in (w .sized .used-fits, w .even)
+has-delivery-requires : tie.Need-has-delivery-requires
+has-delivery-requires c κs = let w = passed (c .before) .whole-set in (w .sized .used-fits, w .even)
 
 raise-one-requires : tie.Need-raise-one-requires
 raise-one-requires c κs = (omega arith, in-limit (c .before .before .before), passed (c .before .before .before .before) .long)
@@ -71,7 +71,7 @@ same-length-2 : tie.Need-same-length-2
 same-length-2 c = search needs
 
 returns-2 : tie.Need-returns-2
-returns-2 c = c .before .before .raise-one .ensures ∙ answers (c .before .before .before .before .before .before .before) _ (delete-held blockLimit _ _ _ (c .before .before .before .before .before .before .block-of .ensures _ _) (sym (c .before .before .before .before .before .is-held .ensures) ∙ c .before .before .before .before .if2 .taken))
+returns-2 c = c .before .before .raise-one .ensures ∙ answers (c .before .before .before .before .before .before .before) _ (delete-held blockLimit _ _ _ (c .before .before .before .before .before .before .block-of .ensures _ _) (sym (c .before .before .before .before .before .has-delivery .ensures) ∙ c .before .before .before .before .if2 .taken))
 
 raise-one-requires-2 : tie.Need-raise-one-requires-2
 raise-one-requires-2 c κs = (omega arith, in-limit (c .before .before .before), passed (c .before .before .before .before) .long)
@@ -80,7 +80,7 @@ same-length-3 : tie.Need-same-length-3
 same-length-3 c = search needs
 
 returns-3 : tie.Need-returns-3
-returns-3 c = c .before .before .raise-one2 .ensures ∙ answers (c .before .before .before .before .before .before .before) _ (delete-missing blockLimit _ _ _ (c .before .before .before .before .before .before .block-of .ensures _ _) (sym (c .before .before .before .before .before .is-held .ensures) ∙ c .before .before .before .before .if2 .left))
+returns-3 c = c .before .before .raise-one2 .ensures ∙ answers (c .before .before .before .before .before .before .before) _ (delete-missing blockLimit _ _ _ (c .before .before .before .before .before .before .block-of .ensures _ _) (sym (c .before .before .before .before .before .has-delivery .ensures) ∙ c .before .before .before .before .if2 .left))
 
 pub record-delete-spec : {M : Type 1} → statement M
-record-delete-spec = tie.close (tie.spec in-range-requires counted-refusal-requires same-length returns block-of-requires is-held-requires raise-one-requires same-length-2 returns-2 raise-one-requires-2 same-length-3 returns-3)
+record-delete-spec = tie.close (tie.spec in-range-requires counted-refusal-requires same-length returns block-of-requires has-delivery-requires raise-one-requires same-length-2 returns-2 raise-one-requires-2 same-length-3 returns-3)

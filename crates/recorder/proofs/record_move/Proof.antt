@@ -62,8 +62,8 @@ returns c = let s = c .before .before .before .before .before .before .before .b
 block-of-requires : tie.Need-block-of-requires
 block-of-requires c κs = passed c .whole-set .sized
 
-is-held-requires : tie.Need-is-held-requires
-is-held-requires c κs = let w = passed (c .before) .whole-set in (w .sized .used-fits, w .even)
+has-delivery-requires : tie.Need-has-delivery-requires
+has-delivery-requires c κs = let w = passed (c .before) .whole-set in (w .sized .used-fits, w .even)
 
 raise-one-requires : tie.Need-raise-one-requires
 raise-one-requires c κs = (omega arith, in-limit (c .before .before .before), passed (c .before .before .before .before) .long)
@@ -72,7 +72,7 @@ same-length-2 : tie.Need-same-length-2
 same-length-2 c = search needs
 
 returns-2 : tie.Need-returns-2
-returns-2 c = c .before .before .raise-one .ensures ∙ answers (c .before .before .before .before .before .before .before) _ (move-missing blockLimit _ _ _ (c .before .before .before .before .before .before .block-of .ensures _ _) _ (sym (c .before .before .before .before .before .is-held .ensures) ∙ not-true _ (c .before .before .before .before .if2 .taken)))
+returns-2 c = c .before .before .raise-one .ensures ∙ answers (c .before .before .before .before .before .before .before) _ (move-missing blockLimit _ _ _ (c .before .before .before .before .before .before .block-of .ensures _ _) _ (sym (c .before .before .before .before .before .has-delivery .ensures) ∙ not-true _ (c .before .before .before .before .if2 .taken)))
 
 block-of-requires-2 : tie.Need-block-of-requires-2
 block-of-requires-2 c κs = passed (c .before .before .before) .whole-set .sized
@@ -89,7 +89,7 @@ same-length-3 : tie.Need-same-length-3
 same-length-3 c = search needs
 
 returns-3 : tie.Need-returns-3
-returns-3 c = c .before .before .raise-two .ensures ∙ answers (c .before .before .before .before .before .before .before .before .before .before) _ (move-forward blockLimit _ _ _ (c .before .before .before .before .before .before .before .before .before .block-of .ensures _ _) _ _ (c .before .before .before .before .before .before .block-of2 .ensures _ _) (sym (c .before .before .before .before .before .before .before .before .is-held .ensures) ∙ not-false _ (c .before .before .before .before .before .before .before .if2 .left)) (c .before .before .before .before .if3 .taken))
+returns-3 c = c .before .before .raise-two .ensures ∙ answers (c .before .before .before .before .before .before .before .before .before .before) _ (move-forward blockLimit _ _ _ (c .before .before .before .before .before .before .before .before .before .block-of .ensures _ _) _ _ (c .before .before .before .before .before .before .block-of2 .ensures _ _) (sym (c .before .before .before .before .before .before .before .before .has-delivery .ensures) ∙ not-false _ (c .before .before .before .before .before .before .before .if2 .left)) (c .before .before .before .before .if3 .taken))
 
 raise-two-requires-2 : tie.Need-raise-two-requires-2
 raise-two-requires-2 c κs =
@@ -103,7 +103,7 @@ same-length-4 : tie.Need-same-length-4
 same-length-4 c = search needs
 
 returns-4 : tie.Need-returns-4
-returns-4 c = c .before .before .raise-two2 .ensures ∙ answers (c .before .before .before .before .before .before .before .before .before .before) _ (move-backward blockLimit _ _ _ (c .before .before .before .before .before .before .before .before .before .block-of .ensures _ _) _ _ (c .before .before .before .before .before .before .block-of2 .ensures _ _) (sym (c .before .before .before .before .before .before .before .before .is-held .ensures) ∙ not-false _ (c .before .before .before .before .before .before .before .if2 .left)) (c .before .before .before .before .if3 .left))
+returns-4 c = c .before .before .raise-two2 .ensures ∙ answers (c .before .before .before .before .before .before .before .before .before .before) _ (move-backward blockLimit _ _ _ (c .before .before .before .before .before .before .before .before .before .block-of .ensures _ _) _ _ (c .before .before .before .before .before .before .block-of2 .ensures _ _) (sym (c .before .before .before .before .before .before .before .before .has-delivery .ensures) ∙ not-false _ (c .before .before .before .before .before .before .before .if2 .left)) (c .before .before .before .before .if3 .left))
 
 pub record-move-spec : {M : Type 1} → statement M
-record-move-spec = tie.close (tie.spec in-range-requires counted-refusal-requires same-length returns block-of-requires is-held-requires raise-one-requires same-length-2 returns-2 block-of-requires-2 raise-two-requires same-length-3 returns-3 raise-two-requires-2 same-length-4 returns-4)
+record-move-spec = tie.close (tie.spec in-range-requires counted-refusal-requires same-length returns block-of-requires has-delivery-requires raise-one-requires same-length-2 returns-2 block-of-requires-2 raise-two-requires same-length-3 returns-3 raise-two-requires-2 same-length-4 returns-4)

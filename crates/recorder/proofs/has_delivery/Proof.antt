@@ -1,10 +1,10 @@
--- `recorder::is_held` meets its contract: the first match lies before the end just if there is one. Assumes nothing.
+-- `recorder::has_delivery` meets its contract: the first match lies before the end just if there is one. Assumes nothing.
 use native.Mathlib.Omega.{arith}
 use mathlib.Core.Path.{sym, _∙_}
 use lib.Seq.{length-take-le}
-use Rattle.recorder.proofs.Recording.{held-law}
-use Rattle.recorder.proofs.is_held.Statement.{statement}
-use Rattle.recorder.proofs.is_held.Tie as tie
+use Rattle.recorder.proofs.Recording.{has-law}
+use Rattle.recorder.proofs.has_delivery.Statement.{statement}
+use Rattle.recorder.proofs.has_delivery.Tie as tie
 
 slice-aggregate-first-match : tie.Need-slice-aggregate-first-match
 slice-aggregate-first-match c = sym (length-take-le _ _ (omega (arith, c .before .before .before .before .pre .0)))
@@ -23,7 +23,7 @@ first-match-requires c κs =
     record { weights = length-take-le (g .used) (g .w .now) (omega (arith, s .pre .0, s .pre .1 .weights)) ∙ sym n; yields = length-take-le (g .used) (g .y .now) (omega (arith, s .pre .0, s .pre .1 .yields)) ∙ sym n }
 
 returns : tie.Need-returns
-returns c = let p = c .before .before .before .before .before .before .before .pre in held-law _ _ _ _ _ _ (p .0) (p .1) (c .first-match .ensures)
+returns c = let p = c .before .before .before .before .before .before .before .pre in has-law _ _ _ _ _ _ (p .0) (p .1) (c .first-match .ensures)
 
-pub is-held-spec : {M : Type 1} → statement M
-is-held-spec = tie.close (tie.spec slice-aggregate-first-match slice-aggregate-first-match-2 slice-aggregate-first-match-3 first-match-requires returns)
+pub has-delivery-spec : {M : Type 1} → statement M
+has-delivery-spec = tie.close (tie.spec slice-aggregate-first-match slice-aggregate-first-match-2 slice-aggregate-first-match-3 first-match-requires returns)
