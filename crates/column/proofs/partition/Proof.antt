@@ -1,15 +1,16 @@
 -- `column::partition` meets its contract: the checks answer, and then what the directory's pass found does. Assumes nothing.
-use Prim.Native.Nat.{ℕ}
-use borrow.Author.Needs.{needs}
-use native.Mathlib.Omega.{arith}
 use lib.ListN.{getD}
+use native.Mathlib.Omega.{arith}
+use lib.Dec.{T}
+use borrow.Author.Needs.{needs}
+use Prim.Native.Nat.{ℕ}
 use mathlib.Core.Path.{ap, _∙_}
-use Rattle.model.specs.Questions.{partitionChecks}
 use Rattle.directory.proofs.Numbers.{dir-start, dir-fits}
+use Rattle.model.specs.Bounds.{blockLimit, mostSlots}
 use Rattle.model.specs.Place.{place}
-use Rattle.model.specs.Directory.{directoryOf}
-use Rattle.model.specs.Bounds.{blockLimit}
+use Rattle.model.specs.Directory.{directoryOf, directoryOk}
 use Rattle.directory.proofs.Shapes.{Carried, shape-refusal, carried}
+use Rattle.model.specs.Questions.{partitionChecks}
 use Rattle.column.proofs.Handing.{partition-refused, partition-done, partition-directory, partition-has}
 use Rattle.column.proofs.partition.Statement.{statement}
 use Rattle.column.proofs.partition.Tie as tie
@@ -18,6 +19,11 @@ use Rattle.column.proofs.partition.Tie as tie
 shaped : (c : tie.Else1)
     → (let a = c .before .before .before .before .args in Carried blockLimit (partitionChecks blockLimit (a .directory .now) (a .growers .now)) (a .directory .now) (a .grower) (c .before .lent-growers .result))
 shaped c = carried blockLimit _ _ _ _ (c .before .lent-growers .ensures) (c .if1 .left)
+
+shaped-directory : (c : tie.Else1) → T (directoryOk blockLimit mostSlots (c .before .before .before .before .args .directory .now))
+shaped-directory c =
+    let b₁ = c .before .before .before .before in
+    partition-directory blockLimit _ (b₁ .args .growers .now) (b₁ .args .grower) (shaped c .passed)
 
 lent-growers-requires : tie.Need-lent-growers-requires
 lent-growers-requires c κs = search needs
@@ -32,15 +38,29 @@ length-of-requires : tie.Need-length-of-requires
 length-of-requires c κs = let w = shaped c in rw (w .target) (partition-has blockLimit _ _ _ (w .passed))
 
 cast-t9 : tie.Need-cast-t9
-cast-t9 c = let w = shaped (c .before) in omega (arith, w .start, dir-start blockLimit _ (partition-directory blockLimit _ (c .before .before .before .before .before .args .growers .now) (c .before .before .before .before .before .args .grower) (w .passed)) (place (directoryOf blockLimit (c .before .before .before .before .before .args .directory .now) .fences) (c .before .before .before .before .before .args .grower)))
+cast-t9 c =
+    let b₁ = c .before .before .before .before .before in
+    let w = shaped (c .before) in
+    let a = b₁ .args in
+    omega (arith, w .start, dir-start blockLimit _ (shaped-directory (c .before)) (place (directoryOf blockLimit (a .directory .now) .fences) (a .grower)))
 
 cast-t10 : tie.Need-cast-t10
-cast-t10 c = let w = shaped (c .before) in omega (arith, c .length-of .ensures, dir-fits blockLimit _ (partition-directory blockLimit _ (c .before .before .before .before .before .args .growers .now) (c .before .before .before .before .before .args .grower) (w .passed)) (c .before .before .lent-growers .result .target))
+cast-t10 c = omega (arith, c .length-of .ensures, dir-fits blockLimit _ (shaped-directory (c .before)) (c .before .before .lent-growers .result .target))
 
 returns-2 : tie.Need-returns-2
 returns-2 c =
+    let b₁ = c .before .before .before .before .before in
     let w = shaped (c .before) in
-    partition-done blockLimit _ _ _ (w .passed) _ _ (w .start) (c .length-of .ensures ∙ ap (λ (t : ℕ). getD (directoryOf blockLimit (c .before .before .before .before .before .args .directory .now) .lengths) t 0) (w .target))
+    partition-done blockLimit _ _ _ (w .passed) _ _ (w .start) (c .length-of .ensures ∙ ap (λ (t : ℕ). getD (directoryOf blockLimit (b₁ .args .directory .now) .lengths) t 0) (w .target))
 
 pub partition-spec : {M : Type 1} → statement M
-partition-spec = tie.close (tie.spec lent-growers-requires no-partition-requires returns length-of-requires cast-t9 cast-t10 returns-2)
+partition-spec =
+    tie.close
+    (tie.spec
+    lent-growers-requires
+    no-partition-requires
+    returns
+    length-of-requires
+    cast-t9
+    cast-t10
+    returns-2)

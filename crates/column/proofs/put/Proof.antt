@@ -1,13 +1,13 @@
 -- `column::put` meets its contract: the ripple moves the slots, and one number of the directory changes. Assumes nothing.
-use Prim.Native.Nat.{ℕ}
-use borrow.Author.Needs.{needs}
 use mathlib.Core.List.{List}
+use borrow.Author.Needs.{needs}
+use Prim.Native.Nat.{ℕ}
 use mathlib.Core.Path.{ap, _∙_}
-use Rattle.model.specs.Lent.{columnOf}
+use Rattle.directory.proofs.Numbers.{has-numbered, has-inside}
 use Rattle.model.specs.Partitions.{oneMore}
+use Rattle.model.specs.Lent.{columnOf}
 use Rattle.model.specs.Bounds.{blockLimit}
 use Rattle.model.specs.Column.{Column, lengthsOf}
-use Rattle.directory.proofs.Numbers.{has-numbered, has-inside}
 use Rattle.model.specs.Moves.{inserted}
 use Rattle.column.proofs.Writing.{column-is}
 use Rattle.column.proofs.put.Statement.{statement}
@@ -21,11 +21,14 @@ lengths-requires c κs = has-numbered blockLimit _ _ (c .before .before .before 
 
 insert-slots-requires : tie.Need-insert-slots-requires
 insert-slots-requires c κs =
-    let p = c .before .before .before .before .before .before .before .before .before .pre in
+    let b₁ = c .before .before .before .before .before .before .before .before .before in
+    let p = b₁ .pre in
     rw (c .lengths .ensures) (has-inside blockLimit _ _ (p .0 .here), p .0 .start, p .1, p .2, p .0 .even)
 
 grow-requires : tie.Need-grow-requires
-grow-requires c κs = c .before .before .before .before .before .before .before .before .before .before .before .before .before .before .before .before .before .pre .0 .here
+grow-requires c κs =
+    let b₁ = c .before .before .before .before .before .before .before .before .before .before .before .before .before .before .before .before .before in
+    b₁ .pre .0 .here
 
 same-length : tie.Need-same-length
 same-length c = search needs
@@ -41,14 +44,27 @@ same-length-4 c = search needs
 
 returns : tie.Need-returns
 returns c =
-    let a = c .before .before .before .before .before .before .before .before .before .before .before .before .before .before .before .before .before .before .before .before .args in
-    let k = the-column (c .before .before .before .before .before .before .before .before .before .before .before .before .before .before .before .before .before .before .before .before) in
-    let l = c .before .before .before .before .before .before .before .before .before .before .before .lengths .ensures in
-    let e = c .before .before .before .before .before .before .before .before .before .before .insert-slots .ensures in
+    let b₁ = c .before .before .before .before .before .before .before .before .before .before in
+    let b₂ = b₁ .before in
+    let b₃ = b₂ .before .before .before .before .before .before .before .before .before in
+    let a = b₃ .args in
+    let k = the-column b₃ in
+    let l = b₂ .lengths .ensures in
+    let e = b₁ .insert-slots .ensures in
     column-is (inserted (lengthsOf blockLimit k) (a .partition)) (a .d) (oneMore (a .partition) (lengthsOf blockLimit k)) k _ _ _ _ (c .before .before .grow .ensures)
     (e .0 ∙ ap (λ (ns : List ℕ). inserted ns (a .partition) (a .d .grower) (a .g .now)) l)
     (e .1 ∙ ap (λ (ns : List ℕ). inserted ns (a .partition) (a .d .weight) (a .w .now)) l)
     (e .2 ∙ ap (λ (ns : List ℕ). inserted ns (a .partition) (a .d .«oil_yield») (a .y .now)) l)
 
 pub put-spec : {M : Type 1} → statement M
-put-spec = tie.close (tie.spec lengths-requires insert-slots-requires grow-requires same-length same-length-2 same-length-3 same-length-4 returns)
+put-spec =
+    tie.close
+    (tie.spec
+    lengths-requires
+    insert-slots-requires
+    grow-requires
+    same-length
+    same-length-2
+    same-length-3
+    same-length-4
+    returns)

@@ -1,12 +1,12 @@
 -- `column::range` meets its contract: the checks answer, and then the scan does. Assumes nothing.
 use borrow.Author.Needs.{needs}
 use mathlib.Core.Path.{_≡_, sym, ap, _∙_}
-use Rattle.model.specs.Checks.{firstFailed}
-use Rattle.model.specs.Lent.{columnOf}
-use Rattle.model.specs.ColumnCalls.{Called}
-use Rattle.directory.proofs.Shapes.{Carried, shape-refusal, carried}
 use Rattle.model.specs.Partitions.{startOf}
+use Rattle.model.specs.Checks.{firstFailed}
+use Rattle.model.specs.ColumnCalls.{Called}
+use Rattle.model.specs.Lent.{columnOf}
 use Rattle.model.specs.Bounds.{blockLimit}
+use Rattle.directory.proofs.Shapes.{Carried, shape-refusal, carried}
 use Rattle.model.specs.Questions.{lentChecks}
 use Rattle.model.specs.Column.{Column, lengthsOf}
 use Rattle.model.specs.Calls.{range}
@@ -19,7 +19,8 @@ abbrev the-column : tie.Start → Column
 the-column c = let a = c .args in columnOf (a .directory .now) (a .growers .now) (a .weights .now) (a .yields .now)
 
 -- past checks 2, 3 and 6
-shaped : (c : tie.Else1) → (let s = c .before .before .before .before .before .before in Carried blockLimit (lentChecks blockLimit (the-column s)) (s .args .directory .now) (s .args .lo) (c .before .lent .result))
+shaped : (c : tie.Else1)
+    → (let s = c .before .before .before .before .before .before in Carried blockLimit (lentChecks blockLimit (the-column s)) (s .args .directory .now) (s .args .lo) (c .before .lent .result))
 shaped c = carried blockLimit _ _ _ _ (c .before .lent .ensures) (c .if1 .left)
 
 refusal : (c : tie.After-lent) → c .lent .result .refusal ≡ firstFailed (lentChecks blockLimit (the-column (c .before .before .before .before .before)))
@@ -41,10 +42,21 @@ returns-2 : tie.Need-returns-2
 returns-2 c = c .refused2 .ensures ∙ range-backwards blockLimit _ (shaped (c .before .before) .passed) _ _ (c .before .if2 .taken)
 
 read-requires : tie.Need-read-requires
-read-requires c κs = let w = shaped (c .before) in (w .passed, c .if2 .left, w .target, w .start ∙ ap (startOf (lengthsOf blockLimit (the-column (c .before .before .before .before .before .before .before)))) (sym (w .target)))
+read-requires c κs =
+    let b₁ = c .before .before .before .before .before .before .before in
+    let w = shaped (c .before) in (w .passed, c .if2 .left, w .target, w .start ∙ ap (startOf (lengthsOf blockLimit (the-column b₁))) (sym (w .target)))
 
 returns-3 : tie.Need-returns-3
 returns-3 c = search needs
 
 pub range-spec : {M : Type 1} → statement M
-range-spec = tie.close (tie.spec lent-requires refused-requires returns refused-requires-2 returns-2 read-requires returns-3)
+range-spec =
+    tie.close
+    (tie.spec
+    lent-requires
+    refused-requires
+    returns
+    refused-requires-2
+    returns-2
+    read-requires
+    returns-3)

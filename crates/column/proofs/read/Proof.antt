@@ -1,16 +1,16 @@
 -- `column::read` meets its contract: one scan of the partitions from lo's to hi's answers the range. Assumes nothing.
-use borrow.Author.Needs.{needs}
-use native.Mathlib.Omega.{arith}
-use Prim.Native.Nat.{_+_, _-_}
 use lib.ListN.{getD}
+use Prim.Native.Nat.{_+_, _-_}
+use native.Mathlib.Omega.{arith}
 use borrow.Author.Tests.{not-true, not-false}
+use borrow.Author.Needs.{needs}
 use mathlib.Core.Path.{_≡_, _∙_}
-use Rattle.scan.specs.Scans.{scanOf}
-use Rattle.model.specs.Column.{Column, slots, lengthsOf, target}
-use Rattle.directory.proofs.Numbers.{block-is}
+use Rattle.directory.proofs.LentColumns.{LentColumn, lent-column, numbered, count-lengths, most-shaped}
 use Rattle.model.specs.Lent.{columnOf}
 use Rattle.model.specs.Bounds.{blockLimit}
-use Rattle.directory.proofs.LentColumns.{LentColumn, lent-column, numbered, count-lengths, most-shaped}
+use Rattle.model.specs.Column.{Column, slots, lengthsOf, target}
+use Rattle.directory.proofs.Numbers.{block-is}
+use Rattle.scan.specs.Scans.{scanOf}
 use Rattle.column.proofs.Reading.{targets-ordered, target-there, good-scan, blocks-some, range-bad, range-good}
 use Rattle.column.proofs.read.Statement.{statement}
 use Rattle.column.proofs.read.Tie as tie
@@ -26,7 +26,10 @@ scanned : (c : tie.After-scan-parts)
     → (let s = c .before .before .before .before .before .before .before .before in let k = the-column s in let lo = target blockLimit k (s .args .lo) in
     c .scan-parts .result
     ≡ scanOf (getD (s .args .directory .now) 0 0) (lengthsOf blockLimit k) lo (target blockLimit k (s .args .hi) + 1 - lo) (s .args .lo) (s .args .hi) (slots k))
-scanned c = rw (c .before .before .lengths .ensures, c .before .before .before .before .before .before .before .before .pre .2, c .before .before .before .partition-of .ensures, c .before .block .ensures ∙ block-is blockLimit _) at (c .scan-parts .ensures)
+scanned c =
+    let b₁ = c .before .before .before in
+    let b₂ = b₁ .before .before .before .before .before in
+    rw (c .before .before .lengths .ensures, b₂ .pre .2, b₁ .partition-of .ensures, c .before .block .ensures ∙ block-is blockLimit _) at (c .scan-parts .ensures)
 
 partition-of-requires : tie.Need-partition-of-requires
 partition-of-requires c κs = most-shaped blockLimit _ (lent (c .before .before .before .before))
@@ -39,27 +42,54 @@ block-requires c κs = lent (c .before .before .before .before .before .before) 
 
 scan-parts-requires : tie.Need-scan-parts-requires
 scan-parts-requires c κs =
-    let s = c .before .before .before .before .before .before .before in
+    let b₁ = c .before .before .before .before .before .before .before in
+    let s = b₁ in
     let p = s .pre in
     let l = lent s in
-    rw (c .before .lengths .ensures, c .before .before .partition-of .ensures, c .block .ensures ∙ block-is blockLimit _)
-    ((rw (p .2) (targets-ordered blockLimit _ (p .0) _ _ (p .1)), target-there blockLimit _ (p .0) _, omega (arith, count-lengths blockLimit _ l, l .shape .few), l .shape .room, l .block, p .3), (l .most, l .even))
+    rw (c .before .lengths .ensures, c .before .before .partition-of .ensures, c .block .ensures ∙ block-is blockLimit _) (
+      (
+        rw (p .2) (targets-ordered blockLimit _ (p .0) _ _ (p .1)),
+        target-there blockLimit _ (p .0) _,
+        omega (arith, count-lengths blockLimit _ l, l .shape .few),
+        l .shape .room,
+        l .block,
+        p .3,
+      ),
+      (l .most, l .even),
+    )
 
 refused-requires : tie.Need-refused-requires
 refused-requires c κs = search needs
 
 returns : tie.Need-returns
-returns c = c .refused .ensures ∙ (let p = c .before .before .before .before .before .before .before .before .before .before .before .pre in range-bad blockLimit _ (p .0) _ _ (p .1) _ (scanned (c .before .before .before)) (not-true _ (c .before .if1 .taken)))
+returns c =
+    let b₁ = c .before .before .before in
+    let b₂ = b₁ .before .before .before .before .before .before .before .before in
+    c .refused .ensures ∙ (let p = b₂ .pre in range-bad blockLimit _ (p .0) _ _ (p .1) _ (scanned b₁) (not-true _ (c .before .if1 .taken)))
 
 reads-of-requires : tie.Need-reads-of-requires
 reads-of-requires c κs =
-    let s = c .before .before .before .before .before .before .before .before .before .before in
+    let b₁ = c .before .before .before .before .before .before .before .before .before .before in
+    let s = b₁ in
     let p = s .pre in
     rw (good-scan _ _ _ _ _ _ _ _ (scanned (c .before .before)) (not-false _ (c .if1 .left)) .blocks)
     (blocks-some _ (lengthsOf blockLimit (the-column s)) _ _ (targets-ordered blockLimit (the-column s) (p .0) _ _ (p .1)) (target-there blockLimit (the-column s) (p .0) _))
 
 returns-2 : tie.Need-returns-2
-returns-2 c = let p = c .before .before .before .before .before .before .before .before .before .before .before .before .pre in range-good blockLimit _ (p .0) _ _ (p .1) _ (scanned (c .before .before .before .before)) _ (not-false _ (c .before .before .if1 .left)) (c .before .reads-of .ensures)
+returns-2 c =
+    let b₁ = c .before .before .before .before in
+    let b₂ = b₁ .before .before .before .before .before .before .before .before in
+    let p = b₂ .pre in range-good blockLimit _ (p .0) _ _ (p .1) _ (scanned b₁) _ (not-false _ (c .before .before .if1 .left)) (c .before .reads-of .ensures)
 
 pub read-spec : {M : Type 1} → statement M
-read-spec = tie.close (tie.spec partition-of-requires lengths-requires block-requires scan-parts-requires refused-requires returns reads-of-requires returns-2)
+read-spec =
+    tie.close
+    (tie.spec
+    partition-of-requires
+    lengths-requires
+    block-requires
+    scan-parts-requires
+    refused-requires
+    returns
+    reads-of-requires
+    returns-2)

@@ -36,7 +36,10 @@ refused-requires-3 : tie.Need-refused-requires-3
 refused-requires-3 c κs = search needs
 
 returns-3 : tie.Need-returns-3
-returns-3 c = let g = c .before .before .before .before .before .before .args in c .refused3 .ensures ∙ judged-not blockLimit (g .c) (g .directory .now) (g .grower) (λ s. let h = s .few in omega arith)
+returns-3 c =
+    let b₁ = c .before .before .before .before .before .before in
+    let g = b₁ .args in
+    c .refused3 .ensures ∙ judged-not blockLimit (g .c) (g .directory .now) (g .grower) (λ s. let h = s .few in omega arith)
 
 add-a : tie.Need-add-a
 add-a c = search needs
@@ -75,7 +78,10 @@ refused-requires-4 : tie.Need-refused-requires-4
 refused-requires-4 c κs = search needs
 
 returns-4 : tie.Need-returns-4
-returns-4 c = let g = c .before .before .before .before .before .before .before .before .before .before .args in c .refused4 .ensures ∙ judged-not blockLimit (g .c) (g .directory .now) (g .grower) (λ s. no-such (unused-parts blockLimit (g .directory .now) (s .size) (s .few) (s .unused)) (sym (c .before .before .zeros .ensures) ∙ not-true _ (c .before .if4 .taken)))
+returns-4 c =
+    let b₁ = c .before .before .before .before .before .before .before .before .before .before in
+    let g = b₁ .args in
+    c .refused4 .ensures ∙ judged-not blockLimit (g .c) (g .directory .now) (g .grower) (λ s. no-such (unused-parts blockLimit (g .directory .now) (s .size) (s .few) (s .unused)) (sym (c .before .before .zeros .ensures) ∙ not-true _ (c .before .if4 .taken)))
 
 sub-surveyed : tie.Need-sub-surveyed
 sub-surveyed c = search needs
@@ -102,23 +108,36 @@ refused-requires-5 : tie.Need-refused-requires-5
 refused-requires-5 c κs = search needs
 
 returns-5 : tie.Need-returns-5
-returns-5 c = let g = c .before .before .before .before .before .before .before .before .before .before .before .before .before .before .before .args in c .refused5 .ensures ∙ judged-not blockLimit (g .c) (g .directory .now) (g .grower) (λ s. no-such (s .rises) (ap rising (sym (fences-part blockLimit (g .directory .now) (s .size) (s .few))) ∙ sym (c .before .before .before .surveyed .ensures .0) ∙ not-true _ (c .before .if5 .taken)))
+returns-5 c =
+    let b₁ = c .before .before .before in
+    let b₂ = b₁ .before .before .before .before .before .before .before .before .before .before .before .before in
+    let g = b₂ .args in
+    c .refused5 .ensures ∙ judged-not blockLimit (g .c) (g .directory .now) (g .grower) (λ s. no-such (s .rises) (ap rising (sym (fences-part blockLimit (g .directory .now) (s .size) (s .few))) ∙ sym (b₁ .surveyed .ensures .0) ∙ not-true _ (c .before .if5 .taken)))
 
 refused-requires-6 : tie.Need-refused-requires-6
 refused-requires-6 c κs = search needs
 
 returns-6 : tie.Need-returns-6
-returns-6 c = let g = c .before .before .before .before .before .before .before .before .before .before .before .before .before .before .before .before .before .args in c .refused6 .ensures ∙ judged-not blockLimit (g .c) (g .directory .now) (g .grower) (λ s. let e = c .before .before .before .before .before .surveyed .ensures .1 ∙ ap sumOf (lengths-part blockLimit (g .directory .now) (s .size) (s .few)) in let h = s .room in omega arith)
+returns-6 c =
+    let b₁ = c .before .before .before .before .before in
+    let b₂ = b₁ .before .before .before .before .before .before .before .before .before .before .before .before in
+    let g = b₂ .args in
+    c .refused6 .ensures ∙ judged-not blockLimit (g .c) (g .directory .now) (g .grower) (λ s. let e = b₁ .surveyed .ensures .1 ∙ ap sumOf (lengths-part blockLimit (g .directory .now) (s .size) (s .few)) in let h = s .room in omega arith)
 
 returns-7 : tie.Need-returns-7
 returns-7 c =
-    let g = c .before .before .before .before .before .before .before .before .before .before .before .before .before .before .before .before .args in
+    let b₁ = c .before .before .before .before in
+    let b₂ = b₁ .before .before .before in
+    let b₃ = b₂ .before in
+    let b₄ = b₃ .before .before .before .before .before .before in
+    let b₅ = b₄ .before .before in
+    let g = b₅ .args in
     let ns = g .directory .now in
-    let size : length ns ≡ directorySize blockLimit = c .before .before .before .before .before .before .before .before .before .before .before .before .before .before .if1 .left in
+    let size : length ns ≡ directorySize blockLimit = b₄ .if1 .left in
     let few : getD ns 1 0 ≤ blockLimit = omega arith in
     let lens = lengths-part blockLimit ns size few in
     let fences = fences-part blockLimit ns size few in
-    let s = c .before .before .before .before .surveyed .ensures in
+    let s = b₁ .surveyed .ensures in
     let up = of-true _ (sym (s .0) ∙ not-false _ (c .before .before .if5 .left)) in
     let sum = s .1 ∙ ap sumOf lens in
     let found = s .2 up in
@@ -127,7 +146,7 @@ returns-7 c =
       size = size;
       some = omega arith;
       few = few;
-      unused = unused-both blockLimit ns size few (of-true _ (sym (c .before .before .before .before .before .before .before .before .zeros .ensures) ∙ not-false _ (c .before .before .before .before .before .before .before .if4 .left)));
+      unused = unused-both blockLimit ns size few (of-true _ (sym (b₃ .zeros .ensures) ∙ not-false _ (b₂ .if4 .left)));
       rises = rw fences at up;
       room = omega arith;
     } in

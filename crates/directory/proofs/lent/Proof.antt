@@ -16,7 +16,10 @@ refused-requires : tie.Need-refused-requires
 refused-requires c κs = search needs
 
 returns : tie.Need-returns
-returns c = let g = c .before .before .before .before .before .before .before .args in c .refused .ensures ∙ shape-refused blockLimit (g .directory .now) (g .grower) 1 _ (fails 2 _ _ (sym (c .before .before .directory-block-ok .ensures) ∙ not-true _ (c .before .if1 .taken)))
+returns c =
+    let b₁ = c .before .before .before .before .before .before .before in
+    let g = b₁ .args in
+    c .refused .ensures ∙ shape-refused blockLimit (g .directory .now) (g .grower) 1 _ (fails 2 _ _ (sym (c .before .before .directory-block-ok .ensures) ∙ not-true _ (c .before .if1 .taken)))
 
 slices-ok-requires : tie.Need-slices-ok-requires
 slices-ok-requires c κs = search needs
@@ -25,13 +28,23 @@ refused-requires-2 : tie.Need-refused-requires-2
 refused-requires-2 c κs = search needs
 
 returns-2 : tie.Need-returns-2
-returns-2 c = let g = c .before .before .before .before .before .before .before .before .before .args in c .refused2 .ensures ∙ shape-refused blockLimit (g .directory .now) (g .grower) 2 _ (passes 2 3 _ _ (sym (c .before .before .before .before .directory-block-ok .ensures) ∙ not-false _ (c .before .before .before .if1 .left)) (fails 3 _ _ (sym (c .before .before .slices-ok .ensures) ∙ not-true _ (c .before .if2 .taken))))
+returns-2 c =
+    let b₁ = c .before .before .before in
+    let b₂ = b₁ .before in
+    let b₃ = b₂ .before .before .before .before .before in
+    let g = b₃ .args in
+    c .refused2 .ensures ∙ shape-refused blockLimit (g .directory .now) (g .grower) 2 _ (passes 2 3 _ _ (sym (b₂ .directory-block-ok .ensures) ∙ not-false _ (b₁ .if1 .left)) (fails 3 _ _ (sym (c .before .before .slices-ok .ensures) ∙ not-true _ (c .before .if2 .taken))))
 
 judged-requires : tie.Need-judged-requires
 judged-requires c κs = search needs
 
 returns-3 : tie.Need-returns-3
-returns-3 c = let g = c .before .before .before .before .before .before .before .before .before .args in c .judged .ensures ∙ shape-judged blockLimit (g .directory .now) (g .grower) (length (g .g .now)) _ (sym (passes 2 _ _ _ (sym (c .before .before .before .before .directory-block-ok .ensures) ∙ not-false _ (c .before .before .before .if1 .left)) (passes 3 _ _ _ (sym (c .before .before .slices-ok .ensures) ∙ not-false _ (c .before .if2 .left)) refl)))
+returns-3 c =
+    let b₁ = c .before .before .before in
+    let b₂ = b₁ .before in
+    let b₃ = b₂ .before .before .before .before .before in
+    let g = b₃ .args in
+    c .judged .ensures ∙ shape-judged blockLimit (g .directory .now) (g .grower) (length (g .g .now)) _ (sym (passes 2 _ _ _ (sym (b₂ .directory-block-ok .ensures) ∙ not-false _ (b₁ .if1 .left)) (passes 3 _ _ _ (sym (c .before .before .slices-ok .ensures) ∙ not-false _ (c .before .if2 .left)) refl)))
 
 pub lent-spec : {M : Type 1} → statement M
 lent-spec =

@@ -1,7 +1,7 @@
 -- `histograms::raise_one` meets its contract: there is room, and the count is raised, or there is none. Assumes nothing.
-use mathlib.Core.List.{[], _∷_}
 use Prim.Native.Nat.{ℕ, _+_, _*_, _<_}
 use mathlib.Core.Path.{_≡_, ap, _∙_}
+use mathlib.Core.List.{[], _∷_}
 use lib.ListN.{length}
 use native.Mathlib.Omega.{arith}
 use borrow.Author.Needs.{needs}
@@ -34,11 +34,22 @@ same-length c = search needs
 
 returns : tie.Need-returns
 returns c =
-    all-raised _ _ _ (room-yes _ _ _ (c .before .before .before .before .if1 .taken) ∙ room-none _) (raise-on _ _ _ _ _ (c .before .before .raise .ensures) (raise-none _))
-    ∙ the-slot (c .before .before .before .before .before .before)
+    let b₁ = c .before .before .before .before in
+    let b₂ = b₁ .before .before in
+    all-raised _ _ _ (room-yes _ _ _ (b₁ .if1 .taken) ∙ room-none _) (raise-on _ _ _ _ _ (c .before .before .raise .ensures) (raise-none _))
+    ∙ the-slot b₂
 
 returns-2 : tie.Need-returns-2
 returns-2 c = not-raised _ _ (room-no _ _ _ (c .if1 .left)) ∙ the-slot (c .before .before)
 
 pub raise-one-spec : {M : Type 1} → statement M
-raise-one-spec = tie.close (tie.spec slot-requires mul-if1 slice-read-if1 raise-requires same-length returns returns-2)
+raise-one-spec =
+    tie.close
+    (tie.spec
+    slot-requires
+    mul-if1
+    slice-read-if1
+    raise-requires
+    same-length
+    returns
+    returns-2)

@@ -1,12 +1,12 @@
 -- `histograms::raise_span` meets its contract: where one of the counts has no room nothing is raised; the ends stand ahead of those between, whose room they leave as it was. Assumes nothing.
 use mathlib.Core.Bool.{true}
+use borrow.Author.Tests.{not-true, not-false}
 use Prim.Native.Nat.{_-_}
 use mathlib.Core.Path.{_≡_, sym, _∙_}
 use native.Mathlib.Omega.{arith}
-use borrow.Author.Tests.{not-true, not-false}
 use borrow.Author.Needs.{needs}
-use Rattle.model.specs.Bounds.{blockLimit}
 use Rattle.model.specs.Lists.{upFrom}
+use Rattle.model.specs.Bounds.{blockLimit}
 use Rattle.histograms.proofs.Slots.{room-no, room-yes, not-raised, all-raised, later-ready, Span, span-inside, span-part, span-room, span-ready, span-raised}
 use Rattle.histograms.specs.Raising.{roomAt}
 use Rattle.histograms.proofs.raise_span.Statement.{statement}
@@ -17,12 +17,14 @@ the-span : (c : tie.After-slot4)
     → (let g = c .before .before .before .before .before .args in
     Span blockLimit (g .h .now) (g .a) (g .b) (c .before .before .before .slot .result) (c .before .before .slot2 .result) (c .before .slot3 .result) (c .slot4 .result))
 the-span c =
-    let p = c .before .before .before .before .before .pre in
+    let b₁ = c .before .before .before in
+    let b₂ = b₁ .before .before in
+    let p = b₂ .pre in
     record {
       rises = p .0;
       below = p .1;
       long = p .2;
-      first = omega (arith, c .before .before .before .slot .ensures);
+      first = omega (arith, b₁ .slot .ensures);
       last = omega (arith, c .before .before .slot2 .ensures);
       from = omega (arith, c .before .slot3 .ensures);
       stop = omega (arith, c .slot4 .ensures);
@@ -67,7 +69,9 @@ slice-read-if2 : tie.Need-slice-read-if2
 slice-read-if2 c = span-inside blockLimit (the-span (c .before .before .before)) .1
 
 returns-2 : tie.Need-returns-2
-returns-2 c = not-raised _ _ (span-room blockLimit (the-span (c .before .before .before .before)) ∙ room-yes _ _ _ (c .before .before .if1 .left) ∙ room-no _ _ _ (c .if2 .taken))
+returns-2 c =
+    let b₁ = c .before .before .before .before in
+    not-raised _ _ (span-room blockLimit (the-span b₁) ∙ room-yes _ _ _ (c .before .before .if1 .left) ∙ room-no _ _ _ (c .if2 .taken))
 
 mul-within : tie.Need-mul-within
 mul-within c = omega (arith, span-inside blockLimit (the-span (c .before .before .before .before)) .3)
@@ -88,25 +92,73 @@ same-length : tie.Need-same-length
 same-length c = search needs
 
 returns-3 : tie.Need-returns-3
-returns-3 c = not-raised _ _ (span-room blockLimit (the-span (c .before .before .before .before .before .before .before .before)) ∙ room-yes _ _ _ (c .before .before .before .before .before .before .if1 .left) ∙ room-yes _ _ _ (c .before .before .before .before .if2 .left) ∙ between (c .before) ∙ not-true _ (c .if3 .taken))
+returns-3 c =
+    let b₁ = c .before .before .before .before in
+    let b₂ = b₁ .before .before in
+    let b₃ = b₂ .before .before in
+    not-raised _ _ (span-room blockLimit (the-span b₃) ∙ room-yes _ _ _ (b₂ .if1 .left) ∙ room-yes _ _ _ (b₁ .if2 .left) ∙ between (c .before) ∙ not-true _ (c .if3 .taken))
 
 raise-requires : tie.Need-raise-requires
-raise-requires c κs = let i = span-inside blockLimit (the-span (c .before .before .before .before .before .before .before .before .before)) in (omega (arith, i .0, i .1), c .before .before .before .before .before .before .before .if1 .left)
+raise-requires c κs =
+    let b₁ = c .before .before .before .before .before .before .before in
+    let b₂ = b₁ .before .before in
+    let i = span-inside blockLimit (the-span b₂) in (omega (arith, i .0, i .1), b₁ .if1 .left)
 
 raise-requires-2 : tie.Need-raise-requires-2
-raise-requires-2 c κs = let i = span-inside blockLimit (the-span (c .before .before .before .before .before .before .before .before .before .before .before .before .before)) in later-ready (c .before .before .before .before .before .before .before .before .before .before .before .before .before .before .before .before .before .before .args .h .now) (c .before .before .before .raise .last .0) _ _ (c .before .before .before .raise .ensures) (i .0) (i .1) (c .before .before .before .before .before .before .before .before .before .if2 .left)
+raise-requires-2 c κs =
+    let b₁ = c .before .before .before in
+    let b₂ = b₁ .before .before .before .before .before .before in
+    let b₃ = b₂ .before .before .before .before in
+    let b₄ = b₃ .before .before .before .before .before in
+    let i = span-inside blockLimit (the-span b₃) in later-ready (b₄ .args .h .now) (b₁ .raise .last .0) _ _ (b₁ .raise .ensures) (i .0) (i .1) (b₂ .if2 .left)
 
 raise-each-requires : tie.Need-raise-each-requires
-raise-each-requires c κs = span-ready blockLimit (the-span (c .before .before .before .before .before .before .before .before .before .before .before .before .before .before .before .before .before)) (c .before .before .before .before .before .before .before .raise .ensures) (c .before .before .before .raise2 .ensures) (free (c .before .before .before .before .before .before .before .before .before))
+raise-each-requires c κs =
+    let b₁ = c .before .before .before in
+    let b₂ = b₁ .before .before .before .before in
+    let b₃ = b₂ .before .before in
+    let b₄ = b₃ .before .before .before .before .before .before .before .before in
+    span-ready blockLimit (the-span b₄) (b₂ .raise .ensures) (b₁ .raise2 .ensures) (free b₃)
 
 same-length-2 : tie.Need-same-length-2
 same-length-2 c = search needs
 
 returns-4 : tie.Need-returns-4
 returns-4 c =
+    let b₁ = c .before .before .before .before .before .before in
+    let b₂ = b₁ .before .before .before .before in
+    let b₃ = b₂ .before .before in
+    let b₄ = b₃ .before .before .before .before in
+    let b₅ = b₄ .before .before in
+    let b₆ = b₅ .before .before in
     all-raised _ _ _
-    (span-room blockLimit (the-span (c .before .before .before .before .before .before .before .before .before .before .before .before .before .before .before .before .before .before .before .before)) ∙ room-yes _ _ _ (c .before .before .before .before .before .before .before .before .before .before .before .before .before .before .before .before .before .before .if1 .left) ∙ room-yes _ _ _ (c .before .before .before .before .before .before .before .before .before .before .before .before .before .before .before .before .if2 .left) ∙ free (c .before .before .before .before .before .before .before .before .before .before .before .before))
-    (span-raised blockLimit (the-span (c .before .before .before .before .before .before .before .before .before .before .before .before .before .before .before .before .before .before .before .before)) (c .before .before .before .before .before .before .before .before .before .before .raise .ensures) (c .before .before .before .before .before .before .raise2 .ensures) _ (c .before .before .raise-each .ensures))
+    (span-room blockLimit (the-span b₆) ∙ room-yes _ _ _ (b₅ .if1 .left) ∙ room-yes _ _ _ (b₄ .if2 .left) ∙ free b₃)
+    (span-raised blockLimit (the-span b₆) (b₂ .raise .ensures) (b₁ .raise2 .ensures) _ (c .before .before .raise-each .ensures))
 
 pub raise-span-spec : {M : Type 1} → statement M
-raise-span-spec = tie.close (tie.spec slot-requires slot-requires-2 add-slot slot-requires-3 slot-requires-4 mul-if1 slice-read-if1 returns mul-if2 slice-read-if2 returns-2 mul-within sub-within part-within-start part-within-end within-requires same-length returns-3 raise-requires raise-requires-2 raise-each-requires same-length-2 returns-4)
+raise-span-spec =
+    tie.close
+    (tie.spec
+    slot-requires
+    slot-requires-2
+    add-slot
+    slot-requires-3
+    slot-requires-4
+    mul-if1
+    slice-read-if1
+    returns
+    mul-if2
+    slice-read-if2
+    returns-2
+    mul-within
+    sub-within
+    part-within-start
+    part-within-end
+    within-requires
+    same-length
+    returns-3
+    raise-requires
+    raise-requires-2
+    raise-each-requires
+    same-length-2
+    returns-4)

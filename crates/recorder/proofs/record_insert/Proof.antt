@@ -1,19 +1,19 @@
 -- `recorder::record_insert` meets its contract: the checks answer ahead of 10, and then the raised slots do. Assumes nothing.
+use native.Mathlib.Omega.{arith}
 use mathlib.Core.Bool.{Bool, true}
 use borrow.Author.Needs.{needs}
 use Prim.Native.Nat.{ℕ, _<_}
 use mathlib.Core.List.{List, map}
-use native.Mathlib.Omega.{arith}
 use mathlib.Core.Path.{_≡_, sym, ap, _∙_}
+use Rattle.model.specs.Checks.{Check, firstFailed}
+use Rattle.model.specs.Blocks.{Set}
+use Rattle.model.specs.Recorder.{recordCall}
 use Rattle.sets.specs.Sized.{countedChecks}
-use Rattle.model.specs.Calls.{Call, insert, ordered, offeredOk}
-use Rattle.model.specs.Checks.{firstFailed}
 use Rattle.model.specs.Lent.{setOf}
 use Rattle.model.specs.Bounds.{blockLimit}
-use Rattle.model.specs.Blocks.{Set}
 use Rattle.histograms.specs.Raising.{raisedAt}
+use Rattle.model.specs.Calls.{Call, insert, ordered, offeredOk}
 use Rattle.model.specs.Histograms.{slot, raises}
-use Rattle.model.specs.Recorder.{recordCall}
 use Rattle.recorder.proofs.Recording.{Admitted, admitted, block-below, record-refused, record-raised, insert-slots}
 use Rattle.recorder.proofs.record_insert.Statement.{statement}
 use Rattle.recorder.proofs.record_insert.Tie as tie
@@ -27,24 +27,35 @@ counts c = c .args .histograms .now
 abbrev the-call : tie.Start → Call
 the-call c = insert (c .args .d)
 
+abbrev the-checks : tie.Start → List Check
+the-checks c = countedChecks blockLimit (the-set c) (counts c) (ordered (the-call c)) (offeredOk (the-call c))
+
+abbrev start : tie.After-counted-refusal → tie.Start
+start c = c .before .before .before .before .before .before .before
+
 -- the checks ahead of 10
-checked : (c : tie.After-counted-refusal)
-    → (let s = c .before .before .before .before .before .before .before in c .counted-refusal .result ≡ firstFailed (countedChecks blockLimit (the-set s) (counts s) (ordered (the-call s)) (offeredOk (the-call s))))
+checked : (c : tie.After-counted-refusal) → c .counted-refusal .result ≡ firstFailed (the-checks (start c))
 unfolding ordered offeredOk
-checked c = c .counted-refusal .ensures ∙ ap (λ (t : Bool). firstFailed (countedChecks blockLimit (the-set (c .before .before .before .before .before .before .before)) (counts (c .before .before .before .before .before .before .before)) true t)) (c .before .before .in-range .ensures)
+checked c =
+    c .counted-refusal .ensures
+    ∙ ap (λ (t : Bool). firstFailed (countedChecks blockLimit (the-set (start c)) (counts (start c)) true t)) (c .before .before .in-range .ensures)
 
 -- past them, what they say, and that the call answers as its raised slots do
-passed : (c : tie.Else1) → (let s = c .before .before .before .before .before .before .before .before in Admitted blockLimit (the-set s) (counts s) (ordered (the-call s)))
+passed : (c : tie.Else1) → (let s = start (c .before) in Admitted blockLimit (the-set s) (counts s) (ordered (the-call s)))
 passed c = admitted blockLimit _ _ _ _ (sym (checked (c .before)) ∙ c .if1 .left)
 
 answers : (c : tie.Else1) (ks : List ℕ)
-    → (let s = c .before .before .before .before .before .before .before .before in map (slot blockLimit) (raises (the-set s) (the-call s)) ≡ ks → raisedAt (counts s) ks ≡ recordCall blockLimit (the-set s) (counts s) (the-call s))
-answers c ks e = let s = c .before .before .before .before .before .before .before .before in record-raised blockLimit (the-set s) (counts s) (the-call s) _ ks (checked (c .before)) (c .if1 .left) e
+    → (let s = start (c .before) in
+    map (slot blockLimit) (raises (the-set s) (the-call s)) ≡ ks → raisedAt (counts s) ks ≡ recordCall blockLimit (the-set s) (counts s) (the-call s))
+answers c ks e =
+    let s = start (c .before) in
+    record-raised blockLimit (the-set s) (counts s) (the-call s) _ ks (checked (c .before)) (c .if1 .left) e
 
 in-limit : (c : tie.After-block-of) → c .block-of .result < blockLimit
 in-limit c =
-    let s = c .before .before .before .before .before .before .before .before .before in
-    omega (arith, block-below blockLimit _ (counts s) (passed (c .before) .whole-set) (s .args .d .grower), c .block-of .ensures (s .args .weights .now) (s .args .yields .now))
+    let s = start (c .before .before) in
+    let b = c .block-of .ensures (s .args .weights .now) (s .args .yields .now) in
+    omega (arith, b, block-below blockLimit _ (counts s) (passed (c .before) .whole-set) (s .args .d .grower))
 
 in-range-requires : tie.Need-in-range-requires
 in-range-requires c κs = search needs
@@ -56,7 +67,9 @@ same-length : tie.Need-same-length
 same-length c = search needs
 
 returns : tie.Need-returns
-returns c = let s = c .before .before .before .before .before .before .before .before in record-refused blockLimit (the-set s) (counts s) (the-call s) _ (checked (c .before)) (c .if1 .taken)
+returns c =
+    let b₁ = c .before .before .before .before .before .before .before .before in
+    let s = b₁ in record-refused blockLimit (the-set s) (counts s) (the-call s) _ (checked (c .before)) (c .if1 .taken)
 
 block-of-requires : tie.Need-block-of-requires
 block-of-requires c κs = passed c .whole-set .sized
@@ -68,7 +81,20 @@ same-length-2 : tie.Need-same-length-2
 same-length-2 c = search needs
 
 returns-2 : tie.Need-returns-2
-returns-2 c = c .before .before .raise-one .ensures ∙ answers (c .before .before .before .before .before) _ (insert-slots blockLimit _ _ _ (c .before .before .before .before .block-of .ensures _ _))
+returns-2 c =
+    let b₁ = c .before .before .before .before in
+    let b₂ = b₁ .before in
+    c .before .before .raise-one .ensures ∙ answers b₂ _ (insert-slots blockLimit _ _ _ (b₁ .block-of .ensures _ _))
 
 pub record-insert-spec : {M : Type 1} → statement M
-record-insert-spec = tie.close (tie.spec in-range-requires counted-refusal-requires same-length returns block-of-requires raise-one-requires same-length-2 returns-2)
+record-insert-spec =
+    tie.close
+    (tie.spec
+    in-range-requires
+    counted-refusal-requires
+    same-length
+    returns
+    block-of-requires
+    raise-one-requires
+    same-length-2
+    returns-2)

@@ -32,7 +32,10 @@ separates-none-requires : tie.Need-separates-none-requires Inv-loop μ-loop
 separates-none-requires c κs = search needs
 
 returns : tie.Need-returns Inv-loop μ-loop
-returns c = λ ws ys. flag-bad _ _ _ _ (c .before .before .before .loop-test .taken) (c .before .before .before .before .loop .inv) (sym (c .before .separates-none .ensures [] []) ∙ not-true _ (c .if1 .taken)) .so-far
+returns c =
+    let b₁ = c .before .before .before in
+    let b₂ = b₁ .before in
+    λ ws ys. flag-bad _ _ _ _ (b₁ .loop-test .taken) (b₂ .loop .inv) (sym (c .before .separates-none .ensures [] []) ∙ not-true _ (c .if1 .taken)) .so-far
 
 add-i : tie.Need-add-i Inv-loop μ-loop
 add-i c = search needs
@@ -41,7 +44,10 @@ loop-less : tie.Need-loop-less Inv-loop μ-loop
 loop-less c = omega arith
 
 loop-again : tie.Need-loop-again Inv-loop μ-loop
-loop-again c = flag-good _ _ _ _ (c .before .before .before .loop-test .taken) (c .before .before .before .before .loop .inv) (sym (c .before .separates-none .ensures [] []) ∙ not-false _ (c .if1 .left))
+loop-again c =
+    let b₁ = c .before .before .before in
+    let b₂ = b₁ .before in
+    flag-good _ _ _ _ (b₁ .loop-test .taken) (b₂ .loop .inv) (sym (c .before .separates-none .ensures [] []) ∙ not-false _ (c .if1 .left))
 
 returns-2 : tie.Need-returns-2 Inv-loop μ-loop
 returns-2 c = λ ws ys. flag-end _ _ _ _ (c .loop-test .left) (c .before .loop .inv)

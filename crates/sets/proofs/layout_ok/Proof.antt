@@ -51,20 +51,28 @@ cast-if3-2 c = search needs
 
 returns-3 : tie.Need-returns-3
 returns-3 c =
+    let b₁ = c .before .before .before in
+    let b₂ = b₁ .before in
+    let b₃ = b₂ .before in
+    let b₄ = b₃ .before .before .before in
     λ ws ys.
-    let g = c .before .before .before .before .before .before .before .before .args in
+    let g = b₄ .args in
     let s = setOf (g .block) (g .used) (g .g .now) ws ys in
-    layout-short s (g .ends .now) (c .before .before .before .before .before .if1 .left) (sym (c .before .before .before .before .strictly-rising .ensures) ∙ not-false _ (c .before .before .before .if2 .left)) (λ e. c .if3 .taken (e ∙ sym (c .before .block-count .ensures)))
+    layout-short s (g .ends .now) (b₃ .if1 .left) (sym (b₂ .strictly-rising .ensures) ∙ not-false _ (b₁ .if2 .left)) (λ e. c .if3 .taken (e ∙ sym (c .before .block-count .ensures)))
 
 all-separate-none-requires : tie.Need-all-separate-none-requires
 all-separate-none-requires c κs = search needs
 
 returns-4 : tie.Need-returns-4
 returns-4 c =
+    let b₁ = c .before .before .before .before in
+    let b₂ = b₁ .before in
+    let b₃ = b₂ .before in
+    let b₄ = b₃ .before .before .before in
     λ ws ys.
-    let g = c .before .before .before .before .before .before .before .before .before .args in
+    let g = b₄ .args in
     let s = setOf (g .block) (g .used) (g .g .now) ws ys in
-    c .all-separate-none .ensures ws ys ∙ layout-parts s (g .ends .now) (c .before .before .before .before .before .before .if1 .left) (sym (c .before .before .before .before .before .strictly-rising .ensures) ∙ not-false _ (c .before .before .before .before .if2 .left)) (c .before .if3 .left ∙ c .before .before .block-count .ensures)
+    c .all-separate-none .ensures ws ys ∙ layout-parts s (g .ends .now) (b₃ .if1 .left) (sym (b₂ .strictly-rising .ensures) ∙ not-false _ (b₁ .if2 .left)) (c .before .if3 .left ∙ c .before .before .block-count .ensures)
 
 pub layout-ok-spec : {M : Type 1} → statement M
 layout-ok-spec =

@@ -18,8 +18,9 @@ values-ok-requires c κs = search needs
 
 returns : tie.Need-returns
 returns c =
+    let b₁ = c .before .before .before .before .before .before in
     λ n.
-    let g = c .before .before .before .before .before .before .args in
+    let g = b₁ .args in
     c .values-ok .ensures ∙ values-law n (g .used) (g .g .now) (g .w .now) (g .y .now) (length-take-le (g .used) (g .w .now) (omega arith) ∙ sym (length-take-le (g .used) (g .g .now) (omega arith))) (length-take-le (g .used) (g .y .now) (omega arith) ∙ sym (length-take-le (g .used) (g .g .now) (omega arith)))
 
 pub set-values-ok-spec : {M : Type 1} → statement M
