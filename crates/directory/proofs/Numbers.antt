@@ -15,7 +15,6 @@ use Rattle.model.proofs.DirectoryLaws.{Shaped, shaped, length-lengths, length-f
 use Rattle.model.proofs.ListLaws.{elem-le}
 use Rattle.model.proofs.Parts.{start-le}
 use Rattle.directory.specs.Numbers.{Numbered, HasPartition}
-use Rattle.directory.proofs.Judging.{lengths-part, fences-part}
 
 module _ (L : ℕ) (ns : List ℕ) (o : T (directoryOk L mostSlots ns)) where
   dir : Shaped L mostSlots ns
@@ -30,14 +29,8 @@ module _ (L : ℕ) (ns : List ℕ) (o : T (directoryOk L mostSlots ns)) where
   pub dir-few : getD ns 1 0 ≤ L
   dir-few = dir .few
 
-  pub dir-lengths : take (2 + getD ns 1 0 - 2) (drop 2 ns) ≡ directoryOf L ns .lengths
-  dir-lengths = lengths-part L ns (dir .size) (dir .few)
-
   pub dir-many : length (directoryOf L ns .lengths) ≡ getD ns 1 0
   dir-many = length-lengths L mostSlots ns dir
-
-  pub dir-fences : take ((2 + L) + getD ns 1 0 - (2 + L)) (drop (2 + L) ns) ≡ directoryOf L ns .fences
-  dir-fences = fences-part L ns (dir .size) (dir .few)
 
   pub dir-count : length (directoryOf L ns .fences) ≡ getD ns 1 0
   dir-count = length-fences L mostSlots ns dir
@@ -51,7 +44,7 @@ module _ (L : ℕ) (ns : List ℕ) (o : T (directoryOk L mostSlots ns)) where
       let e : 2 + t - 2 ≡ t = omega arith in
       rw e (ap sumOf (sym (take-take t (getD ns 1 0) (drop 2 ns) h)))
 
-  pub dir-length : (t : ℕ) → t < getD ns 1 0 → getD ns (2 + t) 0 ≡ getD (directoryOf L ns .lengths) t 0
+  dir-length : (t : ℕ) → t < getD ns 1 0 → getD ns (2 + t) 0 ≡ getD (directoryOf L ns .lengths) t 0
   unfolding directoryOf
   dir-length t h = sym (getD-take (getD ns 1 0) (drop 2 ns) t 0 h ∙ getD-drop 2 ns t 0)
 
@@ -73,7 +66,7 @@ set-in-front : (l : List ℕ) (k t v : ℕ) → t < k → k ≤ length l → set
 set-in-front l k t v h m =
     ap (λ (x : List ℕ). set x t v) (sym (take-append-drop k l)) ∙ set-append-left (take k l) (drop k l) t v (omega (arith, length-take-le k l m))
 
-pub set-length : (L : ℕ) (ns : List ℕ) (t v : ℕ) → length ns ≡ directorySize L → getD ns 1 0 ≤ L → t < getD ns 1 0 → set ns (2 + t) v ≡ withLengths (set (directoryOf L ns .lengths) t v) ns
+set-length : (L : ℕ) (ns : List ℕ) (t v : ℕ) → length ns ≡ directorySize L → getD ns 1 0 ≤ L → t < getD ns 1 0 → set ns (2 + t) v ≡ withLengths (set (directoryOf L ns .lengths) t v) ns
 unfolding withLengths directoryOf
 set-length L [] t v e h k = let z : ⊥ = omega arith in absurd z
 set-length L (b ∷ []) t v e h k = let z : ⊥ = omega arith in absurd z

@@ -62,7 +62,7 @@ module _ (hs : List ℕ) where
 
 -- Slots one after the other.
 
-pub up-next : (i t : ℕ) → i < t → upFrom i (t - i) ≡ i ∷ upFrom (i + 1) (t - (i + 1))
+up-next : (i t : ℕ) → i < t → upFrom i (t - i) ≡ i ∷ upFrom (i + 1) (t - (i + 1))
 unfolding upFrom
 up-next i t h =
     let e : t - i ≡ suc (t - (i + 1)) = omega arith in
@@ -86,7 +86,7 @@ below-million : (x : ℕ) → ltb x mostCount ≡ leb x (mostCount - 1)
 below-million x = same-test (ltb x mostCount) (leb x (mostCount - 1)) (λ t. le→leb x (mostCount - 1) (omega (arith, ltb→lt x mostCount t))) (λ t. lt→ltb x mostCount (omega (arith, leb→le x (mostCount - 1) t)))
 
 -- the test of the part that is lent
-pub room-part : (hs : List ℕ) (f n : ℕ) → f + n ≤ length hs → roomAt hs (upFrom f n) ≡ every (λ (x : ℕ). leb x (mostCount - 1)) (take n (drop f hs))
+room-part : (hs : List ℕ) (f n : ℕ) → f + n ≤ length hs → roomAt hs (upFrom f n) ≡ every (λ (x : ℕ). leb x (mostCount - 1)) (take n (drop f hs))
 unfolding roomAt every upFrom
 room-part hs f zero h = refl
 room-part hs f (suc n) h =

@@ -103,7 +103,7 @@ abbrev blanks : ℕ → List ℕ
 blanks n = replicate n 0
 
 module _ (t : List ℕ) (at m n : ℕ) (h : m < n) (s : List ℕ) (e : s ≡ columnAt 34 at m t ++ drop m (blanks n)) where
-  pub stored-length : length s ≡ n
+  stored-length : length s ≡ n
   stored-length = omega (arith, ap length e, length-append (columnAt 34 at m t) (drop m (blanks n)), length-column 34 at m t, length-drop m (blanks n), length-replicate {A = ℕ} n 0)
 
   pub stored-room : m + 1 ≤ length s

@@ -113,23 +113,23 @@ module _ (k a b c d : ℕ) where
   call-form = decided k 1 form-1 (λ p. decided k 2 form-2 (λ q. decided k 3 form-3 (λ r. decided k 4 form-4 (λ s. form-5 p q r s))))
 
   -- by kinds, as the recorder's calls go
-  pub by-find : k ≡ 1 → callBy ns ≡ find a
+  by-find : k ≡ 1 → callBy ns ≡ find a
   unfolding callBy
   by-find e = rw e
 
-  pub by-range : k ≡ 2 → callBy ns ≡ range a b
+  by-range : k ≡ 2 → callBy ns ≡ range a b
   unfolding callBy
   by-range e = rw e
 
-  pub by-insert : k ≡ 3 → callBy ns ≡ insert (delivery a b c)
+  by-insert : k ≡ 3 → callBy ns ≡ insert (delivery a b c)
   unfolding callBy
   by-insert e = rw e
 
-  pub by-delete : k ≡ 4 → callBy ns ≡ delete (delivery a b c)
+  by-delete : k ≡ 4 → callBy ns ≡ delete (delivery a b c)
   unfolding callBy
   by-delete e = rw e
 
-  pub by-move : k ≢ 1 → k ≢ 2 → k ≢ 3 → k ≢ 4 → callBy ns ≡ move (delivery a b c) d
+  by-move : k ≢ 1 → k ≢ 2 → k ≢ 3 → k ≢ 4 → callBy ns ≡ move (delivery a b c) d
   unfolding callBy
   by-move p q r s = rw (ne-eqb k 1 p, ne-eqb k 2 q, ne-eqb k 3 r, ne-eqb k 4 s)
 

@@ -72,7 +72,7 @@ put-ends-end {t₀} {at} {ends} {t} {i} {e} {first} h w =
 
 -- A plan.
 
-pub length-signed : (z : ℤ) → length (signedField z) ≡ 20
+length-signed : (z : ℤ) → length (signedField z) ≡ 20
 unfolding signedField
 length-signed (pos n) = length-justified blank 20 n (omega arith)
 length-signed (negsuc n) = length-justified minus 20 (suc n) (omega arith)

@@ -150,7 +150,7 @@ module _ (t : List ℕ) where
   abbrev sizesThen : Bool
   sizesThen = lineOk 3 57 t && sizesOk m q && restOk
 
-  pub week-read : readWeek t ≡ onlyIf (weekOk t) weekAt
+  week-read : readWeek t ≡ onlyIf (weekOk t) weekAt
   unfolding readWeek weekOk headOk
   week-read =
       chain (takeLine 3 t) (lineOk 3 0 t) p₁ (λ (p : Taken (List ℕ)). andThen (takeLine 2 (p .rest)) (λ (l : Taken (List ℕ)). andThen (takeSizes (l .rest)) (withSizes p l)))

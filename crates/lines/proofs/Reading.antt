@@ -50,18 +50,18 @@ module _ (t : List ℕ) where
           let q : r ≡ record { number = n; next = at + 11 } = cc in
           (ap (λ (x : Read). some (x .number)) (sym q), ap (λ (x : Read). x .next) q)
 
-  pub next-is : (at : ℕ) (r : Read) → some r ≡ readAt t at → r .next ≡ at + 11
+  next-is : (at : ℕ) (r : Read) → some r ≡ readAt t at → r .next ≡ at + 11
   next-is at r e = inv-some at r e .1
 
-  pub value-some : (at : ℕ) (r : Read) → some r ≡ readAt t at → r .number ≡ valueAt at t
+  value-some : (at : ℕ) (r : Read) → some r ≡ readAt t at → r .number ≡ valueAt at t
   unfolding valueAt
   value-some at r e = rw (inv-some at r e .0)
 
-  pub no-field : (at : ℕ) → none ≡ readAt t at → fieldOk at t ≡ false
+  no-field : (at : ℕ) → none ≡ readAt t at → fieldOk at t ≡ false
   unfolding fieldOk
   no-field at e = rw (inv-none at e)
 
-  pub has-field : (at : ℕ) (r : Read) → some r ≡ readAt t at → fieldOk at t ≡ true
+  has-field : (at : ℕ) (r : Read) → some r ≡ readAt t at → fieldOk at t ≡ true
   unfolding fieldOk
   has-field at r e = rw (inv-some at r e .0)
 

@@ -211,7 +211,7 @@ module _ (L : ℕ) (b : Book) (g : Good L b) where
       (pairs-fences (b .directory .lengths) (b .directory .fences) (g .even))
       ∙ ap (λ (l : List Delivery). record { directory = b .directory; deliveries = l }) (threes-deliveries (b .deliveries))
 
-  pub header-read : takeHeader L (bookText b) ≡ some (taken head (lines ps ++ (lines ds ++ [])))
+  header-read : takeHeader L (bookText b) ≡ some (taken head (lines ps ++ (lines ds ++ [])))
   unfolding head
   header-read =
       rw text-is

@@ -32,7 +32,7 @@ found d (r ∷ l) h = go (same d r) refl h (found d l)
     go true e t f = record { index = 0; inside = omega arith; equal = subst T (sym e) tt }
     go false e t f = let k = f t in record { index = suc (k .index); inside = omega (arith, k .inside); equal = k .equal }
 
-pub found-is : (d : Delivery) (l : List Delivery) (i : ℕ) → i < length l → T (same d (getD l i nobody)) → T (among d l)
+found-is : (d : Delivery) (l : List Delivery) (i : ℕ) → i < length l → T (same d (getD l i nobody)) → T (among d l)
 unfolding among
 found-is d [] i h e = let z : ⊥ = omega arith in absurd z
 found-is d (r ∷ l) zero h e = or-fst (same d r) (among d l) e

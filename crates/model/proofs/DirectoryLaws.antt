@@ -57,7 +57,7 @@ module _ (L : ℕ) where
         ∙ ap (λ (l : List ℕ). record { block = d .block; lengths = d .lengths; fences = l }) fences-again
 
     -- and its unused numbers are 0
-    pub unused-again : T (every (eqb 0) (unusedNumbers L (directoryNumbers L d)))
+    unused-again : T (every (eqb 0) (unusedNumbers L (directoryNumbers L d)))
     unfolding unusedNumbers directoryNumbers
     unused-again =
         let n : ℕ = length (d .lengths) in

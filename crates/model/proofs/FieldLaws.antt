@@ -20,7 +20,7 @@ unfolding sameList
 same-self [] = refl
 same-self (a ∷ l) = rw (is-true (eqb a a) (eqb-refl a)) (same-self l)
 
-pub same-eq : (a b : List ℕ) → T (sameList a b) → a ≡ b
+same-eq : (a b : List ℕ) → T (sameList a b) → a ≡ b
 unfolding sameList
 same-eq [] [] t = refl
 same-eq [] (b ∷ bs) t = absurd t

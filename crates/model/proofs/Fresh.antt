@@ -111,7 +111,7 @@ module _ (L : ℕ) (s : Set) (o : Good L s) where
         omega (arith, ap sumOf c)
 
     -- the slots of partitions p to q
-    pub stop-of : (p q : ℕ) → p ≤ q → q < length ends → startOf (lengthsFrom s 0 ends) p + sumOf (take (q + 1 - p) (drop p (lengthsFrom s 0 ends))) ≡ blockStop s (endOf ends q)
+    stop-of : (p q : ℕ) → p ≤ q → q < length ends → startOf (lengthsFrom s 0 ends) p + sumOf (take (q + 1 - p) (drop p (lengthsFrom s 0 ends))) ≡ blockStop s (endOf ends q)
     unfolding startOf
     stop-of p q h k =
         let a : sumOf (take (q + 1) (lengthsFrom s 0 ends)) + 0 ≡ blockStop s (endOf ends q) = rw (add-one q) (stops 0 0 ends q (omega arith) (l .cut) k) in

@@ -110,12 +110,6 @@ pub ≤ℤ-total : (x y : ℤ) → (x ≤ℤ y) ⊎ (y ≤ℤ x)
     go (yes h) = inl (le-is x y _ _ _ _ (i .2) (j .2) h)
     go (no h) = inr (le-is y x _ _ _ _ (j .2) (i .2) (omega arith))
 
--- a signed test that held, and one that failed
-pub lt-le : (x y : ℤ) → ltZ x y ≡ true → x ≤ℤ y
-lt-le (pos a) (pos b) e = let h : a < b = ltb→lt a b (subst T (sym e) tt) in record { le = le→leb a b (omega arith) }
-lt-le (pos a) (negsuc b) e = absurd (subst T (sym e) tt)
-lt-le (negsuc a) (pos b) e = record { le = tt }
-lt-le (negsuc a) (negsuc b) e = let h : b < a = ltb→lt b a (subst T (sym e) tt) in record { le = le→leb b a (omega arith) }
-
+-- a signed test that failed
 pub nlt-le : (x y : ℤ) → ltZ x y ≡ false → y ≤ℤ x
 nlt-le x y e = ltZ-no (subst (λ (t : Bool). T (not t)) (sym e) tt)

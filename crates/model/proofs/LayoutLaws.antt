@@ -27,7 +27,7 @@ cut-of f a (b ∷ l) n h r e =
     let c : Cut (a + 1) (b ∷ l) n = cut-of (a + 1) b l n (omega arith) (and-snd (ltb a b) (rising (b ∷ l)) r) e in
     (h, omega (arith, c .1), c)
 
-pub cut-layout : (ends : List ℕ) (n : ℕ) → 1 ≤ length ends → T (rising ends) → endOf ends (length ends - 1) + 1 ≡ n → Cut 0 ends n
+cut-layout : (ends : List ℕ) (n : ℕ) → 1 ≤ length ends → T (rising ends) → endOf ends (length ends - 1) + 1 ≡ n → Cut 0 ends n
 cut-layout [] n h r e = let z : ⊥ = omega arith in absurd z
 cut-layout (a ∷ l) n h r e =
     let q : length (a ∷ l) - 1 ≡ length l = omega arith in
@@ -119,7 +119,7 @@ cut-earlier a (e ∷ es) n h c = (omega (arith, c .0), c .1, c .2)
 cut-same : (a : ℕ) (es : List ℕ) (m n : ℕ) → m ≡ n → Cut a es m → Cut a es n
 cut-same a es m n e c = subst (λ (k : ℕ). Cut a es k) e c
 
-pub listed-sound : (c a : ℕ) (es : List ℕ) → List·Memᴰ es (layoutsFrom a c) → (1 ≤ length es) × Cut a es (a + c + 1)
+listed-sound : (c a : ℕ) (es : List ℕ) → List·Memᴰ es (layoutsFrom a c) → (1 ≤ length es) × Cut a es (a + c + 1)
 unfolding layoutsFrom Cut
 listed-sound zero a es m =
     subst (λ (l : List ℕ). (1 ≤ length l) × Cut a l (a + 0 + 1)) (sym (List·Memᴰ·eq-of-singleton m)) (omega arith, (omega arith, omega arith, omega arith))
@@ -132,7 +132,7 @@ listed-sound (suc c) a es m = go (λ ds. listed-sound c (a + 1) ds) (List·Mem�
         subst (λ (l : List ℕ). (1 ≤ length l) × Cut a l (a + suc c + 1)) (sym (r .1)) (omega arith, (omega arith, omega arith, cut-same (a + 1) (r .0) _ _ (omega arith) (i .1)))
     go ih (inr h) = let i = ih es h in (i .0, cut-earlier a es _ (i .0) (cut-same (a + 1) es _ _ (omega arith) (i .1)))
 
-pub listed-whole : (c a : ℕ) (es : List ℕ) → 1 ≤ length es → Cut a es (a + c + 1) → List·Memᴰ es (layoutsFrom a c)
+listed-whole : (c a : ℕ) (es : List ℕ) → 1 ≤ length es → Cut a es (a + c + 1) → List·Memᴰ es (layoutsFrom a c)
 unfolding layoutsFrom Cut
 listed-whole zero a [] h k = let z : ⊥ = omega arith in absurd z
 listed-whole zero a (e ∷ []) h k = let x : e ≡ a = omega (arith, k .0, k .1) in List·Memᴰ·head (ap (λ (v : ℕ). v ∷ []) x)

@@ -58,7 +58,7 @@ fit-rest n ns t = and-snd (fitsField n) (every fitsField ns) t
 
 -- Fields one after the other.
 
-pub take-fields : (ns t : List ℕ) → Fit ns → takeNumbers (length ns) (flatten (map numberField ns) ++ t) ≡ some (taken ns t)
+take-fields : (ns t : List ℕ) → Fit ns → takeNumbers (length ns) (flatten (map numberField ns) ++ t) ≡ some (taken ns t)
 unfolding takeNumbers flatten
 take-fields [] t f = refl
 take-fields (n ∷ ns) t f =
@@ -73,7 +73,7 @@ pub record Took (n : ℕ) (t : List ℕ) (r : Taken (List ℕ)) : Type 0 where
   pub count : length (r .value) ≡ n
   pub fit : Fit (r .value)
 
-pub fields-taken : (n : ℕ) (t : List ℕ) (r : Taken (List ℕ)) → takeNumbers n t ≡ some r → Took n t r
+fields-taken : (n : ℕ) (t : List ℕ) (r : Taken (List ℕ)) → takeNumbers n t ≡ some r → Took n t r
 unfolding takeNumbers flatten
 fields-taken zero t r e =
     let q : taken [] t ≡ r = cc in

@@ -122,7 +122,7 @@ every-at f [] p h k = let z : ⊥ = omega arith in absurd z
 every-at f (x ∷ l) zero h k = and-fst (f x) (every f l) h
 every-at f (x ∷ l) (suc p) h k = every-at f l p (and-snd (f x) (every f l) h) (omega arith)
 
-pub every-take : {A : Type 0} (f : A → Bool) (n m : ℕ) (l : List A) → n ≤ m → T (every f (take m l)) → T (every f (take n l))
+every-take : {A : Type 0} (f : A → Bool) (n m : ℕ) (l : List A) → n ≤ m → T (every f (take m l)) → T (every f (take n l))
 unfolding every
 every-take f zero m l h t = tt
 every-take f (suc n) zero l h t = let z : ⊥ = omega arith in absurd z

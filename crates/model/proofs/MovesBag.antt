@@ -74,7 +74,7 @@ module _ {A : Type 0} where
       rw (flatten-at, e) (past (flatten (take t ps)) (both (fillFromEnd-bag d i (part t ps) k) (rotateRights-bag (drop (t + 1) ps))))
 
   -- x takes the place of the record of slot i
-  pub moveForward-bag : (d : A) (t i u : ℕ) (x : A) (ps : List (List A)) → t < u → u < length ps → i < length (part t ps)
+  moveForward-bag : (d : A) (t i u : ℕ) (x : A) (ps : List (List A)) → t < u → u < length ps → i < length (part t ps)
       → List·Permᴰ (getD (part t ps) i d ∷ flatten (moveForward t i u x ps)) (x ∷ flatten ps)
   unfolding moveForward
   moveForward-bag d t i u x ps h k l =
@@ -85,7 +85,7 @@ module _ {A : Type 0} where
       = rw g at (deleteAt-bag d t i (take u ps) (omega (arith, length-take-le u ps (omega arith))) (rw g l)) in
       rw (flatten-at, e) (List·Permᴰ·trans (Permᴰ·append-right (x ∷ r) w) (Permᴰ·middle x (flatten (take u ps)) r))
 
-  pub moveBackward-bag : (d : A) (t i u : ℕ) (x : A) (ps : List (List A)) → u < t → t < length ps → i < length (part t ps)
+  moveBackward-bag : (d : A) (t i u : ℕ) (x : A) (ps : List (List A)) → u < t → t < length ps → i < length (part t ps)
       → List·Permᴰ (getD (part t ps) i d ∷ flatten (moveBackward t i u x ps)) (x ∷ flatten ps)
   unfolding moveBackward
   moveBackward-bag d t i u x ps h k l =
@@ -95,7 +95,7 @@ module _ {A : Type 0} where
       (past (flatten (insertAt u x (take t ps))) (Permᴰ·append-right r (fillFromFront-bag d i (part t ps) l)))
       (Permᴰ·append-right (part t ps ++ r) (insertAt-bag u x (take t ps) (omega (arith, length-take-le t ps (omega arith))))))
 
-  pub moveWithin-bag : (d : A) (t i : ℕ) (x : A) (ps : List (List A)) → t < length ps → i < length (part t ps)
+  moveWithin-bag : (d : A) (t i : ℕ) (x : A) (ps : List (List A)) → t < length ps → i < length (part t ps)
       → List·Permᴰ (getD (part t ps) i d ∷ flatten (moveWithin t i x ps)) (x ∷ flatten ps)
   unfolding moveWithin
   moveWithin-bag d t i x ps h l =

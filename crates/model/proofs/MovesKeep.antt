@@ -123,14 +123,14 @@ module _ {A : Type 0} (P : ℕ → A → Type 0) where
       join₀ (take t ps) _ _ (length-take-le t ps (omega arith))
       (record { before = c .before; here = all-fillFromEnd (P t) i (part t ps) (c .here); after = sound-rotateRights (t + 1) _ (c .after) })
 
-  pub moveWithin-sound : (t i : ℕ) (x : A) (ps : List (List A)) → t < length ps → P t x → Sound P 0 ps → Sound P 0 (moveWithin t i x ps)
+  moveWithin-sound : (t i : ℕ) (x : A) (ps : List (List A)) → t < length ps → P t x → Sound P 0 ps → Sound P 0 (moveWithin t i x ps)
   unfolding moveWithin
   moveWithin-sound t i x ps h hx s =
       let c = at-one t ps h s in
       join₀ (take t ps) _ _ (length-take-le t ps (omega arith))
       (record { before = c .before; here = all-end (P t) x _ hx (all-fillFromEnd (P t) i (part t ps) (c .here)); after = c .after })
 
-  pub moveForward-sound : (t i u : ℕ) (x : A) (ps : List (List A)) → t < u → u < length ps → P u x → Sound P 0 ps → Sound P 0 (moveForward t i u x ps)
+  moveForward-sound : (t i u : ℕ) (x : A) (ps : List (List A)) → t < u → u < length ps → P u x → Sound P 0 ps → Sound P 0 (moveForward t i u x ps)
   unfolding moveForward
   moveForward-sound t i u x ps h k hx s =
       let c = at-one u ps k s in
@@ -138,7 +138,7 @@ module _ {A : Type 0} (P : ℕ → A → Type 0) where
       join₀ (deleteAt t i (take u ps)) _ _ (length-deleteAt t i (take u ps) (omega arith) ∙ e)
       (record { before = deleteAt-sound t i (take u ps) (omega arith) (c .before); here = all-front (P u) x (part u ps) hx (c .here); after = c .after })
 
-  pub moveBackward-sound : (t i u : ℕ) (x : A) (ps : List (List A)) → u < t → t < length ps → P u x → Sound P 0 ps → Sound P 0 (moveBackward t i u x ps)
+  moveBackward-sound : (t i u : ℕ) (x : A) (ps : List (List A)) → u < t → t < length ps → P u x → Sound P 0 ps → Sound P 0 (moveBackward t i u x ps)
   unfolding moveBackward
   moveBackward-sound t i u x ps h k hx s =
       let c = at-one t ps k s in

@@ -38,19 +38,19 @@ same t ns h k =
     rw (getD-set-same ns t (getD ns t 0 - 1) 0 h, set-set, e, set-getD)
 
 module _ {A : Type 0} where
-  pub length-rotateLeft : (p : List A) → length (rotateLeft p) ≡ length p
+  length-rotateLeft : (p : List A) → length (rotateLeft p) ≡ length p
   unfolding rotateLeft
   length-rotateLeft p = simp (length-append, length-drop, length-take) (omega arith)
 
-  pub length-rotateRight : (p : List A) → length (rotateRight p) ≡ length p
+  length-rotateRight : (p : List A) → length (rotateRight p) ≡ length p
   unfolding rotateRight
   length-rotateRight p = simp (length-append, length-drop, length-take) (omega arith)
 
-  pub length-fillFromEnd : (i : ℕ) (p : List A) → i < length p → length (fillFromEnd i p) ≡ length p - 1
+  length-fillFromEnd : (i : ℕ) (p : List A) → i < length p → length (fillFromEnd i p) ≡ length p - 1
   unfolding fillFromEnd
   length-fillFromEnd i p h = simp (length-append, length-rotateRight, length-drop, length-take) (omega arith)
 
-  pub length-fillFromFront : (i : ℕ) (p : List A) → i < length p → length (fillFromFront i p) ≡ length p - 1
+  length-fillFromFront : (i : ℕ) (p : List A) → i < length p → length (fillFromFront i p) ≡ length p - 1
   unfolding fillFromFront
   length-fillFromFront i p h = simp (length-append, length-rotateLeft, length-drop, length-take) (omega arith)
 
@@ -78,7 +78,7 @@ module _ {A : Type 0} where
   deleteAt-lengths t i ps h k =
       simp (set-one t (getD (map length ps) t 0 - 1) (map length ps) (rw length-map h), map-append, map-take, length-fillFromEnd i (part t ps) k, len-part, rotateRights, map-drop)
 
-  pub moveWithin-lengths : (t i : ℕ) (x : A) (ps : List (List A)) → t < length ps → i < length (part t ps) → map length (moveWithin t i x ps) ≡ map length ps
+  moveWithin-lengths : (t i : ℕ) (x : A) (ps : List (List A)) → t < length ps → i < length (part t ps) → map length (moveWithin t i x ps) ≡ map length ps
   unfolding moveWithin
   moveWithin-lengths t i x ps h k =
       let e : length (fillFromEnd i (part t ps) ++ x ∷ []) ≡ length (part t ps) = omega (arith, len-end x (fillFromEnd i (part t ps)), length-fillFromEnd i (part t ps) k) in
@@ -93,7 +93,7 @@ module _ {A : Type 0} where
   unfolding deleteAt
   length-deleteAt t i ps h = simp (length-append, length-take, length-map, length-drop) (omega arith)
 
-  pub moveForward-lengths : (t i u : ℕ) (x : A) (ps : List (List A)) → t < u → u < length ps → i < length (part t ps)
+  moveForward-lengths : (t i u : ℕ) (x : A) (ps : List (List A)) → t < u → u < length ps → i < length (part t ps)
       → map length (moveForward t i u x ps) ≡ oneMore u (oneFewer t (map length ps))
   unfolding moveForward
   moveForward-lengths t i u x ps h k l =
@@ -106,7 +106,7 @@ module _ {A : Type 0} where
       rw (set-one u (getD (oneFewer t ns) u 0 + 1) (oneFewer t ns) (rw (length-set, length-map) k), g, drop-set-lt (u + 1) ns t _ (omega arith))
       (simp (map-append, w, len-part, map-drop, add-one))
 
-  pub moveBackward-lengths : (t i u : ℕ) (x : A) (ps : List (List A)) → u < t → t < length ps → i < length (part t ps)
+  moveBackward-lengths : (t i u : ℕ) (x : A) (ps : List (List A)) → u < t → t < length ps → i < length (part t ps)
       → map length (moveBackward t i u x ps) ≡ oneFewer t (oneMore u (map length ps))
   unfolding moveBackward
   moveBackward-lengths t i u x ps h k l =

@@ -52,23 +52,23 @@ module _ {A B : Type 0} (f : A → B) where
   unfolding free
   map-free ns s = map-drop f (sumOf ns) s
 
-  pub map-insertAt : (t : ℕ) (x : A) (ps : List (List A)) → map (map f) (insertAt t x ps) ≡ insertAt t (f x) (map (map f) ps)
+  map-insertAt : (t : ℕ) (x : A) (ps : List (List A)) → map (map f) (insertAt t x ps) ≡ insertAt t (f x) (map (map f) ps)
   unfolding insertAt
   map-insertAt t x ps = simp (map-append, map-take, map-part, map-rotateLefts, map-drop)
 
-  pub map-deleteAt : (t i : ℕ) (ps : List (List A)) → map (map f) (deleteAt t i ps) ≡ deleteAt t i (map (map f) ps)
+  map-deleteAt : (t i : ℕ) (ps : List (List A)) → map (map f) (deleteAt t i ps) ≡ deleteAt t i (map (map f) ps)
   unfolding deleteAt
   map-deleteAt t i ps = simp (map-append, map-take, map-fillFromEnd, map-part, map-rotateRights, map-drop)
 
-  pub map-moveForward : (t i u : ℕ) (x : A) (ps : List (List A)) → map (map f) (moveForward t i u x ps) ≡ moveForward t i u (f x) (map (map f) ps)
+  map-moveForward : (t i u : ℕ) (x : A) (ps : List (List A)) → map (map f) (moveForward t i u x ps) ≡ moveForward t i u (f x) (map (map f) ps)
   unfolding moveForward
   map-moveForward t i u x ps = simp (map-append, map-deleteAt, map-take, map-part, map-drop)
 
-  pub map-moveBackward : (t i u : ℕ) (x : A) (ps : List (List A)) → map (map f) (moveBackward t i u x ps) ≡ moveBackward t i u (f x) (map (map f) ps)
+  map-moveBackward : (t i u : ℕ) (x : A) (ps : List (List A)) → map (map f) (moveBackward t i u x ps) ≡ moveBackward t i u (f x) (map (map f) ps)
   unfolding moveBackward
   map-moveBackward t i u x ps = simp (map-append, map-insertAt, map-take, map-fillFromFront, map-part, map-drop)
 
-  pub map-moveWithin : (t i : ℕ) (x : A) (ps : List (List A)) → map (map f) (moveWithin t i x ps) ≡ moveWithin t i (f x) (map (map f) ps)
+  map-moveWithin : (t i : ℕ) (x : A) (ps : List (List A)) → map (map f) (moveWithin t i x ps) ≡ moveWithin t i (f x) (map (map f) ps)
   unfolding moveWithin
   map-moveWithin t i x ps = simp (map-append, map-take, map-fillFromEnd, map-part, map-drop)
 
@@ -84,7 +84,7 @@ module _ {A B : Type 0} (f : A → B) where
   map-cond true p q = refl
   map-cond false p q = refl
 
-  pub map-moveAt : (t i u : ℕ) (x : A) (ps : List (List A)) → map (map f) (moveAt t i u x ps) ≡ moveAt t i u (f x) (map (map f) ps)
+  map-moveAt : (t i u : ℕ) (x : A) (ps : List (List A)) → map (map f) (moveAt t i u x ps) ≡ moveAt t i u (f x) (map (map f) ps)
   unfolding moveAt
   map-moveAt t i u x ps = simp (map-cond, map-moveForward, map-moveBackward, map-moveWithin)
 

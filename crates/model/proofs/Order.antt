@@ -16,7 +16,7 @@ use Rattle.model.proofs.Tests.{of-true}
 
 -- what the tests say
 
-pub decide-elim : (x y : ℕ) (r : Bool) → T (decide (ltb x y) (ltb y x) r) → (x < y) ⊎ ((x ≡ y) × T r)
+decide-elim : (x y : ℕ) (r : Bool) → T (decide (ltb x y) (ltb y x) r) → (x < y) ⊎ ((x ≡ y) × T r)
 decide-elim x y r h = go (ltb x y) (ltb y x) refl refl h
   where
     go : (b c : Bool) → ltb x y ≡ b → ltb y x ≡ c → T (decide b c r) → (x < y) ⊎ ((x ≡ y) × T r)
@@ -49,7 +49,7 @@ nlt-is : (x y : ℤ) (p m q n : ℕ) → Is x p m → Is y q n → ltZ x y ≡ f
 nlt-is x y p m q n h k e = is-le y x q n p m k h (nlt-le x y e)
 
 module _ (x y : ℤ) (p m q n : ℕ) (h : Is x p m) (k : Is y q n) (r : Bool) where
-  pub decideℤ-elim : T (decide (ltZ x y) (ltZ y x) r) → (p + n < q + m) ⊎ ((p + n ≡ q + m) × T r)
+  decideℤ-elim : T (decide (ltZ x y) (ltZ y x) r) → (p + n < q + m) ⊎ ((p + n ≡ q + m) × T r)
   decideℤ-elim s = go (ltZ x y) (ltZ y x) refl refl s
     where
       go : (b c : Bool) → ltZ x y ≡ b → ltZ y x ≡ c → T (decide b c r) → (p + n < q + m) ⊎ ((p + n ≡ q + m) × T r)
@@ -60,7 +60,7 @@ module _ (x y : ℤ) (p m q n : ℕ) (h : Is x p m) (k : Is y q n) (r : Bool) wh
           let j = nlt-is y x q n p m k h v in
           inr (omega arith, s)
 
-  pub decideℤ-intro : (p + n < q + m) ⊎ ((p + n ≡ q + m) × T r) → T (decide (ltZ x y) (ltZ y x) r)
+  decideℤ-intro : (p + n < q + m) ⊎ ((p + n ≡ q + m) × T r) → T (decide (ltZ x y) (ltZ y x) r)
   decideℤ-intro s = go (ltZ x y) (ltZ y x) refl refl s
     where
       go : (b c : Bool) → ltZ x y ≡ b → ltZ y x ≡ c → (p + n < q + m) ⊎ ((p + n ≡ q + m) × T r) → T (decide b c r)
@@ -158,7 +158,7 @@ comesBefore-antisym cost x y h k =
     go p m q n (inr (u, inr a)) (inr (v, inl b)) = let z : ⊥ = omega (arith, a .0) in absurd z
     go p m q n (inr (u, inr a)) (inr (v, inr b)) = ends-antisym x y (a .1) (b .1)
 
-pub comesBefore-refl : (cost : List ℕ → ℤ) (x : List ℕ) → T (comesBefore cost x x)
+comesBefore-refl : (cost : List ℕ → ℤ) (x : List ℕ) → T (comesBefore cost x x)
 comesBefore-refl cost x = ⊎-elim (λ h. h) (λ h. h) (comesBefore-total cost x x)
 
 -- the least of a list is in it, at most each of it, and the only one
@@ -206,11 +206,6 @@ least-is cost (x ∷ xs) z m h =
     let a = least-in cost (x ∷ xs) w refl in
     let b = least-low cost (x ∷ xs) w z refl m in
     ap some (comesBefore-antisym cost w z b (h w a))
-
--- and where there is nothing, none
-pub least-none : (cost : List ℕ → ℤ) (xs : List (List ℕ)) → ((y : List ℕ) → List·Memᴰ y xs → ⊥) → least cost xs ≡ none
-least-none cost [] h = refl
-least-none cost (x ∷ xs) h = absurd (h x (List·Memᴰ·head refl))
 
 pub least-some : (cost : List ℕ → ℤ) (xs : List (List ℕ)) (y : List ℕ) → List·Memᴰ y xs → least cost xs ≡ none → ⊥
 least-some cost [] y m e = List·Memᴰ·not-nil m

@@ -18,10 +18,10 @@ use Rattle.model.specs.Plan.{permittedLayouts, cheapest}
 use Rattle.model.specs.Laws.{IsCheapest}
 use Rattle.model.proofs.Tests.{and-fst, of-true}
 use Rattle.model.proofs.LayoutLaws.{every-layout}
-use Rattle.model.proofs.Order.{comesBefore-antisym, least-in, least-low, least-is, least-none, least-some}
+use Rattle.model.proofs.Order.{comesBefore-antisym, least-in, least-low, least-is, least-some}
 
 -- what is kept passes, and what passes is kept
-pub kept-passes : {A : Type 0} (p : A → Bool) (x : A) (l : List A) → List·Memᴰ x (keep p l) → List·Memᴰ x l × T (p x)
+kept-passes : {A : Type 0} (p : A → Bool) (x : A) (l : List A) → List·Memᴰ x (keep p l) → List·Memᴰ x l × T (p x)
 unfolding keep
 kept-passes p x [] m = absurd (List·Memᴰ·not-nil m)
 kept-passes {A} p x (y ∷ l) m = go (p y) refl m (kept-passes p x l)
@@ -34,7 +34,7 @@ kept-passes {A} p x (y ∷ l) m = go (p y) refl m (kept-passes p x l)
         head-or (inr k) = let r = ih k in (List·Memᴰ·tail (r .0), r .1)
     go false e m ih = let r = ih m in (List·Memᴰ·tail (r .0), r .1)
 
-pub passes-kept : {A : Type 0} (p : A → Bool) (x : A) (l : List A) → List·Memᴰ x l → T (p x) → List·Memᴰ x (keep p l)
+passes-kept : {A : Type 0} (p : A → Bool) (x : A) (l : List A) → List·Memᴰ x l → T (p x) → List·Memᴰ x (keep p l)
 unfolding keep
 passes-kept p x [] m t = absurd (List·Memᴰ·not-nil m)
 passes-kept {A} p x (y ∷ l) m t = go (p y) refl (List·Memᴰ·cases-cons m) (λ k. passes-kept p x l k t)
@@ -84,11 +84,6 @@ module _ (p : PriceCard) (l : Limits) (s : Set) where
     pub chosen-cheapest : (ends : List ℕ) → 1 ≤ blocks s → IsCheapest L p l s hs ends → cheapest L p l s hs ≡ some ends
     unfolding cheapest
     chosen-cheapest ends h c = least-is cost (permittedLayouts p l s) ends (permitted-listed h ends (c .allowed)) (λ other m. c .first other (listed-permitted other m))
-
-    -- nothing is chosen exactly where nothing is permitted
-    pub none-chosen : ((ends : List ℕ) → T (permitted p l s ends) → ⊥) → cheapest L p l s hs ≡ none
-    unfolding cheapest
-    none-chosen h = least-none cost (permittedLayouts p l s) (λ ends m. h ends (listed-permitted ends m))
 
     pub none-permitted : 1 ≤ blocks s → cheapest L p l s hs ≡ none → (ends : List ℕ) → T (permitted p l s ends) → ⊥
     unfolding cheapest

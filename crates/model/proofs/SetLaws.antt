@@ -160,9 +160,6 @@ module _ (L : ℕ) (s : Set) (o : Good L s) where
   pub past-mono : (i j : ℕ) → i ≤ j → blockStop s i ≤ blockStop s j
   past-mono = stop-mono s
 
-  pub past-least : (i : ℕ) → 1 ≤ blockStop s i
-  past-least i = omega (arith, o .b-least, o .m-least)
-
   -- growers never fall
   pub growers-rise : (i j : ℕ) → i ≤ j → j < s .used → getD (s .growers) i 0 ≤ getD (s .growers) j 0
   growers-rise i j h k =

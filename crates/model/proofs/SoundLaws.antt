@@ -9,12 +9,12 @@ use Rattle.model.proofs.Tests.{and-fst, and-snd, and-mk}
 use Rattle.model.proofs.MovesKeep.{All, Sound}
 
 module _ {A : Type 0} (f : A → Bool) where
-  pub every-all : (l : List A) → T (every f l) → All (λ (a : A). T (f a)) l
+  every-all : (l : List A) → T (every f l) → All (λ (a : A). T (f a)) l
   unfolding every All
   every-all [] t = tt
   every-all (x ∷ l) t = (and-fst (f x) (every f l) t, every-all l (and-snd (f x) (every f l) t))
 
-  pub all-every : (l : List A) → All (λ (a : A). T (f a)) l → T (every f l)
+  all-every : (l : List A) → All (λ (a : A). T (f a)) l → T (every f l)
   unfolding every All
   all-every [] h = tt
   all-every (x ∷ l) h = and-mk (f x) (every f l) (h .0) (all-every l (h .1))

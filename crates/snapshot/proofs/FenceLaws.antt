@@ -21,7 +21,7 @@ unfolding rising
 rising-tail a [] t = tt
 rising-tail a (b ∷ l) t = and-snd (ltb a b) (rising (b ∷ l)) t
 
-pub rises-next : (l : List ℕ) (i : ℕ) → T (rising l) → i + 1 < length l → getD l i 0 < getD l (i + 1) 0
+rises-next : (l : List ℕ) (i : ℕ) → T (rising l) → i + 1 < length l → getD l i 0 < getD l (i + 1) 0
 unfolding rising
 rises-next [] i t h = absurd (omega arith)
 rises-next (a ∷ []) i t h = absurd (omega arith)

@@ -46,7 +46,7 @@ module _ {A : Type 0} where
       go false false = Permᴰ·refl _
   bag-keep f (List·Permᴰ·trans p q) = List·Permᴰ·trans (bag-keep f p) (bag-keep f q)
 
-  pub bag-sum : (f : A → ℕ) {a b : List A} → List·Permᴰ a b → sumOf (map f a) ≡ sumOf (map f b)
+  bag-sum : (f : A → ℕ) {a b : List A} → List·Permᴰ a b → sumOf (map f a) ≡ sumOf (map f b)
   unfolding sumOf
   bag-sum f List·Permᴰ·nil = refl
   bag-sum f (List·Permᴰ·cons e p) = ap₂ _+_ (ap f e) (bag-sum f p)

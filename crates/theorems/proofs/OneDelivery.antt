@@ -61,7 +61,7 @@ module _ (d : Delivery) where
       go false e false q ih = ih
 
   -- one delivery taken out of a bag, in whatever order it is listed
-  pub bag-remove : {a b : List Delivery} → List·Permᴰ a b → List·Permᴰ (removeOne d a) (removeOne d b)
+  bag-remove : {a b : List Delivery} → List·Permᴰ a b → List·Permᴰ (removeOne d a) (removeOne d b)
   unfolding removeOne
   bag-remove List·Permᴰ·nil = List·Permᴰ·nil
   bag-remove (List·Permᴰ·cons {a} {b} {l₁} {l₂} e p) = rw (ap (same d) e) (go (same d b) (bag-remove p))

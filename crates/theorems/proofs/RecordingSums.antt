@@ -151,7 +151,7 @@ module _ (L : ℕ) where
     count-other j i n = getD-set-other hs (position h * L + k) (position j * L + i) _ 0 n
 
     -- one raised
-    pub weigh-raise : (f : Histogram → ℕ → ℕ) (n : ℕ) → n ≤ L → k < n → weigh f n (raise L hs (at h k)) ≡ weigh f n hs + f h k
+    weigh-raise : (f : Histogram → ℕ → ℕ) (n : ℕ) → n ≤ L → k < n → weigh f n (raise L hs (at h k)) ≡ weigh f n hs + f h k
     unfolding weigh
     weigh-raise f n m l =
         sum-point n k (f h k) _ _ l
@@ -159,7 +159,7 @@ module _ (L : ℕ) where
         (over-point histograms h (f h k) _ _ (λ j w. ap (λ (c : ℕ). f j k * c) (count-other j k (λ q. w (slot-apart (position j) (position h) k k L low low q .0)))) (rw count-same (omega arith))
         ∙ rw times-once (omega arith))
 
-  pub length-raise : (hs : List ℕ) (e : Entry) → length (raise L hs e) ≡ length hs
+  length-raise : (hs : List ℕ) (e : Entry) → length (raise L hs e) ≡ length hs
   unfolding raise
   length-raise hs e = length-set hs _ _
 

@@ -60,10 +60,10 @@ module _ (L : ℕ) where
     target-there g = rw count-lengths (rw (length-fences L _ _ (v .shape)) at (place-of g .within))
 
     -- the slots
-    pub growers-of : c .growers ≡ map (λ (d : Delivery). d .grower) (slots c)
+    growers-of : c .growers ≡ map (λ (d : Delivery). d .grower) (slots c)
     growers-of = rows-columns (c .growers) (c .weights) (c .yields) (even-slices .weights) (even-slices .yields) .growers
 
-    pub length-slots : length (slots c) ≡ length (c .growers)
+    length-slots : length (slots c) ≡ length (c .growers)
     length-slots = sym (ap length growers-of ∙ length-map (slots c) (λ (d : Delivery). d .grower))
 
     pub room : sumOf (lengthsOf L c) ≤ length (slots c)
@@ -77,7 +77,7 @@ module _ (L : ℕ) where
     unfolding sound soundGrowers
     sound-growers = everyAt-sound (inPlace (fencesOf L c)) 0 (parts (lengthsOf L c) (c .growers)) (v .sound)
 
-    pub sound-slots : Sound (λ (p : ℕ) (d : Delivery). T (inPlace (fencesOf L c) p (d .grower))) 0 (parts (lengthsOf L c) (slots c))
+    sound-slots : Sound (λ (p : ℕ) (d : Delivery). T (inPlace (fencesOf L c) p (d .grower))) 0 (parts (lengthsOf L c) (slots c))
     sound-slots =
         let f : Delivery → ℕ = λ (d : Delivery). d .grower in
         let e : parts (lengthsOf L c) (c .growers) ≡ map (map f) (parts (lengthsOf L c) (slots c))

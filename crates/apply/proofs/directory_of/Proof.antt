@@ -1,12 +1,12 @@
 -- `apply::directory_of` meets its contract: after i turns the first i partitions of the layout are put. Assumes nothing.
-use lib.ListN.{length}
-use borrow.Author.Needs.{needs}
+use Prim.Native.Nat.{ℕ, _-_, _≤_}
 use mathlib.Core.List.{List, []}
 use mathlib.Core.Path.{sym}
 use native.Mathlib.Omega.{arith}
-use Prim.Native.Nat.{ℕ, _-_, _≤_}
-use Rattle.model.specs.Lent.{setOf}
+use borrow.Author.Needs.{needs}
+use lib.ListN.{length}
 use Rattle.model.specs.Bounds.{blockLimit}
+use Rattle.model.specs.Lent.{setOf}
 use Rattle.apply.proofs.Filling.{Filling, fill-start, fill-next, fill-end, layout-same, few-ends}
 use Rattle.apply.proofs.directory_of.Statement.{statement}
 use Rattle.apply.proofs.directory_of.Tie as tie

@@ -1,15 +1,15 @@
 -- `column::delete` meets its contract: refused by its checks or its search, or taken out where the search found it. Assumes nothing.
 use Prim.Native.Nat.{ℕ, _≤_}
-use native.Mathlib.Omega.{arith}
 use mathlib.Core.Path.{ap, ap₂, _∙_}
+use native.Mathlib.Omega.{arith}
 use borrow.Author.Needs.{needs}
-use Rattle.model.specs.Column.{Column}
-use Rattle.directory.proofs.Numbers.{has-onward}
-use Rattle.model.specs.Directory.{directoryOf}
-use Rattle.model.specs.Lent.{columnOf}
-use Rattle.model.specs.Bounds.{blockLimit}
-use Rattle.model.specs.Accesses.{onward}
 use Rattle.model.specs.declared.Answer.{Answer}
+use Rattle.model.specs.Bounds.{blockLimit}
+use Rattle.model.specs.Directory.{directoryOf}
+use Rattle.model.specs.Column.{Column}
+use Rattle.model.specs.Lent.{columnOf}
+use Rattle.model.specs.Accesses.{onward}
+use Rattle.directory.proofs.Numbers.{has-onward}
 use Rattle.directory.specs.Numbers.{HasPartition}
 use Rattle.column.specs.Answers.{withoutTotals, takenOf}
 use Rattle.column.proofs.Writing.{Found, found, scan-small, delete-refused, delete-done, ready}

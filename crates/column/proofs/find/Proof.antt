@@ -2,9 +2,9 @@
 use mathlib.Core.Path.{_∙_}
 use borrow.Author.Needs.{needs}
 use Rattle.model.specs.Bounds.{blockLimit}
+use Rattle.model.specs.Calls.{range}
 use Rattle.model.specs.Lent.{columnOf}
 use Rattle.column.proofs.Answering.{find-is-range}
-use Rattle.model.specs.Calls.{range}
 use Rattle.column.proofs.find.Statement.{statement}
 use Rattle.column.proofs.find.Tie as tie
 

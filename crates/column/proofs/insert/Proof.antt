@@ -3,13 +3,13 @@ use Prim.Native.Nat.{ℕ}
 use mathlib.Core.Path.{refl, ap, _∙_}
 use native.Mathlib.Omega.{arith}
 use borrow.Author.Needs.{needs}
-use Rattle.model.specs.Column.{Column}
-use Rattle.directory.proofs.Numbers.{has-onward}
-use Rattle.model.specs.Directory.{directoryOf}
-use Rattle.model.specs.Lent.{columnOf}
-use Rattle.model.specs.Bounds.{blockLimit}
-use Rattle.model.specs.Accesses.{onward}
 use Rattle.model.specs.declared.Answer.{Answer}
+use Rattle.model.specs.Bounds.{blockLimit}
+use Rattle.model.specs.Directory.{directoryOf}
+use Rattle.model.specs.Column.{Column}
+use Rattle.model.specs.Lent.{columnOf}
+use Rattle.model.specs.Accesses.{onward}
+use Rattle.directory.proofs.Numbers.{has-onward}
 use Rattle.directory.specs.Numbers.{HasPartition}
 use Rattle.column.specs.Answers.{putOf}
 use Rattle.column.proofs.Writing.{Open, insert-refused, insert-open, insert-done, ready}

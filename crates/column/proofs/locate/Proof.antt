@@ -1,17 +1,17 @@
 -- `column::locate` meets its contract: the checks answer, and then the search of the grower's partition does. Assumes nothing.
 use Prim.Native.Nat.{_+_, _-_}
-use Rattle.slices.proofs.Sums.{even-part}
+use mathlib.Core.Path.{_≡_, sym, _∙_}
 use native.Mathlib.Omega.{arith}
-use lib.ListN.{length-take, length-drop}
 use borrow.Author.Tests.{not-true, not-false}
 use borrow.Author.Needs.{needs}
-use mathlib.Core.Path.{_≡_, sym, _∙_}
-use Rattle.model.specs.Column.{Column}
-use Rattle.model.specs.Checks.{firstFailed}
-use Rattle.model.specs.Lent.{columnOf}
+use lib.ListN.{length-take, length-drop}
 use Rattle.model.specs.Bounds.{blockLimit}
-use Rattle.directory.proofs.LentColumns.{lent-column}
+use Rattle.model.specs.Checks.{firstFailed}
+use Rattle.model.specs.Column.{Column}
+use Rattle.model.specs.Lent.{columnOf}
 use Rattle.model.specs.Questions.{lentChecks}
+use Rattle.slices.proofs.Sums.{even-part}
+use Rattle.directory.proofs.LentColumns.{lent-column}
 use Rattle.directory.proofs.Numbers.{block-is}
 use Rattle.directory.proofs.Shapes.{Carried, shape-refusal, carried}
 use Rattle.column.proofs.Reading.{Near, near, near-partition}

@@ -3,16 +3,16 @@ use Prim.Native.Nat.{ℕ, _≤_}
 use mathlib.Core.Path.{ap, ap₂, _∙_}
 use native.Mathlib.Omega.{arith}
 use borrow.Author.Needs.{needs}
-use Rattle.model.specs.Deliveries.{delivery}
-use Rattle.model.specs.ColumnCalls.{slotOf}
-use Rattle.model.specs.Column.{Column, target}
-use Rattle.model.specs.Accesses.{apart}
-use Rattle.model.specs.Bounds.{blockLimit}
-use Rattle.model.specs.Lent.{columnOf}
 use Rattle.model.specs.declared.Answer.{Answer}
+use Rattle.model.specs.Bounds.{blockLimit}
+use Rattle.model.specs.Deliveries.{delivery}
+use Rattle.model.specs.Column.{Column, target}
+use Rattle.model.specs.Lent.{columnOf}
+use Rattle.model.specs.Accesses.{apart}
+use Rattle.model.specs.ColumnCalls.{slotOf}
 use Rattle.directory.proofs.LentColumns.{lent-column, count-lengths, most-shaped}
-use Rattle.column.proofs.Reading.{target-there}
 use Rattle.column.specs.Answers.{withoutTotals, shiftedOf}
+use Rattle.column.proofs.Reading.{target-there}
 use Rattle.column.proofs.Writing.{Found, found, scan-small, move-refused, move-done, ready}
 use Rattle.column.proofs.move_delivery.Statement.{statement}
 use Rattle.column.proofs.move_delivery.Tie as tie

@@ -1,12 +1,12 @@
 -- `column::open` meets its contract: the checks answer, and then what the directory's pass found does. Assumes nothing.
+use mathlib.Core.Path.{_≡_, sym, _∙_}
 use native.Mathlib.Omega.{arith}
 use borrow.Author.Tests.{not-true, not-false}
 use borrow.Author.Needs.{needs}
-use mathlib.Core.Path.{_≡_, sym, _∙_}
-use Rattle.model.specs.Column.{Column}
-use Rattle.model.specs.Checks.{firstFailed}
-use Rattle.model.specs.Lent.{columnOf}
 use Rattle.model.specs.Bounds.{blockLimit}
+use Rattle.model.specs.Checks.{firstFailed}
+use Rattle.model.specs.Column.{Column}
+use Rattle.model.specs.Lent.{columnOf}
 use Rattle.model.specs.Questions.{lentChecks}
 use Rattle.directory.proofs.Shapes.{Carried, shape-refusal, carried}
 use Rattle.column.proofs.Writing.{opened-lent, opened-range, opened-full, opened-yes}

@@ -1,16 +1,16 @@
 -- `column::partition` meets its contract: the checks answer, and then what the directory's pass found does. Assumes nothing.
-use lib.ListN.{getD}
-use native.Mathlib.Omega.{arith}
-use lib.Dec.{T}
-use borrow.Author.Needs.{needs}
 use Prim.Native.Nat.{ℕ}
 use mathlib.Core.Path.{ap, _∙_}
-use Rattle.directory.proofs.Numbers.{dir-start, dir-fits}
+use native.Mathlib.Omega.{arith}
+use borrow.Author.Needs.{needs}
+use lib.ListN.{getD}
+use lib.Dec.{T}
 use Rattle.model.specs.Bounds.{blockLimit, mostSlots}
 use Rattle.model.specs.Place.{place}
 use Rattle.model.specs.Directory.{directoryOf, directoryOk}
-use Rattle.directory.proofs.Shapes.{Carried, shape-refusal, carried}
 use Rattle.model.specs.Questions.{partitionChecks}
+use Rattle.directory.proofs.Numbers.{dir-start, dir-fits}
+use Rattle.directory.proofs.Shapes.{Carried, shape-refusal, carried}
 use Rattle.column.proofs.Handing.{partition-refused, partition-done, partition-directory, partition-has}
 use Rattle.column.proofs.partition.Statement.{statement}
 use Rattle.column.proofs.partition.Tie as tie

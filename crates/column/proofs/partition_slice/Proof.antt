@@ -2,10 +2,10 @@
 use mathlib.Core.Path.{ap, _∙_}
 use native.Mathlib.Omega.{arith}
 use borrow.Author.Needs.{needs}
-use Rattle.column.proofs.Handing.{handed-inside, cut-out}
-use Rattle.column.specs.Answers.{partOf}
-use Rattle.model.specs.Bounds.{blockLimit}
 use Rattle.model.specs.declared.PartitionSlice.{PartitionSlice}
+use Rattle.model.specs.Bounds.{blockLimit}
+use Rattle.column.specs.Answers.{partOf}
+use Rattle.column.proofs.Handing.{handed-inside, cut-out}
 use Rattle.column.proofs.partition_slice.Statement.{statement}
 use Rattle.column.proofs.partition_slice.Tie as tie
 

@@ -1,14 +1,14 @@
 -- `column::put` meets its contract: the ripple moves the slots, and one number of the directory changes. Assumes nothing.
-use mathlib.Core.List.{List}
-use borrow.Author.Needs.{needs}
 use Prim.Native.Nat.{ℕ}
+use mathlib.Core.List.{List}
 use mathlib.Core.Path.{ap, _∙_}
-use Rattle.directory.proofs.Numbers.{has-numbered, has-inside}
-use Rattle.model.specs.Partitions.{oneMore}
-use Rattle.model.specs.Lent.{columnOf}
+use borrow.Author.Needs.{needs}
 use Rattle.model.specs.Bounds.{blockLimit}
-use Rattle.model.specs.Column.{Column, lengthsOf}
+use Rattle.model.specs.Partitions.{oneMore}
 use Rattle.model.specs.Moves.{inserted}
+use Rattle.model.specs.Column.{Column, lengthsOf}
+use Rattle.model.specs.Lent.{columnOf}
+use Rattle.directory.proofs.Numbers.{has-numbered, has-inside}
 use Rattle.column.proofs.Writing.{column-is}
 use Rattle.column.proofs.put.Statement.{statement}
 use Rattle.column.proofs.put.Tie as tie

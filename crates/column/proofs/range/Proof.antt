@@ -1,15 +1,15 @@
 -- `column::range` meets its contract: the checks answer, and then the scan does. Assumes nothing.
-use borrow.Author.Needs.{needs}
 use mathlib.Core.Path.{_≡_, sym, ap, _∙_}
-use Rattle.model.specs.Partitions.{startOf}
-use Rattle.model.specs.Checks.{firstFailed}
-use Rattle.model.specs.ColumnCalls.{Called}
-use Rattle.model.specs.Lent.{columnOf}
+use borrow.Author.Needs.{needs}
 use Rattle.model.specs.Bounds.{blockLimit}
-use Rattle.directory.proofs.Shapes.{Carried, shape-refusal, carried}
-use Rattle.model.specs.Questions.{lentChecks}
-use Rattle.model.specs.Column.{Column, lengthsOf}
+use Rattle.model.specs.Checks.{firstFailed}
 use Rattle.model.specs.Calls.{range}
+use Rattle.model.specs.Partitions.{startOf}
+use Rattle.model.specs.Column.{Column, lengthsOf}
+use Rattle.model.specs.Lent.{columnOf}
+use Rattle.model.specs.Questions.{lentChecks}
+use Rattle.model.specs.ColumnCalls.{Called}
+use Rattle.directory.proofs.Shapes.{Carried, shape-refusal, carried}
 use Rattle.column.proofs.Reading.{range-backwards}
 use Rattle.column.proofs.Answering.{lent-no}
 use Rattle.column.proofs.range.Statement.{statement}

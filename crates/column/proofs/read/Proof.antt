@@ -1,14 +1,14 @@
 -- `column::read` meets its contract: one scan of the partitions from lo's to hi's answers the range. Assumes nothing.
-use lib.ListN.{getD}
 use Prim.Native.Nat.{_+_, _-_}
+use mathlib.Core.Path.{_≡_, _∙_}
 use native.Mathlib.Omega.{arith}
 use borrow.Author.Tests.{not-true, not-false}
 use borrow.Author.Needs.{needs}
-use mathlib.Core.Path.{_≡_, _∙_}
-use Rattle.directory.proofs.LentColumns.{LentColumn, lent-column, numbered, count-lengths, most-shaped}
-use Rattle.model.specs.Lent.{columnOf}
+use lib.ListN.{getD}
 use Rattle.model.specs.Bounds.{blockLimit}
 use Rattle.model.specs.Column.{Column, slots, lengthsOf, target}
+use Rattle.model.specs.Lent.{columnOf}
+use Rattle.directory.proofs.LentColumns.{LentColumn, lent-column, numbered, count-lengths, most-shaped}
 use Rattle.directory.proofs.Numbers.{block-is}
 use Rattle.scan.specs.Scans.{scanOf}
 use Rattle.column.proofs.Reading.{targets-ordered, target-there, good-scan, blocks-some, range-bad, range-good}

@@ -1,11 +1,11 @@
 -- `column::shift` meets its contract: the slots move, one length falls and one rises. Assumes nothing.
 use native.Mathlib.Omega.{arith}
 use borrow.Author.Needs.{needs}
-use Rattle.model.specs.Moves.{moved}
-use Rattle.model.specs.Lent.{columnOf}
 use Rattle.model.specs.Bounds.{blockLimit}
 use Rattle.model.specs.Partitions.{oneMore, oneFewer}
+use Rattle.model.specs.Moves.{moved}
 use Rattle.model.specs.Column.{Column, lengthsOf}
+use Rattle.model.specs.Lent.{columnOf}
 use Rattle.column.proofs.Writing.{partition-after, twice, column-is}
 use Rattle.column.proofs.shift.Statement.{statement}
 use Rattle.column.proofs.shift.Tie as tie

@@ -1,11 +1,11 @@
 -- `column::shift_slots` meets its contract: to a later partition and to an earlier one, the ripple that moves there. Assumes nothing.
-use mathlib.Core.List.{List}
-use borrow.Author.Needs.{needs}
 use Prim.Native.Nat.{ℕ}
+use mathlib.Core.List.{List}
 use mathlib.Core.Path.{ap, _∙_}
-use Rattle.directory.proofs.Numbers.{has-numbered, has-inside}
-use Rattle.model.specs.Moves.{moved}
+use borrow.Author.Needs.{needs}
 use Rattle.model.specs.Bounds.{blockLimit}
+use Rattle.model.specs.Moves.{moved}
+use Rattle.directory.proofs.Numbers.{has-numbered, has-inside}
 use Rattle.directory.specs.Numbers.{HasPartition}
 use Rattle.column.proofs.shift_slots.Statement.{statement}
 use Rattle.column.proofs.shift_slots.Tie as tie

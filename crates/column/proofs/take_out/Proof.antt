@@ -1,16 +1,16 @@
 -- `column::take_out` meets its contract: the ripple moves the slots, and one number of the directory changes. Assumes nothing.
+use Prim.Native.Nat.{ℕ}
 use mathlib.Core.List.{List}
+use mathlib.Core.Path.{ap, _∙_}
 use native.Mathlib.Omega.{arith}
 use borrow.Author.Needs.{needs}
-use Prim.Native.Nat.{ℕ}
-use mathlib.Core.Path.{ap, _∙_}
-use Rattle.model.specs.ColumnCalls.{freed}
-use Rattle.directory.proofs.Numbers.{has-numbered, has-inside}
-use Rattle.model.specs.Moves.{deleted}
-use Rattle.model.specs.Lent.{columnOf}
 use Rattle.model.specs.Bounds.{blockLimit}
 use Rattle.model.specs.Partitions.{oneFewer}
+use Rattle.model.specs.Moves.{deleted}
 use Rattle.model.specs.Column.{Column, lengthsOf}
+use Rattle.model.specs.Lent.{columnOf}
+use Rattle.model.specs.ColumnCalls.{freed}
+use Rattle.directory.proofs.Numbers.{has-numbered, has-inside}
 use Rattle.column.proofs.Writing.{column-is}
 use Rattle.column.proofs.take_out.Statement.{statement}
 use Rattle.column.proofs.take_out.Tie as tie

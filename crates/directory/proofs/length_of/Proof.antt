@@ -1,7 +1,7 @@
 -- `directory::length_of` meets its contract: the number there is the length. Assumes nothing.
 use Prim.Native.Nat.{_+_, _<_}
-use lib.ListN.{length}
 use native.Mathlib.Omega.{arith}
+use lib.ListN.{length}
 use Rattle.model.specs.Bounds.{blockLimit}
 use Rattle.directory.proofs.Numbers.{has-size, has-room, has-length}
 use Rattle.directory.proofs.length_of.Statement.{statement}

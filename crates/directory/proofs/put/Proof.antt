@@ -1,7 +1,7 @@
 -- `directory::put` meets its contract: two stores. Assumes nothing.
 use native.Mathlib.Omega.{arith}
-use lib.ListN.{length-set}
 use borrow.Author.Needs.{needs}
+use lib.ListN.{length-set}
 use Rattle.directory.proofs.put.Statement.{statement}
 use Rattle.directory.proofs.put.Tie as tie
 

@@ -1,11 +1,11 @@
 -- `directory::shrink` meets its contract: one number stored is one length changed. Assumes nothing.
-use mathlib.Core.Path.{ap, _∙_}
 use Prim.Native.Nat.{ℕ, _+_, _-_, _<_}
-use lib.ListN.{length, set}
+use mathlib.Core.Path.{ap, _∙_}
 use native.Mathlib.Omega.{arith}
 use borrow.Author.Needs.{needs}
-use Rattle.model.specs.Directory.{directoryOf, withLengths}
+use lib.ListN.{length, set}
 use Rattle.model.specs.Bounds.{blockLimit}
+use Rattle.model.specs.Directory.{directoryOf, withLengths}
 use Rattle.directory.proofs.Numbers.{has-size, has-room, has-length, has-stored}
 use Rattle.directory.proofs.shrink.Statement.{statement}
 use Rattle.directory.proofs.shrink.Tie as tie

@@ -1,9 +1,9 @@
 -- `directory::start_of` meets its contract: the sum of the lengths ahead. Assumes nothing.
 use Prim.Native.Nat.{_+_, _<_}
 use mathlib.Core.Path.{_∙_}
-use lib.ListN.{length, length-take}
 use native.Mathlib.Omega.{arith}
 use borrow.Author.Needs.{needs}
+use lib.ListN.{length, length-take}
 use Rattle.model.specs.Bounds.{blockLimit}
 use Rattle.directory.proofs.Numbers.{has-size, has-room, dir-ahead}
 use Rattle.directory.proofs.start_of.Statement.{statement}

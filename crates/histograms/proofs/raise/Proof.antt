@@ -1,9 +1,9 @@
 -- `histograms::raise` meets its contract: one store. Assumes nothing.
+use Prim.Native.Nat.{ℕ}
+use mathlib.Core.Path.{ap}
+use native.Mathlib.Omega.{arith}
 use borrow.Author.Needs.{needs}
 use lib.ListN.{set}
-use Prim.Native.Nat.{ℕ}
-use native.Mathlib.Omega.{arith}
-use mathlib.Core.Path.{ap}
 use Rattle.histograms.proofs.raise.Statement.{statement}
 use Rattle.histograms.proofs.raise.Tie as tie
 

@@ -1,14 +1,14 @@
 -- `histograms::raise_span` meets its contract: where one of the counts has no room nothing is raised; the ends stand ahead of those between, whose room they leave as it was. Assumes nothing.
-use mathlib.Core.Bool.{true}
-use borrow.Author.Tests.{not-true, not-false}
 use Prim.Native.Nat.{_-_}
+use mathlib.Core.Bool.{true}
 use mathlib.Core.Path.{_≡_, sym, _∙_}
 use native.Mathlib.Omega.{arith}
+use borrow.Author.Tests.{not-true, not-false}
 use borrow.Author.Needs.{needs}
-use Rattle.model.specs.Lists.{upFrom}
 use Rattle.model.specs.Bounds.{blockLimit}
-use Rattle.histograms.proofs.Slots.{room-no, room-yes, not-raised, all-raised, later-ready, Span, span-inside, span-part, span-room, span-ready, span-raised}
+use Rattle.model.specs.Lists.{upFrom}
 use Rattle.histograms.specs.Raising.{roomAt}
+use Rattle.histograms.proofs.Slots.{room-no, room-yes, not-raised, all-raised, later-ready, Span, span-inside, span-part, span-room, span-ready, span-raised}
 use Rattle.histograms.proofs.raise_span.Statement.{statement}
 use Rattle.histograms.proofs.raise_span.Tie as tie
 

@@ -2,12 +2,12 @@
 use Prim.Native.Nat.{ℕ, _+_, _*_, _<_}
 use mathlib.Core.Path.{_≡_, ap₂, _∙_}
 use mathlib.Core.List.{[], _∷_}
-use lib.ListN.{length}
 use native.Mathlib.Omega.{arith}
 use borrow.Author.Needs.{needs}
+use lib.ListN.{length}
 use Rattle.model.specs.Bounds.{blockLimit}
-use Rattle.histograms.proofs.Slots.{room-none, room-no, room-yes, not-raised, all-raised, raise-on, raise-none, later-ready}
 use Rattle.histograms.specs.Raising.{raisedAt}
+use Rattle.histograms.proofs.Slots.{room-none, room-no, room-yes, not-raised, all-raised, raise-on, raise-none, later-ready}
 use Rattle.histograms.proofs.raise_two.Statement.{statement}
 use Rattle.histograms.proofs.raise_two.Tie as tie
 

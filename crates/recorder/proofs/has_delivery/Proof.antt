@@ -1,6 +1,6 @@
 -- `recorder::has_delivery` meets its contract: the first match lies before the end just if there is one. Assumes nothing.
-use native.Mathlib.Omega.{arith}
 use mathlib.Core.Path.{sym, _∙_}
+use native.Mathlib.Omega.{arith}
 use lib.Seq.{length-take-le}
 use Rattle.recorder.proofs.Recording.{has-law}
 use Rattle.recorder.proofs.has_delivery.Statement.{statement}

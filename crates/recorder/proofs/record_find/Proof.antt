@@ -1,18 +1,18 @@
 -- `recorder::record_find` meets its contract: the checks answer ahead of 10, and then the raised slots do. Assumes nothing.
+use Prim.Native.Nat.{ℕ, _<_}
+use mathlib.Core.Path.{_≡_, sym, _∙_}
+use mathlib.Core.List.{List, map}
 use native.Mathlib.Omega.{arith}
 use borrow.Author.Needs.{needs}
-use mathlib.Core.Path.{_≡_, sym, _∙_}
-use Prim.Native.Nat.{ℕ, _<_}
-use mathlib.Core.List.{List, map}
+use Rattle.model.specs.Bounds.{blockLimit}
 use Rattle.model.specs.Checks.{Check, firstFailed}
 use Rattle.model.specs.Blocks.{Set}
+use Rattle.model.specs.Calls.{Call, find, ordered, offeredOk}
+use Rattle.model.specs.Histograms.{slot, raises}
+use Rattle.model.specs.Lent.{setOf}
 use Rattle.model.specs.Recorder.{recordCall}
 use Rattle.sets.specs.Sized.{countedChecks}
-use Rattle.model.specs.Lent.{setOf}
-use Rattle.model.specs.Bounds.{blockLimit}
 use Rattle.histograms.specs.Raising.{raisedAt}
-use Rattle.model.specs.Histograms.{slot, raises}
-use Rattle.model.specs.Calls.{Call, find, ordered, offeredOk}
 use Rattle.recorder.proofs.Recording.{Admitted, admitted, block-below, record-refused, record-raised, find-slots}
 use Rattle.recorder.proofs.record_find.Statement.{statement}
 use Rattle.recorder.proofs.record_find.Tie as tie

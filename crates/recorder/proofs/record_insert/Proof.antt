@@ -1,19 +1,19 @@
 -- `recorder::record_insert` meets its contract: the checks answer ahead of 10, and then the raised slots do. Assumes nothing.
-use native.Mathlib.Omega.{arith}
-use mathlib.Core.Bool.{Bool, true}
-use borrow.Author.Needs.{needs}
 use Prim.Native.Nat.{ℕ, _<_}
+use mathlib.Core.Bool.{Bool, true}
 use mathlib.Core.List.{List, map}
 use mathlib.Core.Path.{_≡_, sym, ap, _∙_}
+use native.Mathlib.Omega.{arith}
+use borrow.Author.Needs.{needs}
+use Rattle.model.specs.Bounds.{blockLimit}
 use Rattle.model.specs.Checks.{Check, firstFailed}
 use Rattle.model.specs.Blocks.{Set}
-use Rattle.model.specs.Recorder.{recordCall}
-use Rattle.sets.specs.Sized.{countedChecks}
-use Rattle.model.specs.Lent.{setOf}
-use Rattle.model.specs.Bounds.{blockLimit}
-use Rattle.histograms.specs.Raising.{raisedAt}
 use Rattle.model.specs.Calls.{Call, insert, ordered, offeredOk}
 use Rattle.model.specs.Histograms.{slot, raises}
+use Rattle.model.specs.Lent.{setOf}
+use Rattle.model.specs.Recorder.{recordCall}
+use Rattle.sets.specs.Sized.{countedChecks}
+use Rattle.histograms.specs.Raising.{raisedAt}
 use Rattle.recorder.proofs.Recording.{Admitted, admitted, block-below, record-refused, record-raised, insert-slots}
 use Rattle.recorder.proofs.record_insert.Statement.{statement}
 use Rattle.recorder.proofs.record_insert.Tie as tie

@@ -1,19 +1,19 @@
 -- `recorder::record_range` meets its contract: the checks answer ahead of 10, and then the raised slots do. Assumes nothing.
-use lib.Dec.{leb→le}
+use Prim.Native.Nat.{ℕ, _<_}
+use mathlib.Core.Path.{_≡_, sym, _∙_}
+use mathlib.Core.List.{List, map}
 use native.Mathlib.Omega.{arith}
 use borrow.Author.Needs.{needs}
-use mathlib.Core.Path.{_≡_, sym, _∙_}
-use Prim.Native.Nat.{ℕ, _<_}
-use mathlib.Core.List.{List, map}
+use lib.Dec.{leb→le}
+use Rattle.model.specs.Bounds.{blockLimit}
 use Rattle.model.specs.Checks.{Check, firstFailed}
 use Rattle.model.specs.Blocks.{Set}
+use Rattle.model.specs.Calls.{Call, range, ordered, offeredOk}
+use Rattle.model.specs.Histograms.{slot, raises}
+use Rattle.model.specs.Lent.{setOf}
 use Rattle.model.specs.Recorder.{recordCall}
 use Rattle.sets.specs.Sized.{countedChecks}
-use Rattle.model.specs.Calls.{Call, range, ordered, offeredOk}
-use Rattle.model.specs.Lent.{setOf}
-use Rattle.model.specs.Bounds.{blockLimit}
 use Rattle.histograms.specs.Raising.{raisedAt}
-use Rattle.model.specs.Histograms.{slot, raises}
 use Rattle.recorder.proofs.Recording.{Admitted, admitted, block-below, record-refused, record-raised, blocks-rise, range-one, range-span}
 use Rattle.recorder.proofs.record_range.Statement.{statement}
 use Rattle.recorder.proofs.record_range.Tie as tie
