@@ -27,7 +27,8 @@
  *    7  lo is at most hi
  *    8  weights are at most 100,000 and yields at most 10,000
  *    9  the histogram slice has 640 counts, none above 1,000,000
- *   10  each count to be raised stays within 1,000,000
+ *   10  each count to be raised stays within 1,000,000; each number of a tally
+ *       within 10^12
  *   11  some layout is permitted
  *   12  there is a free slot; for a text to be read, there are as many slots as
  *       it has deliveries
@@ -82,6 +83,13 @@ typedef struct {
     uint64_t sr;
     uint64_t rw;
 } meltusk_counts;
+
+/* The counts of many calls, added up. A tally begins with all three 0. */
+typedef struct {
+    uint64_t rr;
+    uint64_t sr;
+    uint64_t rw;
+} meltusk_tally;
 
 /* What find, range, insert, delete and move answer. */
 typedef struct {
@@ -264,6 +272,16 @@ meltusk_planned meltusk_plan(uint32_t rr, uint32_t sr, uint32_t rw,
                              const uint32_t *yields, size_t yields_count,
                              const uint32_t *histograms, size_t histograms_count,
                              uint32_t *ends, size_t ends_count);
+
+/*
+ * Adds a call's counts to the three numbers of a tally, of a refused call's too:
+ *
+ *     meltusk_tally_add(&t.rr, &t.sr, &t.rw, a.counts.rr, a.counts.sr, a.counts.rw)
+ *
+ * Check 10, by which the tally stays as it was. Answers the refusal.
+ */
+uint32_t meltusk_tally_add(uint64_t *rr, uint64_t *sr, uint64_t *rw,
+                           uint64_t more_rr, uint64_t more_sr, uint64_t more_rw);
 
 /*
  * Writes a column as a snapshot. Checks 2 3 6 8 15 (8: all records). Writes

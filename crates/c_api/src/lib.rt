@@ -9,15 +9,19 @@ ghost use Rattle.model.specs.Planner.{costCall, planCall};
 ghost use Rattle.model.specs.ColumnCalls.{applyCall, columnCall, partitionCall};
 ghost use Rattle.model.specs.SnapshotCalls.{writeCall, readCall};
 ghost use Rattle.model.specs.Lent.{columnIn, columnOut, setIn};
+ghost use Rattle.model.specs.Accesses.{counts};
+ghost use Rattle.model.specs.Tallies.{tally, addCall};
 ghost use Rattle.snapshot.specs.Answers.{readOut};
 use model::Answer;
 use model::Applied;
 use model::Costed;
+use model::Counts;
 use model::Delivery;
 use model::Limits;
 use model::PartitionSlice;
 use model::Planned;
 use model::PriceCard;
+use model::Tally;
 use model::Written;
 
 // Applies a layout to an unpartitioned set.
@@ -326,6 +330,36 @@ pub extern "C" fn meltusk_plan(
         histograms,
         ends,
     )
+}
+
+// Adds a report's counts to the three lent numbers of a tally; 10 leaves them alone.
+#[no_mangle]
+pub extern "C" fn meltusk_tally_add(
+    rr: &mut u64,
+    sr: &mut u64,
+    rw: &mut u64,
+    more_rr: u64,
+    more_sr: u64,
+    more_rw: u64,
+) -> u32
+    ensures { λ r. ⌜ record { refusal = r; tally = tally (now (rr .exit)) (now (sr .exit)) (now («rw» .exit)) }
+        ≡ addCall (tally (now (rr .entry)) (now (sr .entry)) (now («rw» .entry))) (counts «more_rr» «more_sr» «more_rw») ⌝ }
+{
+    let old = Tally {
+        rr: *rr,
+        sr: *sr,
+        rw: *rw,
+    };
+    let more = Counts {
+        rr: more_rr,
+        sr: more_sr,
+        rw: more_rw,
+    };
+    let a = tally::plus(old, more);
+    *rr = a.tally.rr;
+    *sr = a.tally.sr;
+    *rw = a.tally.rw;
+    a.refusal
 }
 
 // Writes a column as a snapshot's text.

@@ -9,9 +9,12 @@ use Rattle.model.specs.declared.Added.{Added}
 use Rattle.model.specs.Bounds.{mostTally}
 use Rattle.model.specs.Checks.{Check, ask, firstFailed}
 
+abbrev pub tally : ℕ → ℕ → ℕ → Tally
+tally a b c = record { rr = a; sr = b; «rw» = c }
+
 -- "a tally begins with all three numbers zero"
 abbrev pub emptyTally : Tally
-emptyTally = record { rr = 0; sr = 0; «rw» = 0 }
+emptyTally = tally 0 0 0
 
 -- the tally with a report's counts added
 abbrev pub plusCounts : Tally → Counts → Tally

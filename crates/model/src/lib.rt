@@ -18,12 +18,14 @@ pub const MOST_BLOCK_LENGTH: u32 = 4096;
 pub const MOST_WEIGHT: u32 = 100000;
 
 pub const MOST_YIELD: u32 = 10000;
-// The greatest count, price and limit.
+// The greatest count, price, limit and number of a tally.
 pub const MOST_COUNT: u32 = 1000000;
 
 pub const MOST_PRICE: u32 = 1000;
 
 pub const MOST_LIMIT: u32 = 1000000;
+
+pub const MOST_TALLY: u64 = 1000000000000;
 // How many records a loop over slices takes at a time.
 pub const STRIDE: usize = 64;
 

@@ -22,6 +22,7 @@ mod memory;
 mod plan;
 mod seen;
 mod snapshots;
+mod tallies;
 
 use second::random::{case_seed, Random};
 use seen::Seen;
@@ -39,6 +40,7 @@ pub struct Run {
     scale: f64,
     pub seen: Seen,
     pub snapshots: snapshots::seen::Seen,
+    pub tallies: tallies::Seen,
     #[cfg(feature = "plan")]
     pub planned: plan::seen::Seen,
 }
@@ -52,7 +54,7 @@ impl Run {
         let planned = self.planned.calls;
         #[cfg(not(feature = "plan"))]
         let planned = 0;
-        self.seen.calls + self.snapshots.calls + planned
+        self.seen.calls + self.snapshots.calls + self.tallies.calls + planned
     }
 
     /// Random cases of one test, each with its own seed. `count` is that of
@@ -87,6 +89,7 @@ fn tests() -> Vec<(&'static str, Test)> {
     tests.extend(layouts::TESTS);
     tests.push(("every answer of every call has occurred", every_answer));
     tests.extend(snapshots::TESTS);
+    tests.extend(tallies::TESTS);
     #[cfg(feature = "plan")]
     tests.extend(plan::TESTS);
     tests
@@ -98,6 +101,7 @@ fn run_tests(scale: f64) {
         scale,
         seen: Seen::default(),
         snapshots: snapshots::seen::Seen::default(),
+        tallies: tallies::Seen::default(),
         #[cfg(feature = "plan")]
         planned: plan::seen::Seen::default(),
     };

@@ -143,6 +143,15 @@ mod declared {
             grower: u32,
         ) -> PartitionSlice;
 
+        pub fn meltusk_tally_add(
+            rr: *mut u64,
+            sr: *mut u64,
+            rw: *mut u64,
+            more_rr: u64,
+            more_sr: u64,
+            more_rw: u64,
+        ) -> u32;
+
         pub fn meltusk_write_snapshot(
             directory: *const u32,
             directory_count: usize,
@@ -395,5 +404,21 @@ impl Library {
                 yields.len(),
             )
         }
+    }
+}
+
+/// Adds to the three numbers rr, sr and rw that stand at 1 to 3 of `numbers`;
+/// what stands at 0 and 4 guards them.
+pub fn tally_add(numbers: &mut [u64; 5], more: &Counts) -> u32 {
+    let first = numbers.as_mut_ptr();
+    unsafe {
+        declared::meltusk_tally_add(
+            first.add(1),
+            first.add(2),
+            first.add(3),
+            more.rr,
+            more.sr,
+            more.rw,
+        )
     }
 }
