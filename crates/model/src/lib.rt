@@ -60,7 +60,7 @@ pub const UDB: usize = 8;
 
 pub const UTB: usize = 9;
 
-pub const HISTOGRAM_COUNT: usize = 10;
+const HISTOGRAM_COUNT: usize = 10;
 
 pub const HISTOGRAMS_SIZE: usize = HISTOGRAM_COUNT * BLOCK_LIMIT;
 

@@ -30,7 +30,7 @@ fn used_ok(block: u32, m: usize, c: usize) -> bool
 }
 
 // Checks 2, 3, 4 and 5 of a set.
-pub fn set_refusal(block: u32, used: u32, g: &[u32], w: &[u32], y: &[u32]) -> u32
+fn set_refusal(block: u32, used: u32, g: &[u32], w: &[u32], y: &[u32]) -> u32
     ensures { λ r. ⌜ r ≡ setRefusalOf blockLimit (setIn block used g w y) ⌝ }
 {
     if !checks::block_length_ok(block) {
@@ -50,7 +50,7 @@ pub fn set_refusal(block: u32, used: u32, g: &[u32], w: &[u32], y: &[u32]) -> u3
 }
 
 // Check 8 of a set.
-pub fn set_values_ok(used: u32, g: &[u32], w: &[u32], y: &[u32]) -> bool
+fn set_values_ok(used: u32, g: &[u32], w: &[u32], y: &[u32]) -> bool
     requires { ⌜ (used ≤ length (now g)) × Even (now g) (now w) (now y) ⌝ }
     ensures { λ r. ⌜ ((b : ℕ) → r ≡ valuesOk (setIn b used g w y)) ⌝ }
 {
@@ -125,7 +125,7 @@ fn all_separate_none(block: u32, used: u32, g: &[u32], ends: &[u32]) -> bool
 }
 
 // Check 6 of a layout.
-pub fn layout_ok(block: u32, used: u32, g: &[u32], ends: &[u32]) -> bool
+fn layout_ok(block: u32, used: u32, g: &[u32], ends: &[u32]) -> bool
     requires { ⌜ Sized blockLimit block used (length (now g)) ⌝ }
     ensures { λ r. ⌜ ((ws ys : List ℕ) → r ≡ layoutOk (setOf block used (now (g .entry)) ws ys) (now (ends .entry))) ⌝ }
 {
