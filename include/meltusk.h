@@ -67,6 +67,11 @@ extern "C" {
 #define MELTUSK_DIRECTORY 130
 #define MELTUSK_HISTOGRAMS 640
 #define MELTUSK_PARTITIONS 64
+/* Where a directory's numbers stand: block length, partition count, lengths, fences. */
+#define MELTUSK_BLOCK 0
+#define MELTUSK_COUNT 1
+#define MELTUSK_LENGTHS 2
+#define MELTUSK_FENCES (MELTUSK_LENGTHS + MELTUSK_PARTITIONS)
 /* The bytes of a snapshot of m deliveries in k partitions. */
 #define MELTUSK_SNAPSHOT_BYTES(m, k) (34 + 23 * (size_t)(k) + 34 * (size_t)(m))
 
