@@ -223,6 +223,17 @@ static void lay(column *c, uint32_t used, const uint32_t *ends, size_t ends_coun
     print_partitions(c);
 }
 
+/* Where a grower's deliveries would lie. */
+static void look_up(const column *c, uint32_t grower, uint32_t start, uint32_t count)
+{
+    meltusk_partition_slice p =
+        meltusk_partition(c->directory, MELTUSK_DIRECTORY, c->growers, SLOTS, grower);
+
+    printf("The partition of %" PRIu32 ": %" PRIu32 " deliveries from slot %" PRIu32, grower,
+           p.count, p.start);
+    judge(p.refusal == 0 && p.start == start && p.count == count);
+}
+
 /* A marked example: a call, its counts, and the growers that it leaves. */
 typedef struct {
     call call;
@@ -270,6 +281,7 @@ static void make_examples(void)
               memcmp(&a.counts, &e->counts, sizeof a.counts) == 0 &&
               memcmp(c.growers, e->growers, sizeof e->growers) == 0);
     }
+    look_up(&laid, 50, 4, 4);
 }
 
 /* The deliveries at the week's beginning, in the order of their growers. */
@@ -444,17 +456,6 @@ static void make_week(column *c, meltusk_tally *t)
     print_tally("This week's tally", t);
     puts("");
     print_partitions(c);
-}
-
-/* Where a grower's deliveries would lie. */
-static void look_up(const column *c, uint32_t grower, uint32_t start, uint32_t count)
-{
-    meltusk_partition_slice p =
-        meltusk_partition(c->directory, MELTUSK_DIRECTORY, c->growers, SLOTS, grower);
-
-    printf("The partition of %" PRIu32 ": %" PRIu32 " deliveries from slot %" PRIu32, grower,
-           p.count, p.start);
-    judge(p.refusal == 0 && p.start == start && p.count == count);
 }
 
 /* Whether a column is the one that was read: its directory and its used slots. */
