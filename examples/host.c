@@ -278,6 +278,7 @@ static void make_examples(void)
         printf("; growers");
         print_growers(&c, used_slots(&c));
         judge(a.refusal == 0 && a.totals.records == e->records &&
+              a.totals.weight == 100 * e->records && a.totals.oil == 200000 * e->records &&
               memcmp(&a.counts, &e->counts, sizeof a.counts) == 0 &&
               memcmp(c.growers, e->growers, sizeof e->growers) == 0);
     }
