@@ -1,7 +1,7 @@
 /*
- * A small C host: lays the main case (growers 10 to 80, two partitions),
- * makes each call on the fresh column and prints its answer. Exits nonzero if
- * an answer is not the stated one.
+ * A C host: first the marked examples, each call on a fresh column of growers
+ * 10 to 80; then a week at a mill, from the recorded calls to the next plan.
+ * Prints each step, and exits nonzero if an answer is not the expected one.
  *
  *   cc -std=c11 -Wall -Wextra -Werror -Iinclude examples/host.c \
  *      -Ltarget/staticlib -lc_api -o host
@@ -12,8 +12,21 @@
 #include <stdio.h>
 #include <string.h>
 
-#define SLOTS 9
-#define USED 8
+#define SLOTS 14
+#define BLOCK 2
+
+/* The factory prices, and the limits of the plan. */
+#define RR 3
+#define SR 1
+#define RW 2
+#define READ_LIMIT 100
+#define INSERT_LIMIT 100
+
+#define COUNT_OF(list) (sizeof(list) / sizeof(list)[0])
+
+/* A column's arguments: its three slices, and the same behind the directory. */
+#define SLICES(c) (c)->growers, SLOTS, (c)->weights, SLOTS, (c)->yields, SLOTS
+#define COLUMN(c) (c)->directory, MELTUSK_DIRECTORY, SLICES(c)
 
 typedef struct {
     uint32_t directory[MELTUSK_DIRECTORY];
@@ -22,9 +35,41 @@ typedef struct {
     uint32_t yields[SLOTS];
 } column;
 
-/* Answers that are not the stated ones. */
+typedef enum { FIND, RANGE, INSERT, DELETE, MOVE } kind;
+
+typedef struct {
+    kind kind;
+    uint32_t grower; /* of a range: the lowest */
+    uint32_t other;  /* of a range: the highest; of a move: the new grower */
+    uint32_t weight;
+    uint32_t oil_yield;
+    uint32_t refusal; /* the one that a column is expected to give */
+} call;
+
+/* Indexed by refusal number. */
+static const char *const reasons[] = {
+    "accepted",
+    "a price or a limit is out of range",
+    "the block length is out of range",
+    "the slices have no common length",
+    "the used slots are out of range",
+    "the growers are not in order",
+    "the layout or the directory has not its shape",
+    "the range is empty",
+    "a weight or a yield is out of range",
+    "the histograms are out of range",
+    "a count would be out of range",
+    "no layout is permitted",
+    "there is no free slot",
+    "there is no such delivery",
+    "the text is no snapshot",
+    "the output slice is too short",
+};
+
+/* Answers that are not the expected ones. */
 static int wrong = 0;
 
+/* Ends a line of output. */
 static void judge(int good)
 {
     puts(good ? "" : "  WRONG");
@@ -32,171 +77,479 @@ static void judge(int good)
         wrong++;
 }
 
-/* The unpartitioned set, with one free slot. */
-static column unpartitioned(void)
+static const char *reason(uint32_t refusal)
 {
-    column c;
+    return refusal < COUNT_OF(reasons) ? reasons[refusal] : "no known refusal";
+}
 
-    memset(&c, 0, sizeof c);
-    for (uint32_t i = 0; i < USED; i++) {
-        c.growers[i] = 10 * (i + 1);
-        c.weights[i] = 100;
-        c.yields[i] = 2000;
+static void print_refusal(uint32_t refusal)
+{
+    if (refusal != 0)
+        printf("; refused by %" PRIu32 ", %s", refusal, reason(refusal));
+}
+
+/* Ends a line that is all said but for the refusal. */
+static void judge_refusal(uint32_t refusal, uint32_t expected)
+{
+    print_refusal(refusal);
+    judge(refusal == expected);
+}
+
+static meltusk_answer make(column *c, const call *k)
+{
+    switch (k->kind) {
+    case FIND:
+        return meltusk_find(COLUMN(c), k->grower);
+    case RANGE:
+        return meltusk_range(COLUMN(c), k->grower, k->other);
+    case INSERT:
+        return meltusk_insert(COLUMN(c), k->grower, k->weight, k->oil_yield);
+    case DELETE:
+        return meltusk_delete(COLUMN(c), k->grower, k->weight, k->oil_yield);
+    default:
+        return meltusk_move(COLUMN(c), k->grower, k->weight, k->oil_yield, k->other);
     }
-    return c;
 }
 
-/* The column with end blocks 1 and 3; checks the directory. */
-static column lay(void)
+static uint32_t record(uint32_t *histograms, uint32_t used, const column *set, const call *k)
 {
-    const uint32_t ends[2] = {1, 3};
-    column c = unpartitioned();
-    meltusk_applied applied = meltusk_apply_layout(2, USED, c.growers, SLOTS, c.weights, SLOTS,
-                                                   c.yields, SLOTS, ends, 2);
-    uint32_t expected[MELTUSK_DIRECTORY] = {2, 2, 4, 4};
-
-    expected[66] = 40;
-    expected[67] = 80;
-    printf("apply_layout 1 3: refusal %" PRIu32 ", B %" PRIu32 ", K %" PRIu32
-           ", lengths %" PRIu32 " %" PRIu32 ", fences %" PRIu32 " %" PRIu32,
-           applied.refusal, applied.directory[0], applied.directory[1], applied.directory[2],
-           applied.directory[3], applied.directory[66], applied.directory[67]);
-    judge(applied.refusal == 0 && memcmp(applied.directory, expected, sizeof expected) == 0);
-    memcpy(c.directory, applied.directory, sizeof c.directory);
-    return c;
+    switch (k->kind) {
+    case FIND:
+        return meltusk_record_find(histograms, MELTUSK_HISTOGRAMS, BLOCK, used, SLICES(set),
+                                   k->grower);
+    case RANGE:
+        return meltusk_record_range(histograms, MELTUSK_HISTOGRAMS, BLOCK, used, SLICES(set),
+                                    k->grower, k->other);
+    case INSERT:
+        return meltusk_record_insert(histograms, MELTUSK_HISTOGRAMS, BLOCK, used, SLICES(set),
+                                     k->grower, k->weight, k->oil_yield);
+    case DELETE:
+        return meltusk_record_delete(histograms, MELTUSK_HISTOGRAMS, BLOCK, used, SLICES(set),
+                                     k->grower, k->weight, k->oil_yield);
+    default:
+        return meltusk_record_move(histograms, MELTUSK_HISTOGRAMS, BLOCK, used, SLICES(set),
+                                   k->grower, k->weight, k->oil_yield, k->other);
+    }
 }
 
-static int same_counts(const meltusk_counts *a, uint64_t rr, uint64_t sr, uint64_t rw)
+static int reads_only(const call *k)
 {
-    return a->rr == rr && a->sr == sr && a->rw == rw;
+    return k->kind == FIND || k->kind == RANGE;
 }
 
-/* find and range: the totals and the counts; the column is as before. */
-static void judge_read(const char *call, const meltusk_answer *a, const column *before,
-                       const column *after, uint64_t records, uint64_t rr, uint64_t sr)
+/* Oil is kg times hundredths of a per cent, so 10,000 of it are a kg. */
+static void print_answer(const call *k, const meltusk_answer *a)
 {
-    printf("%s: refusal %" PRIu32 ", records %" PRIu64 ", weight %" PRIu64 ", oil %" PRIu64
-           ", rr %" PRIu64 ", sr %" PRIu64 ", rw %" PRIu64,
-           call, a->refusal, a->totals.records, a->totals.weight, a->totals.oil, a->counts.rr,
-           a->counts.sr, a->counts.rw);
-    judge(a->refusal == 0 && a->totals.records == records && a->totals.weight == 100 * records &&
-          a->totals.oil == 200000 * records && same_counts(&a->counts, rr, sr, 0) &&
-          memcmp(before, after, sizeof *before) == 0);
+    putchar(':');
+    if (reads_only(k))
+        printf(" deliveries %" PRIu64 ", %" PRIu64 " kg, oil %" PRIu64 ".%04" PRIu64 " kg;",
+               a->totals.records, a->totals.weight, a->totals.oil / 10000, a->totals.oil % 10000);
+    printf(" rr %" PRIu64 " sr %" PRIu64 " rw %" PRIu64, a->counts.rr, a->counts.sr, a->counts.rw);
+    print_refusal(a->refusal);
 }
 
-/*
- * insert, delete and move: the counts, the two lengths and the growers. Each
- * used slot has 100 kg and yield 2000, each free slot 0, 0, 0.
- */
-static void judge_write(const char *call, const meltusk_answer *a, const column *c, uint64_t rr,
-                        uint64_t sr, uint64_t rw, uint32_t first, uint32_t second,
-                        const uint32_t growers[SLOTS])
+static void print_call(const call *k)
 {
-    int good = a->refusal == 0 && a->totals.records == 0 && a->totals.weight == 0 &&
-               a->totals.oil == 0 && same_counts(&a->counts, rr, sr, rw) &&
-               c->directory[2] == first && c->directory[3] == second;
+    static const char *const names[] = {"find", "range", "insert", "delete", "move"};
 
-    printf("%s: refusal %" PRIu32 ", rr %" PRIu64 ", sr %" PRIu64 ", rw %" PRIu64
-           ", lengths %" PRIu32 " %" PRIu32 ", growers",
-           call, a->refusal, a->counts.rr, a->counts.sr, a->counts.rw, c->directory[2],
-           c->directory[3]);
-    for (uint32_t i = 0; i < SLOTS; i++) {
-        int is_used = i < first + second;
+    printf("  %s %" PRIu32, names[k->kind], k->grower);
+    if (k->kind == RANGE || k->kind == MOVE)
+        printf(" to %" PRIu32, k->other);
+    if (!reads_only(k))
+        printf(" (%" PRIu32 " kg, %" PRIu32 ".%02" PRIu32 " %%)", k->weight, k->oil_yield / 100,
+               k->oil_yield % 100);
+}
 
+static void print_growers(const column *c, uint32_t used)
+{
+    for (uint32_t i = 0; i < used; i++)
         printf(" %" PRIu32, c->growers[i]);
-        good = good && c->growers[i] == growers[i] && c->weights[i] == (is_used ? 100u : 0u) &&
-               c->yields[i] == (is_used ? 2000u : 0u);
-    }
-    judge(good);
 }
 
-/* A snapshot of the laid column, written, read back, and refused when damaged. */
-static void judge_snapshot(const column *laid)
+/* The used slots of a column: its lengths added up. */
+static uint32_t used_slots(const column *c)
 {
-    uint8_t text[MELTUSK_SNAPSHOT_BYTES(USED, 2)];
-    column c = *laid;
-    meltusk_written w = meltusk_write_snapshot(c.directory, MELTUSK_DIRECTORY, c.growers, SLOTS,
-                                               c.weights, SLOTS, c.yields, SLOTS, text, sizeof text);
+    uint32_t used = 0;
+
+    for (uint32_t i = 0; i < c->directory[MELTUSK_COUNT]; i++)
+        used += c->directory[MELTUSK_LENGTHS + i];
+    return used;
+}
+
+static void print_partitions(const column *c)
+{
+    uint32_t start = 0;
+
+    for (uint32_t i = 0; i < c->directory[MELTUSK_COUNT]; i++) {
+        uint32_t length = c->directory[MELTUSK_LENGTHS + i];
+
+        printf("  fence %" PRIu32 ":", c->directory[MELTUSK_FENCES + i]);
+        for (uint32_t j = start; j < start + length; j++)
+            printf(" %" PRIu32, c->growers[j]);
+        puts(length == 0 ? " empty" : "");
+        start += length;
+    }
+}
+
+/* The totals as a plain list of deliveries has them, whatever the partitions. */
+static meltusk_totals totals_of(const column *c, uint32_t lo, uint32_t hi)
+{
+    meltusk_totals t = {0, 0, 0};
+    uint32_t used = used_slots(c);
+
+    for (uint32_t i = 0; i < used; i++) {
+        if (lo <= c->growers[i] && c->growers[i] <= hi) {
+            t.records++;
+            t.weight += c->weights[i];
+            t.oil += (uint64_t)c->weights[i] * c->yields[i];
+        }
+    }
+    return t;
+}
+
+static int same_totals(const meltusk_totals *a, const meltusk_totals *b)
+{
+    return a->records == b->records && a->weight == b->weight && a->oil == b->oil;
+}
+
+/* Lays `used` slots with the ends; the slots stay where they are. */
+static void lay(column *c, uint32_t used, const uint32_t *ends, size_t ends_count)
+{
+    meltusk_applied applied = meltusk_apply_layout(BLOCK, used, SLICES(c), ends, ends_count);
+
+    printf("Laid, %" PRIu32 " partitions", applied.directory[MELTUSK_COUNT]);
+    judge_refusal(applied.refusal, 0);
+    memcpy(c->directory, applied.directory, sizeof c->directory);
+    print_partitions(c);
+}
+
+/* Where a grower's deliveries would lie. */
+static void look_up(const column *c, uint32_t grower, uint32_t start, uint32_t count)
+{
+    meltusk_partition_slice p =
+        meltusk_partition(c->directory, MELTUSK_DIRECTORY, c->growers, SLOTS, grower);
+
+    printf("The partition of %" PRIu32 ": %" PRIu32 " deliveries from slot %" PRIu32, grower,
+           p.count, p.start);
+    judge(p.refusal == 0 && p.start == start && p.count == count);
+}
+
+/* A marked example: a call, its counts, and the growers that it leaves. */
+typedef struct {
+    call call;
+    uint64_t records;
+    meltusk_counts counts;
+    uint32_t growers[9];
+} example;
+
+#define MARKED_GROWERS 10, 20, 30, 40, 50, 60, 70, 80
+
+static const example examples[] = {
+    {{FIND, 30, 0, 0, 0, 0}, 1, {1, 1, 0}, {MARKED_GROWERS}},
+    {{FIND, 99, 0, 0, 0, 0}, 0, {1, 1, 0}, {MARKED_GROWERS}},
+    {{RANGE, 40, 50, 0, 0, 0}, 2, {1, 3, 0}, {MARKED_GROWERS}},
+    {{INSERT, 15, 0, 100, 2000, 0}, 0, {3, 0, 3}, {10, 20, 30, 40, 15, 60, 70, 80, 50}},
+    {{DELETE, 30, 0, 100, 2000, 0}, 0, {3, 1, 3}, {10, 20, 40, 80, 50, 60, 70}},
+    {{MOVE, 20, 70, 100, 2000, 0}, 0, {3, 1, 3}, {10, 40, 30, 70, 50, 60, 70, 80}},
+    {{MOVE, 70, 20, 100, 2000, 0}, 0, {3, 1, 3}, {10, 20, 30, 40, 20, 60, 50, 80}},
+    {{MOVE, 20, 25, 100, 2000, 0}, 0, {2, 1, 2}, {10, 40, 30, 25, 50, 60, 70, 80}},
+};
+
+/* Each example begins with the column as laid. */
+static void make_examples(void)
+{
+    static const uint32_t ends[] = {1, 3};
+    static column laid;
+
+    puts("The marked examples");
+    for (uint32_t i = 0; i < 8; i++) {
+        laid.growers[i] = 10 * (i + 1);
+        laid.weights[i] = 100;
+        laid.yields[i] = 2000;
+    }
+    lay(&laid, 8, ends, COUNT_OF(ends));
+    for (size_t i = 0; i < COUNT_OF(examples); i++) {
+        const example *e = &examples[i];
+        column c = laid;
+        meltusk_answer a = make(&c, &e->call);
+
+        print_call(&e->call);
+        print_answer(&e->call, &a);
+        printf("; growers");
+        print_growers(&c, used_slots(&c));
+        judge(a.refusal == 0 && a.totals.records == e->records &&
+              a.totals.weight == 100 * e->records && a.totals.oil == 200000 * e->records &&
+              memcmp(&a.counts, &e->counts, sizeof a.counts) == 0 &&
+              memcmp(c.growers, e->growers, sizeof e->growers) == 0);
+    }
+    look_up(&laid, 50, 4, 4);
+}
+
+/* The deliveries at the week's beginning, in the order of their growers. */
+static const uint32_t first_set[][3] = {
+    {101, 420, 2110}, {101, 380, 2050}, {104, 510, 1980}, {107, 295, 2240},
+    {112, 640, 1895}, {112, 610, 1910}, {118, 330, 2075}, {121, 455, 2160},
+    {126, 720, 1840}, {131, 260, 2305}, {131, 275, 2290}, {140, 500, 2000},
+};
+
+/* What was called last week; 104 and 107 are asked for most. */
+static const call last_week[] = {
+    {FIND, 104, 0, 0, 0, 0},
+    {FIND, 104, 0, 0, 0, 0},
+    {FIND, 107, 0, 0, 0, 0},
+    {FIND, 104, 0, 0, 0, 0},
+    {FIND, 107, 0, 0, 0, 0},
+    {FIND, 104, 0, 0, 0, 0},
+    {FIND, 121, 0, 0, 0, 0},
+    {RANGE, 118, 140, 0, 0, 0},
+    {RANGE, 140, 118, 0, 0, 7},
+    {INSERT, 140, 0, 480, 2020, 0},
+    {INSERT, 133, 0, 350, 2130, 0},
+    {DELETE, 112, 0, 610, 1910, 0},
+    {DELETE, 112, 0, 611, 1910, 13},
+    {MOVE, 121, 126, 455, 2160, 0},
+    {MOVE, 131, 118, 260, 2305, 0},
+};
+
+/* This week's; the last moves leave the partition of 104 and 107 empty. */
+static const call this_week[] = {
+    {INSERT, 119, 0, 365, 2145, 0},
+    {INSERT, 150, 0, 410, 1975, 0},
+    {INSERT, 102, 0, 290, 2080, 12},
+    {DELETE, 112, 0, 601, 1910, 13},
+    {DELETE, 112, 0, 610, 1910, 0},
+    {INSERT, 102, 0, 290, 2080, 0},
+    {INSERT, 126, 0, 100001, 1900, 8},
+    {FIND, 112, 0, 0, 0, 0},
+    {RANGE, 101, 107, 0, 0, 0},
+    {MOVE, 102, 101, 290, 2080, 0},
+    {MOVE, 104, 131, 510, 1980, 0},
+    {MOVE, 107, 140, 295, 2240, 0},
+    {FIND, 104, 0, 0, 0, 0},
+    {RANGE, 131, 140, 0, 0, 0},
+    {RANGE, 0, UINT32_MAX, 0, 0, 0},
+};
+
+/* What was recorded: the sum of each histogram. */
+static void print_histograms(const uint32_t *histograms)
+{
+    static const char *const names[] = {"pq",  "rs",  "re",  "sc",  "de",
+                                        "in",  "udf", "utf", "udb", "utb"};
+    size_t length = MELTUSK_HISTOGRAMS / COUNT_OF(names);
+
+    printf(" ");
+    for (size_t i = 0; i < COUNT_OF(names); i++) {
+        uint64_t sum = 0;
+
+        for (size_t j = 0; j < length; j++)
+            sum += histograms[i * length + j];
+        printf(" %s %" PRIu64, names[i], sum);
+    }
+    puts("");
+}
+
+/* Records calls from all zeros. A refused call leaves the counts as they were. */
+static void record_week(uint32_t *histograms, uint32_t used, const column *set, const call *calls,
+                        size_t calls_count)
+{
+    memset(histograms, 0, MELTUSK_HISTOGRAMS * sizeof histograms[0]);
+    printf("Recorded, %zu calls\n", calls_count);
+    for (size_t i = 0; i < calls_count; i++) {
+        const call *k = &calls[i];
+        uint32_t refusal = record(histograms, used, set, k);
+        /* A full column and a missing delivery are no matter of the recorder's. */
+        uint32_t expected = k->refusal == 12 || k->refusal == 13 ? 0 : k->refusal;
+
+        if (refusal != 0 || refusal != expected) {
+            print_call(k);
+            judge_refusal(refusal, expected);
+        }
+    }
+    print_histograms(histograms);
+}
+
+/* Plans, and says what the whole set in one partition would cost. */
+static size_t plan(const uint32_t *histograms, uint32_t used, const column *set,
+                   uint32_t ends[MELTUSK_PARTITIONS])
+{
+    uint32_t last = (used + BLOCK - 1) / BLOCK - 1;
+    meltusk_costed one = meltusk_cost(RR, SR, RW, BLOCK, used, SLICES(set), &last, 1, histograms,
+                                      MELTUSK_HISTOGRAMS);
+    meltusk_planned planned =
+        meltusk_plan(RR, SR, RW, READ_LIMIT, INSERT_LIMIT, BLOCK, used, SLICES(set), histograms,
+                     MELTUSK_HISTOGRAMS, ends, MELTUSK_PARTITIONS);
+
+    printf("One partition would cost %" PRId64, one.cost);
+    judge_refusal(one.refusal, 0);
+    printf("The plan costs %" PRId64 ", end blocks", planned.cost);
+    for (uint32_t i = 0; i < planned.count; i++)
+        printf(" %" PRIu32, ends[i]);
+    judge_refusal(planned.refusal, 0);
+    printf("Saved by the plan: %" PRId64, one.cost - planned.cost);
+    judge(planned.cost <= one.cost);
+    return planned.count;
+}
+
+/* Adds a call's counts, of a refused one's too: its scan was paid for. */
+static void tally_counts(meltusk_tally *t, const meltusk_counts *n)
+{
+    uint32_t refusal = meltusk_tally_add(&t->rr, &t->sr, &t->rw, n->rr, n->sr, n->rw);
+
+    if (refusal != 0) {
+        printf("  the tally");
+        judge_refusal(refusal, 0);
+    }
+}
+
+static void print_tally(const char *what, const meltusk_tally *t)
+{
+    printf("%s: rr %" PRIu64 " sr %" PRIu64 " rw %" PRIu64 ", priced %" PRIu64, what, t->rr, t->sr,
+           t->rw, RR * t->rr + SR * t->sr + RW * t->rw);
+}
+
+/* The plan's cost is what the recorded calls report, each made alone. */
+static void make_alone(const column *laid, const uint32_t *histograms, uint32_t used,
+                       const uint32_t *ends, size_t ends_count)
+{
+    meltusk_costed costed = meltusk_cost(RR, SR, RW, BLOCK, used, SLICES(laid), ends, ends_count,
+                                         histograms, MELTUSK_HISTOGRAMS);
+    meltusk_tally t = {0, 0, 0};
+    int good = costed.refusal == 0;
+
+    for (size_t i = 0; i < COUNT_OF(last_week); i++) {
+        column c = *laid;
+        meltusk_answer a = make(&c, &last_week[i]);
+
+        tally_counts(&t, &a.counts);
+        good = good && a.refusal == last_week[i].refusal;
+    }
+    print_tally("Last week's calls, each made alone", &t);
+    judge(good && (int64_t)(RR * t.rr + SR * t.sr + RW * t.rw) == costed.cost);
+}
+
+/* Whether an answer is that of a plain list of deliveries; a refusal writes nothing. */
+static int is_expected(const call *k, const meltusk_answer *a, const column *before,
+                       const column *after)
+{
+    meltusk_totals none = {0, 0, 0};
+    meltusk_totals totals = totals_of(before, k->grower, k->kind == FIND ? k->grower : k->other);
+    int is_read = reads_only(k) && a->refusal == 0;
+    int stays = reads_only(k) || a->refusal != 0;
+
+    return a->refusal == k->refusal && same_totals(&a->totals, is_read ? &totals : &none) &&
+           (!stays || memcmp(before, after, sizeof *before) == 0);
+}
+
+/* One call after the other, each on what the one before it left. */
+static void make_week(column *c, meltusk_tally *t)
+{
+    puts("This week's calls");
+    for (size_t i = 0; i < COUNT_OF(this_week); i++) {
+        const call *k = &this_week[i];
+        column before = *c;
+        meltusk_answer a = make(c, k);
+
+        tally_counts(t, &a.counts);
+        print_call(k);
+        print_answer(k, &a);
+        judge(is_expected(k, &a, &before, c));
+    }
+    print_tally("This week's tally", t);
+    puts("");
+    print_partitions(c);
+}
+
+/* Whether a column is the one that was read: its directory and its used slots. */
+static int same_column(const column *a, const column *b)
+{
+    size_t size = used_slots(a) * sizeof a->growers[0];
+
+    return memcmp(a->directory, b->directory, sizeof a->directory) == 0 &&
+           memcmp(a->growers, b->growers, size) == 0 &&
+           memcmp(a->weights, b->weights, size) == 0 && memcmp(a->yields, b->yields, size) == 0;
+}
+
+/* Saves the column and reads it into other slices; a damaged text is refused. */
+static void save_and_read(const column *c)
+{
+    static uint8_t text[MELTUSK_SNAPSHOT_BYTES(SLOTS, MELTUSK_PARTITIONS)];
+    static column other;
+    meltusk_written w = meltusk_write_snapshot(COLUMN(c), text, sizeof text);
     meltusk_applied r;
 
-    printf("write_snapshot: refusal %" PRIu32 ", bytes %" PRIu64, w.refusal, w.bytes);
-    judge(w.refusal == 0 && w.bytes == sizeof text && memcmp(&c, laid, sizeof c) == 0);
-    fwrite(text, 1, sizeof text, stdout);
+    printf("Saved, %" PRIu64 " bytes", w.bytes);
+    judge_refusal(w.refusal, 0);
+    if (w.refusal != 0)
+        return;
+    fwrite(text, 1, w.bytes, stdout);
 
-    memset(&c, 0, sizeof c);
-    r = meltusk_read_snapshot(text, sizeof text, c.growers, SLOTS, c.weights, SLOTS, c.yields,
-                              SLOTS);
-    memcpy(c.directory, r.directory, sizeof c.directory);
-    printf("read_snapshot: refusal %" PRIu32, r.refusal);
-    judge(r.refusal == 0 && memcmp(&c, laid, sizeof c) == 0);
+    r = meltusk_read_snapshot(text, w.bytes, SLICES(&other));
+    memcpy(other.directory, r.directory, sizeof other.directory);
+    printf("Read back, %s column", same_column(c, &other) ? "the same" : "another");
+    judge(r.refusal == 0 && same_column(c, &other));
 
-    text[sizeof text - 2] = '\t';
-    r = meltusk_read_snapshot(text, sizeof text, c.growers, SLOTS, c.weights, SLOTS, c.yields,
-                              SLOTS);
-    printf("read_snapshot with a tab for a digit: refusal %" PRIu32, r.refusal);
-    judge(r.refusal == 14 && memcmp(&c, laid, sizeof c) == 0);
+    text[w.bytes - 2] = '\t';
+    r = meltusk_read_snapshot(text, w.bytes, SLICES(&other));
+    printf("Read with a tab for the last digit");
+    judge_refusal(r.refusal, 14);
+}
+
+/* Puts the deliveries in order: a plan is made of a set whose growers never fall. */
+static void put_in_order(column *c, uint32_t used)
+{
+    for (uint32_t i = 1; i < used; i++) {
+        uint32_t grower = c->growers[i], weight = c->weights[i], oil_yield = c->yields[i];
+        uint32_t j = i;
+
+        for (; j > 0 && c->growers[j - 1] > grower; j--) {
+            c->growers[j] = c->growers[j - 1];
+            c->weights[j] = c->weights[j - 1];
+            c->yields[j] = c->yields[j - 1];
+        }
+        c->growers[j] = grower;
+        c->weights[j] = weight;
+        c->yields[j] = oil_yield;
+    }
+}
+
+/* The set at the week's beginning; answers its used slots. */
+static uint32_t fill(column *c)
+{
+    for (size_t i = 0; i < COUNT_OF(first_set); i++) {
+        c->growers[i] = first_set[i][0];
+        c->weights[i] = first_set[i][1];
+        c->yields[i] = first_set[i][2];
+    }
+    return COUNT_OF(first_set);
 }
 
 int main(void)
 {
-    const column laid = lay();
-    column c;
-    meltusk_answer a;
-    meltusk_partition_slice p;
+    static column mill;
+    static uint32_t histograms[MELTUSK_HISTOGRAMS];
+    static uint32_t ends[MELTUSK_PARTITIONS];
+    meltusk_tally tally = {0, 0, 0};
+    uint32_t used = fill(&mill);
+    size_t ends_count;
 
-    c = laid;
-    a = meltusk_find(c.directory, MELTUSK_DIRECTORY, c.growers, SLOTS, c.weights, SLOTS, c.yields,
-                     SLOTS, 30);
-    judge_read("find 30", &a, &laid, &c, 1, 1, 1);
+    make_examples();
 
-    c = laid;
-    a = meltusk_find(c.directory, MELTUSK_DIRECTORY, c.growers, SLOTS, c.weights, SLOTS, c.yields,
-                     SLOTS, 99);
-    judge_read("find 99", &a, &laid, &c, 0, 1, 1);
+    puts("\nA week at the mill");
+    record_week(histograms, used, &mill, last_week, COUNT_OF(last_week));
+    ends_count = plan(histograms, used, &mill, ends);
+    lay(&mill, used, ends, ends_count);
+    make_alone(&mill, histograms, used, ends, ends_count);
+    make_week(&mill, &tally);
+    look_up(&mill, 104, 3, 0);
+    save_and_read(&mill);
 
-    c = laid;
-    a = meltusk_range(c.directory, MELTUSK_DIRECTORY, c.growers, SLOTS, c.weights, SLOTS, c.yields,
-                      SLOTS, 40, 50);
-    judge_read("range 40 to 50", &a, &laid, &c, 2, 1, 3);
+    puts("\nThe next week, taken to be like this one");
+    used = used_slots(&mill);
+    put_in_order(&mill, used);
+    record_week(histograms, used, &mill, this_week, COUNT_OF(this_week));
+    ends_count = plan(histograms, used, &mill, ends);
+    lay(&mill, used, ends, ends_count);
 
-    c = laid;
-    a = meltusk_insert(c.directory, MELTUSK_DIRECTORY, c.growers, SLOTS, c.weights, SLOTS,
-                       c.yields, SLOTS, 15, 100, 2000);
-    judge_write("insert 15", &a, &c, 3, 0, 3, 5, 4,
-                (const uint32_t[SLOTS]){10, 20, 30, 40, 15, 60, 70, 80, 50});
-
-    c = laid;
-    a = meltusk_delete(c.directory, MELTUSK_DIRECTORY, c.growers, SLOTS, c.weights, SLOTS,
-                       c.yields, SLOTS, 30, 100, 2000);
-    judge_write("delete 30", &a, &c, 3, 1, 3, 3, 4,
-                (const uint32_t[SLOTS]){10, 20, 40, 80, 50, 60, 70, 0, 0});
-
-    c = laid;
-    a = meltusk_move(c.directory, MELTUSK_DIRECTORY, c.growers, SLOTS, c.weights, SLOTS, c.yields,
-                     SLOTS, 20, 100, 2000, 70);
-    judge_write("move 20 to 70", &a, &c, 3, 1, 3, 3, 5,
-                (const uint32_t[SLOTS]){10, 40, 30, 70, 50, 60, 70, 80, 0});
-
-    c = laid;
-    a = meltusk_move(c.directory, MELTUSK_DIRECTORY, c.growers, SLOTS, c.weights, SLOTS, c.yields,
-                     SLOTS, 70, 100, 2000, 20);
-    judge_write("move 70 to 20", &a, &c, 3, 1, 3, 5, 3,
-                (const uint32_t[SLOTS]){10, 20, 30, 40, 20, 60, 50, 80, 0});
-
-    c = laid;
-    a = meltusk_move(c.directory, MELTUSK_DIRECTORY, c.growers, SLOTS, c.weights, SLOTS, c.yields,
-                     SLOTS, 20, 100, 2000, 25);
-    judge_write("move 20 to 25", &a, &c, 2, 1, 2, 4, 4,
-                (const uint32_t[SLOTS]){10, 40, 30, 25, 50, 60, 70, 80, 0});
-
-    c = laid;
-    p = meltusk_partition(c.directory, MELTUSK_DIRECTORY, c.growers, SLOTS, 50);
-    printf("partition 50: refusal %" PRIu32 ", start %" PRIu32 ", count %" PRIu32, p.refusal,
-           p.start, p.count);
-    judge(p.refusal == 0 && p.start == 4 && p.count == 4 && memcmp(&c, &laid, sizeof c) == 0);
-
-    judge_snapshot(&laid);
-
-    printf("%d wrong\n", wrong);
+    printf("\n%d wrong\n", wrong);
     return wrong != 0;
 }

@@ -1,15 +1,29 @@
 /*
- * Meltusk: the delivery column and its planner, for a C host.
+ * Meltusk: the delivery column and its planner, for a C host on x86-64. Link
+ * with the archive libc_api.a, which needs nothing but the C library.
+ *
+ * CALLING
  *
  * Every call takes numbers and slices. A slice is a pointer and a count of
  * elements; a null pointer with count 0 is allowed. Nothing is allocated and
- * nothing is kept between calls. A call reads and writes only inside the
- * slices that it is lent, and ends on every input.
+ * nothing is kept between calls; the planner takes some 40 kB of stack, every
+ * other call a few. A call reads and writes only inside the slices that it is
+ * lent, and ends on every input.
  *
  * What no call can check: a slice's memory must be valid, aligned for its
  * elements, initialised and of the stated count for the whole call, and A
  * SLICE THAT A CALL WRITES MUST NOT OVERLAP ANOTHER OF ITS SLICES. Slices that
- * a call only reads, those that are const here, may overlap each other.
+ * a call only reads, those that are const here, may overlap each other. Two
+ * calls may run at the same time if neither writes to a slice of the other.
+ *
+ * A host's round: record a week's calls against an unpartitioned set; plan a
+ * layout; apply it; then find, range, insert, delete and move on the column,
+ * and write and read snapshots of it. To plan again, put the used slots of the
+ * three slices in the order of their growers: they are an unpartitioned set
+ * then, with a longer block length if they have become more than 64 blocks.
+ * examples/host.c does all this.
+ *
+ * REFUSALS
  *
  * A call first puts its checks, in the order of their numbers. The number of
  * the first that fails is its refusal; 0 means accepted. A refused call writes
@@ -22,8 +36,8 @@
  *    4  the used slots of an unpartitioned set are 1 to the smaller of C and
  *       64 block lengths
  *    5  its growers never fall
- *    6  a layout or directory has its shape; and, of a column to be written, every
- *       record is in its grower's partition
+ *    6  a layout or directory has its shape; and, of a column to be written as
+ *       a snapshot, every record is in its grower's partition
  *    7  lo is at most hi
  *    8  weights are at most 100,000 and yields at most 10,000
  *    9  the histogram slice has 640 counts, none above 1,000,000
@@ -36,23 +50,63 @@
  *   14  the text is a snapshot
  *   15  the output slice is long enough
  *
- * The slots: three slices of one length hold the deliveries, slot by slot:
- * growers, weights (kg) and yields (hundredths of a per cent).
+ * TERMS
  *
- * The directory: 130 numbers. Block length, partition count K (1 to 64), 64
- * partition lengths, 64 fences; those past the first K are 0. Fences rise
- * strictly, and the lengths total at most C. Anything else is refused by 6 (a
- * block length out of range by 2), a slice of another length by 6.
+ * The slots: three slices of one length C hold the deliveries, slot by slot:
+ * growers (any number), weights (kg) and yields (hundredths of a per cent).
+ * The first slots are used; the others are free, and what they hold is never
+ * asked.
  *
- * The snapshot: a column as a text. Every number is decimal, right-justified in
- * 11 columns with blanks, without leading zeros, zero as 0; LF ends a line. Line
- * 1 has the block length, the deliveries M and the partitions K; K lines have a
- * length and a fence; M lines have a grower, a weight and a yield, partition by
- * partition. That is MELTUSK_SNAPSHOT_BYTES(M, K) bytes and no other text of the
- * same column: what is read and written again is the same to the byte.
+ * The unpartitioned set: used slots whose growers never fall. Block i is the
+ * block length's slots from i times the block length on; the last may be short,
+ * and there are at most 64. The block of a grower is the first whose last
+ * grower is at least that grower, or else the last block.
  *
- * The histograms: 640 counts, 64 for each of pq, rs, re, sc, de, in, udf, utf,
- * udb and utb, in that order. A list of calls is recorded from all zeros.
+ * The layout: the end block (the last block) of each partition. Ends rise
+ * strictly, the last is the last block of the set, and none parts equal
+ * growers.
+ *
+ * The column: the slots with a directory of 130 numbers. Block length,
+ * partition count K (1 to 64), 64 partition lengths, 64 fences; those past the
+ * first K are 0. Partitions lie one after the other from slot 0, records in any
+ * order inside each. A fence is its partition's last grower when the layout was
+ * applied, and stays. A grower's partition is the first whose fence is at least
+ * the grower, or else the last. Fences rise strictly, and the lengths total at
+ * most C. Anything else is refused by 6, a slice of another length too, and a
+ * block length out of range by 2.
+ *
+ * The counts: random reads (rr), sequential reads (sr) and random writes (rw)
+ * of blocks. A scanned partition of n records is n over the block length,
+ * rounded up, blocks and at least 1; of all blocks that a call scans the first
+ * is 1 rr, each other 1 sr.
+ *
+ * The histograms: 640 counts, 64 (one a block) for each of pq, rs, re, sc, de,
+ * in, udf, utf, udb and utb, in that order. A list of calls is recorded from
+ * all zeros.
+ *
+ * The cost: of each block's counts, times a price each. RR, SR and RW are the
+ * prices of a random read, a sequential read and a random write (3, 1 and 2 on
+ * the factory card); b and f are the blocks before and after the block in its
+ * partition, t the partitions from its own to the last.
+ *
+ *   pq   RR + SR * (b + f)              rs  RR + SR * b
+ *   re   SR * (1 + f)                   sc  SR
+ *   in   (RR + RW) * (1 + t)
+ *   de   pq's + RW + (RR + RW) * t
+ *   udf  pq's + RR + 2 * RW + (RR + RW) * t     utf  - (RR + RW) * t
+ *   udb  pq's + RR + 2 * RW - (RR + RW) * t     utb  + (RR + RW) * t
+ *
+ * So the cost of recorded calls is what they report, priced, each made alone on
+ * the column just laid, if that has a free slot. It may be negative where the
+ * histograms are of no list of calls.
+ *
+ * The snapshot: a column as a text, without a byte 0 at its end. Every number
+ * is decimal, right-justified in 11 columns with blanks, without leading zeros,
+ * zero as 0; LF ends a line. Line 1 has the block length, the deliveries M and
+ * the partitions K; K lines have a length and a fence; M lines have a grower, a
+ * weight and a yield, partition by partition. That is
+ * MELTUSK_SNAPSHOT_BYTES(M, K) bytes and no other text of the same column: what
+ * is read and written again is the same to the byte.
  */
 #ifndef MELTUSK_H
 #define MELTUSK_H
@@ -64,13 +118,20 @@
 extern "C" {
 #endif
 
+/* The numbers of a directory, the counts of the histograms, the most partitions. */
 #define MELTUSK_DIRECTORY 130
 #define MELTUSK_HISTOGRAMS 640
 #define MELTUSK_PARTITIONS 64
+/* Where a directory's numbers stand: block length, partition count, lengths, fences. */
+#define MELTUSK_BLOCK 0
+#define MELTUSK_COUNT 1
+#define MELTUSK_LENGTHS 2
+#define MELTUSK_FENCES (MELTUSK_LENGTHS + MELTUSK_PARTITIONS)
 /* The bytes of a snapshot of m deliveries in k partitions. */
 #define MELTUSK_SNAPSHOT_BYTES(m, k) (34 + 23 * (size_t)(k) + 34 * (size_t)(m))
 
-/* Matching records, their weight, and their oil (weight times yield). */
+/* Matching records, their weight in kg, and their oil: the sum of weight times
+ * yield, of which 10,000 are 1 kg. */
 typedef struct {
     uint64_t records;
     uint64_t weight;
@@ -104,7 +165,8 @@ typedef struct {
     uint32_t directory[MELTUSK_DIRECTORY];
 } meltusk_applied;
 
-/* Where a grower's partition lies in the growers; 0 and 0 when refused. */
+/* Where a grower's partition lies in the growers: its first slot and its
+ * records; 0 and 0 when refused. */
 typedef struct {
     uint32_t refusal;
     uint32_t start;
@@ -142,8 +204,8 @@ meltusk_applied meltusk_apply_layout(uint32_t block, uint32_t used,
                                      const uint32_t *ends, size_t ends_count);
 
 /*
- * The records of one grower. Checks 2 3 6 8 (8: the partition scanned).
- * Writes to no slice.
+ * The records of one grower, which may be none. Checks 2 3 6 8 (8: the
+ * partition scanned, which is the grower's). Writes to no slice.
  */
 meltusk_answer meltusk_find(const uint32_t *directory, size_t directory_count,
                             const uint32_t *growers, size_t growers_count,
@@ -153,7 +215,7 @@ meltusk_answer meltusk_find(const uint32_t *directory, size_t directory_count,
 
 /*
  * The records of the growers lo to hi, both included. Checks 2 3 6 7 8 (8:
- * the partitions scanned). Writes to no slice.
+ * the partitions scanned, which are lo's to hi's). Writes to no slice.
  */
 meltusk_answer meltusk_range(const uint32_t *directory, size_t directory_count,
                              const uint32_t *growers, size_t growers_count,
@@ -164,7 +226,9 @@ meltusk_answer meltusk_range(const uint32_t *directory, size_t directory_count,
 /*
  * Inserts a delivery. Checks 2 3 6 8 12 (8: the delivery). Writes the
  * partition's length and, in each slice, one slot a partition from the
- * grower's on.
+ * grower's on: the first record of each later partition goes just past its
+ * end, and the delivery just past the end of its own. Scans nothing; counts 1
+ * rr and 1 rw, and as much for each partition from the grower's to the last.
  */
 meltusk_answer meltusk_insert(uint32_t *directory, size_t directory_count,
                               uint32_t *growers, size_t growers_count,
@@ -175,8 +239,11 @@ meltusk_answer meltusk_insert(uint32_t *directory, size_t directory_count,
 /*
  * Deletes the first equal delivery of the grower's partition. Checks 2 3 6 8
  * 13 (8: the delivery and the partition). Writes the partition's length and,
- * in each slice, one slot a partition from the grower's on; the freed slot
- * becomes 0, 0, 0.
+ * in each slice, one slot a partition from the grower's on: the partition's
+ * last record fills the gap, the last record of each later one goes just before
+ * its start, and the freed slot becomes 0, 0, 0. Equal is equal in grower,
+ * weight and yield; first is the lowest slot. Counts the scan of the partition,
+ * 1 rw, and 1 rr and 1 rw for each partition from the grower's to the last.
  */
 meltusk_answer meltusk_delete(uint32_t *directory, size_t directory_count,
                               uint32_t *growers, size_t growers_count,
@@ -186,8 +253,11 @@ meltusk_answer meltusk_delete(uint32_t *directory, size_t directory_count,
 
 /*
  * Moves the first equal delivery of the grower's partition to a new grower.
- * Checks as delete. Writes the two partitions' lengths and, in each slice, at
- * most two slots of the old partition and one of each partition passed.
+ * Checks as delete; the new grower's partition is not scanned. Writes the two
+ * partitions' lengths and, in each slice, at most two slots of the old partition
+ * and one of each partition passed. Needs no free slot. Counts the scan of the
+ * old partition, 1 rr and 2 rw, and 1 rr and 1 rw for each partition from the old
+ * to the new, the old not counted.
  */
 meltusk_answer meltusk_move(uint32_t *directory, size_t directory_count,
                             uint32_t *growers, size_t growers_count,
@@ -208,7 +278,16 @@ meltusk_partition_slice meltusk_partition(const uint32_t *directory, size_t dire
  * Records a call against an unpartitioned set (block length, used slots, the
  * three slices) into the histograms, and answers its refusal. Checks 2 3 4 5 7
  * 8 9 10 (7: range; 8: the set, and the delivery). Writes only the counts that
- * the call raises.
+ * the call raises, each by 1; the set stays as it is:
+ *
+ *   find    pq at the grower's block
+ *   range   rs at lo's block, re at hi's, sc at each between; pq if they are one
+ *   insert  in at the grower's block
+ *   delete  de at the grower's block
+ *   move    udf at the old grower's block and utf at the new one's, or, to a
+ *           smaller grower, udb and utb
+ *
+ * A delete or move of a delivery that is not in the set is recorded as a find.
  */
 uint32_t meltusk_record_find(uint32_t *histograms, size_t histograms_count,
                               uint32_t block, uint32_t used,
@@ -247,8 +326,9 @@ uint32_t meltusk_record_move(uint32_t *histograms, size_t histograms_count,
                               uint32_t new_grower);
 
 /*
- * The cost of a layout, given as the end block of each partition. Checks 1 2 3
- * 4 5 6 8 9 (1: the prices). Writes to no slice.
+ * The cost of a layout, given as the end block of each partition, under the
+ * prices rr, sr and rw. Checks 1 2 3 4 5 6 8 9 (1: the prices). Writes to no
+ * slice.
  */
 meltusk_costed meltusk_cost(uint32_t rr, uint32_t sr, uint32_t rw,
                             uint32_t block, uint32_t used,
@@ -259,10 +339,15 @@ meltusk_costed meltusk_cost(uint32_t rr, uint32_t sr, uint32_t rw,
                             const uint32_t *histograms, size_t histograms_count);
 
 /*
- * The cheapest layout that the read limit and the insert limit permit; of
- * equal costs the fewest partitions, then the smaller end at the first
- * difference. Checks 1 2 3 4 5 8 9 11 15. Writes the end block of each
- * partition to `ends` (64 are always enough); what lies past them stays.
+ * The cheapest layout that the read limit and the insert limit permit under
+ * the prices rr, sr and rw; of equal costs the fewest partitions, then the
+ * smaller end at the first difference. Checks 1 2 3 4 5 8 9 11 15. Writes the
+ * end block of each partition to `ends` (64 are always enough); what lies past
+ * them stays.
+ *
+ * Permitted are partitions of at most (read - rr) / sr blocks, rounded down, so
+ * none if read is less than rr; and at most insert / (rr + rw), rounded down,
+ * less 1 partitions. Limits of 1,000,000 permit every layout, at any prices.
  */
 meltusk_planned meltusk_plan(uint32_t rr, uint32_t sr, uint32_t rw,
                              uint32_t read, uint32_t insert,
@@ -274,11 +359,14 @@ meltusk_planned meltusk_plan(uint32_t rr, uint32_t sr, uint32_t rw,
                              uint32_t *ends, size_t ends_count);
 
 /*
- * Adds a call's counts to the three numbers of a tally, of a refused call's too:
+ * Adds a call's counts to the three numbers of a tally; those of a refused
+ * call can be added too:
  *
  *     meltusk_tally_add(&t.rr, &t.sr, &t.rw, a.counts.rr, a.counts.sr, a.counts.rw)
  *
- * Check 10, by which the tally stays as it was. Answers the refusal.
+ * Check 10; refused, the tally stays as it was, all three numbers of it.
+ * Answers the refusal. The three pointers are to three different numbers, and
+ * none is null.
  */
 uint32_t meltusk_tally_add(uint64_t *rr, uint64_t *sr, uint64_t *rw,
                            uint64_t more_rr, uint64_t more_sr, uint64_t more_rw);

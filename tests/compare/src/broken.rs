@@ -1,7 +1,7 @@
 //! Single calls on broken input: each fault alone, in pairs, and at random.
 
 use crate::calls::{Call, Pair};
-use crate::inputs::{self, Column, Kind, MIXES};
+use crate::inputs::{self, Column, Kind, EDGE_COUNTS, LIBRARIES, MIXES};
 use crate::meltusk::{Empty, Library};
 use crate::{Run, Test};
 use second::random::Random;
@@ -106,7 +106,7 @@ fn offered(call: &mut Call) -> Option<&mut Delivery> {
     }
 }
 
-fn slice(c: &mut Column, i: usize) -> &mut Vec<u32> {
+pub fn slice(c: &mut Column, i: usize) -> &mut Vec<u32> {
     match i {
         0 => &mut c.growers,
         1 => &mut c.weights,
@@ -515,6 +515,71 @@ fn nothing_lent(run: &mut Run) -> Result<(), String> {
     })
 }
 
+/// Directory, growers, weights and yields, each alone at the edge counts.
+fn edge_counts(run: &mut Run) -> Result<(), String> {
+    run.cases(16, 1, |run, r| {
+        for library in LIBRARIES {
+            for which in 0..CALLS {
+                for lent in 0..4 {
+                    for n in EDGE_COUNTS {
+                        let mut c = base(r);
+                        let call = accepted(r, &c, which);
+                        let used = c.view().used();
+                        match lent {
+                            3 => c.directory.resize(n, 0),
+                            i => slice(&mut c, i).resize(n, 0),
+                        }
+                        let expected = match (lent, which) {
+                            (3, _) => 6,
+                            // A partition is asked of the growers alone.
+                            (1 | 2, 5) => 0,
+                            (0, 5) if n == 1 && used == 1 => 0,
+                            (0, 5) if n == 1 => 6,
+                            _ => 3,
+                        };
+                        let refusal = single(run, r, &library, &c, &call)?;
+                        if refusal != expected {
+                            return Err(format!("{call:?}, slice {lent} of {n}: {refusal}"));
+                        }
+                    }
+                }
+            }
+        }
+        Ok(())
+    })
+}
+
+/// Columns of one slot, used or free.
+fn one_slot(run: &mut Run) -> Result<(), String> {
+    run.cases(17, 100, |run, r| {
+        let library = inputs::library(r);
+        for is_used in [false, true] {
+            for which in 0..CALLS {
+                let c = inputs::one_slot(r, is_used);
+                let d = c.view().slot(0);
+                let call = match which {
+                    0 => Call::Find(d.grower),
+                    1 => Call::Range(0, u32::MAX),
+                    2 => Call::Insert(d),
+                    3 => Call::Delete(d),
+                    4 => Call::Move(d, inputs::near(r, &c.view(), 0)),
+                    _ => Call::Partition(d.grower),
+                };
+                let expected = match which {
+                    2 if is_used => 12,
+                    3 | 4 if !is_used => 13,
+                    _ => 0,
+                };
+                let refusal = single(run, r, &library, &c, &call)?;
+                if refusal != expected {
+                    return Err(format!("{call:?} of {c:?}: refusal {refusal}"));
+                }
+            }
+        }
+        Ok(())
+    })
+}
+
 pub const TESTS: &[(&str, Test)] = &[
     ("broken input, each fault alone", alone),
     ("broken input, two faults", pairs),
@@ -522,4 +587,6 @@ pub const TESTS: &[(&str, Test)] = &[
     ("broken input, weights and yields at their limits", values),
     ("broken input, slice lengths", slice_lengths),
     ("broken input, nothing lent", nothing_lent),
+    ("broken input, each slice at the edge counts", edge_counts),
+    ("columns of one slot", one_slot),
 ];

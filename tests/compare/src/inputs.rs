@@ -3,7 +3,9 @@
 use crate::calls::Call;
 use crate::meltusk::{Empty, Library};
 use second::random::Random;
-use second::{Delivery, UnlaidSet, DIRECTORY_LEN, FENCES, LENGTHS, WEIGHT_LIMIT, YIELD_LIMIT};
+use second::{
+    Delivery, UnlaidSet, DIRECTORY_LEN, FENCES, LENGTHS, SLOT_LIMIT, WEIGHT_LIMIT, YIELD_LIMIT,
+};
 
 /// A column that owns its slices.
 #[derive(Clone, Debug, PartialEq, Eq)]
@@ -101,6 +103,17 @@ impl Set {
         self.yields.resize(length, 0);
     }
 }
+
+/// Counts of a slice, at the edges of what any slice may have.
+pub const EDGE_COUNTS: [usize; 3] = [0, 1, SLOT_LIMIT + 1];
+
+/// Both ways to lend an empty slice.
+pub const LIBRARIES: [Library; 2] = [
+    Library { empty: Empty::Null },
+    Library {
+        empty: Empty::Place,
+    },
+];
 
 /// Empty slices are lent in both ways.
 pub fn library(r: &mut Random) -> Library {
@@ -280,6 +293,25 @@ pub fn column(r: &mut Random, kind: Kind) -> Column {
     c
 }
 
+/// A sound column of one slot, used or free.
+pub fn one_slot(r: &mut Random, is_used: bool) -> Column {
+    let k = r.pick(&[1, 2, 64]);
+    let target = r.below(k);
+    let mut directory = vec![0; DIRECTORY_LEN];
+    directory[0] = r.pick(&[1, 2, 4_096]);
+    directory[1] = k as u32;
+    directory[LENGTHS + target] = u32::from(is_used);
+    for p in 0..k {
+        directory[FENCES + p] = 10 * p as u32;
+    }
+    Column {
+        directory,
+        growers: vec![10 * target as u32],
+        weights: vec![weight(r)],
+        yields: vec![oil_yield(r)],
+    }
+}
+
 /// A proper unpartitioned set of at most `most_blocks` blocks.
 pub fn set(r: &mut Random, most_blocks: usize, free: usize) -> Set {
     let block = r.pick(&[1, 1, 2, 2, 3, 5, 8]);
@@ -308,6 +340,17 @@ pub fn set(r: &mut Random, most_blocks: usize, free: usize) -> Set {
         s.yields.push(stale(r));
     }
     s
+}
+
+/// A set of one slot, which is proper if its used slots are 1.
+pub fn one_delivery(r: &mut Random, block: u32, used: u32) -> Set {
+    Set {
+        block,
+        used,
+        growers: vec![r.next() as u32],
+        weights: vec![weight(r)],
+        yields: vec![oil_yield(r)],
+    }
 }
 
 /// A layout of a proper set that parts no equal growers.

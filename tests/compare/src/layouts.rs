@@ -1,7 +1,7 @@
 //! Layouts applied to unpartitioned sets, good and bad.
 
 use crate::calls::apply;
-use crate::inputs::{self, Set};
+use crate::inputs::{self, Set, EDGE_COUNTS, LIBRARIES};
 use crate::meltusk::{Empty, Library};
 use crate::{Run, Test};
 use second::random::Random;
@@ -71,7 +71,7 @@ pub const END_FAULTS: &[Fault] = &[
     ManyEnds,
 ];
 
-fn slice(s: &mut Set, i: usize) -> &mut Vec<u32> {
+pub fn slice(s: &mut Set, i: usize) -> &mut Vec<u32> {
     match i {
         0 => &mut s.growers,
         1 => &mut s.weights,
@@ -311,10 +311,74 @@ fn largest(run: &mut Run) -> Result<(), String> {
     })
 }
 
+/// Growers, weights, yields and ends, each alone at the edge counts; then
+/// nothing lent.
+fn edge_counts(run: &mut Run) -> Result<(), String> {
+    run.cases(25, 4, |run, r| {
+        for library in LIBRARIES {
+            for lent in 0..4 {
+                for n in EDGE_COUNTS {
+                    let mut set = base(r);
+                    let last = set.used.div_ceil(set.block) - 1;
+                    let mut ends = inputs::layout(r, &set.second());
+                    let expected = match (lent, n) {
+                        (3, 1) => 0,
+                        (3, _) => 6,
+                        _ => 3,
+                    };
+                    match lent {
+                        // The only end is the last block.
+                        3 => ends = (0..n as u32).map(|i| last + i).collect(),
+                        i => slice(&mut set, i).resize(n, u32::MAX),
+                    }
+                    let applied = apply(r, &mut run.seen, &library, &set, &ends)?;
+                    if applied.refusal != expected {
+                        return Err(format!("slice {lent} of {n}: {}", applied.refusal));
+                    }
+                }
+            }
+            let mut set = base(r);
+            set.resize(0);
+            let applied = apply(r, &mut run.seen, &library, &set, &[])?;
+            if applied.refusal != 3 {
+                return Err(format!("nothing lent: {}", applied.refusal));
+            }
+        }
+        Ok(())
+    })
+}
+
+/// A set of one slot, and whether its used slots and its ends are proper.
+fn one_slot(run: &mut Run) -> Result<(), String> {
+    run.cases(26, 20, |run, r| {
+        let library = inputs::library(r);
+        let stated: [(u32, &[u32], u32); 6] = [
+            (1, &[0], 0),
+            (0, &[0], 4),
+            (2, &[0], 4),
+            (1, &[], 6),
+            (1, &[1], 6),
+            (1, &[0, 1], 6),
+        ];
+        for block in [1, 2, 4_096] {
+            for (used, ends, refusal) in stated {
+                let set = inputs::one_delivery(r, block, used);
+                let applied = apply(r, &mut run.seen, &library, &set, ends)?;
+                if applied.refusal != refusal {
+                    return Err(format!("{set:?}, ends {ends:?}: {}", applied.refusal));
+                }
+            }
+        }
+        Ok(())
+    })
+}
+
 pub const TESTS: &[(&str, Test)] = &[
     ("apply_layout, proper sets and layouts", good),
     ("apply_layout, any set and ends", any),
     ("apply_layout, each fault alone", alone),
     ("apply_layout, two faults", pairs),
     ("apply_layout, 262,144 slots", largest),
+    ("apply_layout, each slice at the edge counts", edge_counts),
+    ("apply_layout, one slot", one_slot),
 ];

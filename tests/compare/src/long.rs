@@ -6,6 +6,8 @@ use crate::calls::of_applied;
 use crate::meltusk::{ColumnSlices, Empty, Library, SetSlices};
 use crate::{Run, Test};
 use second::{Delivery, UnlaidSet, DIRECTORY_LEN, FENCES, LENGTHS};
+#[cfg(feature = "plan")]
+use second::{Limits, PriceCard, HISTOGRAM_LEN};
 use std::ffi::{c_int, c_void};
 
 extern "C" {
@@ -178,8 +180,8 @@ const TEXT: &[u8] = b"          1          1          1
           0          0          0
 ";
 
-/// A long text is no snapshot, a long room is enough, and long slices are
-/// refused by 3.
+/// A long text is no snapshot, a long room is enough, long slices are refused
+/// by 3 and a long directory by 6.
 fn snapshots(run: &mut Run) -> Result<(), String> {
     let library = Library { empty: Empty::Null };
     let directory = one_record();
@@ -206,6 +208,12 @@ fn snapshots(run: &mut Run) -> Result<(), String> {
         let read = library.read_snapshot(TEXT, g, w, y);
         refusals.extend([(written.refusal, 3), (read.refusal, 3)]);
     }
+    if let Some(mut long) = Long::new(DIRECTORY_LEN) {
+        long.slice()[..DIRECTORY_LEN].copy_from_slice(&directory);
+        let mut out = [0; TEXT.len()];
+        let written = library.write_snapshot(long.slice(), &a, &b, &c, &mut out);
+        refusals.push((written.refusal, 6));
+    }
     run.snapshots.calls += refusals.len() as u64;
     let right = refusals.iter().all(|(is, should)| is == should);
     match right && &room.bytes()[..TEXT.len()] == TEXT {
@@ -214,7 +222,87 @@ fn snapshots(run: &mut Run) -> Result<(), String> {
     }
 }
 
+/// Each call of recorder, cost and planner: its refusal and its cost, if any.
+#[cfg(feature = "plan")]
+fn planned(
+    set: &SetSlices,
+    histograms: &mut [u32],
+    ends: &[u32],
+    room: &mut [u32],
+) -> [(u32, i64); 7] {
+    let library = Library { empty: Empty::Null };
+    let card = PriceCard::FACTORY;
+    let limits = Limits::new(100, 100);
+    let d = Delivery::new(0, 0, 0);
+    let recorded = |refusal: u32| (refusal, 0);
+    let cost = library.cost(&card, set, ends, histograms);
+    let plan = library.plan(&card, &limits, set, histograms, room);
+    [
+        recorded(library.record_find(histograms, set, 0)),
+        recorded(library.record_range(histograms, set, 0, 1)),
+        recorded(library.record_insert(histograms, set, d)),
+        recorded(library.record_delete(histograms, set, d)),
+        recorded(library.record_move(histograms, set, d, 1)),
+        (cost.refusal, cost.cost),
+        (plan.refusal, plan.cost),
+    ]
+}
+
+/// Long slots are refused by 3 and long histograms by 9; long ends are no
+/// layout, and a long room is enough.
+#[cfg(feature = "plan")]
+fn plans(run: &mut Run) -> Result<(), String> {
+    let (Some(mut slots), Some(mut counts), Some(mut ends), Some(mut room)) = (
+        Long::new(1),
+        Long::new(HISTOGRAM_LEN),
+        Long::new(1),
+        Long::new(0),
+    ) else {
+        return Ok(());
+    };
+    let one = [0];
+    let set = |growers, weights, yields| SetSlices {
+        block: 1,
+        used: 1,
+        growers,
+        weights,
+        yields,
+    };
+    let short = || [0; HISTOGRAM_LEN];
+    let proper = set(&one, &one, &one);
+    let long = slots.slice();
+    // The answers, each with the refusals that they have to have.
+    let answers = [
+        (
+            planned(&set(long, &one, &one), &mut short(), &[0], &mut [7]),
+            [3; 7],
+        ),
+        (
+            planned(&set(&one, long, &one), &mut short(), &[0], &mut [7]),
+            [3; 7],
+        ),
+        (
+            planned(&set(&one, &one, long), &mut short(), &[0], &mut [7]),
+            [3; 7],
+        ),
+        (planned(&proper, counts.slice(), &[0], &mut [7]), [9; 7]),
+        (
+            planned(&proper, &mut short(), ends.slice(), room.slice()),
+            [0, 0, 0, 0, 0, 6, 0],
+        ),
+    ];
+    run.planned.calls += 7 * answers.len() as u64;
+    for (i, (given, expected)) in answers.iter().enumerate() {
+        if *given != expected.map(|refusal| (refusal, 0)) {
+            return Err(format!("case {i}: {given:?} for {expected:?}"));
+        }
+    }
+    Ok(())
+}
+
 pub const TESTS: &[(&str, Test)] = &[
     ("broken input, slice counts past 32 bits", long),
     ("snapshots: slice counts past 32 bits", snapshots),
+    #[cfg(feature = "plan")]
+    ("plan: slice counts past 32 bits", plans),
 ];

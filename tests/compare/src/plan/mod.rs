@@ -4,7 +4,7 @@ mod calls;
 mod library;
 pub mod seen;
 
-use crate::inputs::{self, Set};
+use crate::inputs::{self, Set, EDGE_COUNTS, LIBRARIES};
 use crate::layouts::{self, Fault, END_FAULTS, SET_FAULTS};
 use crate::meltusk::{Empty, Library};
 use crate::{Run, Test};
@@ -449,6 +449,87 @@ fn pairs(run: &mut Run) -> Result<(), String> {
     })
 }
 
+/// Growers, weights, yields, histograms, ends and room, each alone at the
+/// edge counts.
+fn edge_counts(run: &mut Run) -> Result<(), String> {
+    run.cases(46, 1, |run, r| {
+        for library in LIBRARIES {
+            for (target, which) in TARGETS {
+                for lent in 0..6 {
+                    for n in EDGE_COUNTS {
+                        let mut case = accepted(r, which);
+                        let last = case.set.second().blocks() as u32 - 1;
+                        match lent {
+                            3 => case.histograms.resize(n, 0),
+                            // The only end is the last block.
+                            4 => case.ends = (0..n as u32).map(|i| last + i).collect(),
+                            5 => {
+                                // Of all limits the least that permits a layout: one partition.
+                                case.limits.insert = 2 * (case.card.rr + case.card.rw);
+                                case.room = vec![7; n];
+                            }
+                            i => layouts::slice(&mut case.set, i).resize(n, u32::MAX),
+                        }
+                        let expected = match (lent, target) {
+                            (3, _) => 9,
+                            (4, Target::Cost) if n != 1 => 6,
+                            (5, Target::Plan) if n == 0 => 15,
+                            (4 | 5, _) => 0,
+                            _ => 3,
+                        };
+                        let refusal = made(run, r, &library, &case, target)?;
+                        if refusal != expected {
+                            let call = case.call;
+                            return Err(format!("{call:?}, slice {lent} of {n}: {refusal}"));
+                        }
+                    }
+                }
+            }
+        }
+        Ok(())
+    })
+}
+
+/// Every slice empty, with null pointers and without.
+fn nothing_lent(run: &mut Run) -> Result<(), String> {
+    run.cases(47, 1, |run, r| {
+        for library in LIBRARIES {
+            for (target, which) in TARGETS {
+                let mut case = accepted(r, which);
+                case.set.resize(0);
+                case.histograms.clear();
+                case.ends.clear();
+                case.room.clear();
+                let refusal = made(run, r, &library, &case, target)?;
+                if refusal != 3 {
+                    return Err(format!("{:?}: refusal {refusal}", case.call));
+                }
+            }
+        }
+        Ok(())
+    })
+}
+
+/// A set of one slot, one end and room for one end.
+fn one_slot(run: &mut Run) -> Result<(), String> {
+    run.cases(48, 20, |run, r| {
+        let library = inputs::library(r);
+        for (target, which) in TARGETS {
+            let mut case = accepted(r, which);
+            let block = r.pick(&[1, 2, 4_096]);
+            case.set = inputs::one_delivery(r, block, 1);
+            case.call = proper_call(r, &case.set, which);
+            case.ends = vec![0];
+            case.room = vec![7];
+            let refusal = made(run, r, &library, &case, target)?;
+            if refusal != 0 {
+                return Err(format!("{case:?}: refusal {refusal}"));
+            }
+        }
+        Ok(())
+    })
+}
+
 /// The answers that 01 states of the main case.
 fn examples(run: &mut Run) -> Result<(), String> {
     let library = Library { empty: Empty::Null };
@@ -518,6 +599,12 @@ pub const TESTS: &[(&str, Test)] = &[
     ("plan: planner against the table, N to 64", plans_by_table),
     ("plan: broken input, each fault alone", alone),
     ("plan: broken input, two faults", pairs),
+    (
+        "plan: broken input, each slice at the edge counts",
+        edge_counts,
+    ),
+    ("plan: broken input, nothing lent", nothing_lent),
+    ("plan: one slot", one_slot),
     (
         "plan: every answer of every call has occurred",
         every_answer,

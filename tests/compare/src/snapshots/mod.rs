@@ -22,6 +22,11 @@ pub const TESTS: &[(&str, Test)] = &[
     ("snapshots: written, each fault alone", writing::alone),
     ("snapshots: written, two faults", writing::pairs),
     ("snapshots: written, any column", writing::any),
+    (
+        "snapshots: written, each slice at the edge counts",
+        writing::edge_counts,
+    ),
+    ("snapshots: columns of one slot", writing::one_slot),
     ("snapshots: read, whole texts", reading::whole),
     ("snapshots: read, each damage alone", reading::alone),
     ("snapshots: read, two damages", reading::pairs),
@@ -29,6 +34,10 @@ pub const TESTS: &[(&str, Test)] = &[
     ("snapshots: read, some bytes replaced", reading::some_bytes),
     ("snapshots: read, line 1 at its limits", reading::line1),
     ("snapshots: read, slice lengths", reading::slice_lengths),
+    (
+        "snapshots: read, each slice at the edge counts",
+        reading::edge_counts,
+    ),
     ("snapshots: 262,144 deliveries", reading::largest),
     (
         "snapshots: every answer and every damage has occurred",

@@ -3,7 +3,7 @@
 use super::calls::{old_slots, read_back, size, text_of, write, Text};
 use super::damage::{damages, line, Damage, Draft, Effect};
 use super::writing::{lines, same_column};
-use crate::inputs::{self, Column, Kind};
+use crate::inputs::{self, Column, Kind, EDGE_COUNTS, LIBRARIES};
 use crate::lists;
 use crate::meltusk::{Empty, Library};
 use crate::Run;
@@ -351,6 +351,33 @@ pub fn slice_lengths(run: &mut Run) -> Result<(), String> {
                     let (refusal, _) = read_back(r, &mut run.snapshots, &library, &text, &old)?;
                     if refusal != 3 {
                         return Err(format!("lengths {lengths:?}: refusal {refusal}"));
+                    }
+                }
+            }
+        }
+        Ok(())
+    })
+}
+
+/// Growers, weights, yields and text, each alone at the edge counts.
+pub fn edge_counts(run: &mut Run) -> Result<(), String> {
+    run.cases(75, 1, |run, r| {
+        let whole = text_of(&lists::main_column())?;
+        for library in LIBRARIES {
+            for lent in 0..4 {
+                for n in EDGE_COUNTS {
+                    let mut text = whole.clone();
+                    let mut lengths = [9; 3];
+                    match lent {
+                        3 => text.resize(n, b'\n'),
+                        i => lengths[i] = n,
+                    }
+                    let expected = if lent == 3 { 14 } else { 3 };
+                    let old = old_slots(r, lengths);
+                    let text = Text::whole(&text);
+                    let (refusal, _) = read_back(r, &mut run.snapshots, &library, &text, &old)?;
+                    if refusal != expected {
+                        return Err(format!("slice {lent} of {n}: refusal {refusal}"));
                     }
                 }
             }

@@ -4,7 +4,7 @@ use super::calls::{old_slots, read, size, write, Text};
 use super::damage::line;
 use crate::broken::{self, Fault, FAULTS};
 use crate::calls::{apply, Call, Pair};
-use crate::inputs::{self, Column, Kind, MIXES};
+use crate::inputs::{self, Column, Kind, EDGE_COUNTS, LIBRARIES, MIXES};
 use crate::lists;
 use crate::meltusk::{Empty, Library};
 use crate::Run;
@@ -306,6 +306,56 @@ pub fn pairs(run: &mut Run) -> Result<(), String> {
                     return Err(format!("{first:?} and {second:?}: refusal {refusal}"));
                 }
             }
+        }
+        Ok(())
+    })
+}
+
+/// Growers, weights, yields, directory and room, each alone at the edge
+/// counts; then nothing lent.
+pub fn edge_counts(run: &mut Run) -> Result<(), String> {
+    run.cases(73, 1, |run, r| {
+        for library in LIBRARIES {
+            for lent in 0..5 {
+                for n in EDGE_COUNTS {
+                    let (mut c, mut room) = accepted(r);
+                    let expected = match lent {
+                        4 if n < size(&c) => 15,
+                        4 => 0,
+                        3 => 6,
+                        _ => 3,
+                    };
+                    match lent {
+                        4 => room = n,
+                        3 => c.directory.resize(n, 0),
+                        i => broken::slice(&mut c, i).resize(n, 0),
+                    }
+                    let (refusal, _) = write(r, &mut run.snapshots, &library, &c, room)?;
+                    if refusal != expected {
+                        return Err(format!("slice {lent} of {n}: refusal {refusal}"));
+                    }
+                }
+            }
+            let (mut c, _) = accepted(r);
+            c.resize(0);
+            c.directory.clear();
+            let (refusal, _) = write(r, &mut run.snapshots, &library, &c, 0)?;
+            if refusal != 3 {
+                return Err(format!("nothing lent: refusal {refusal}"));
+            }
+        }
+        Ok(())
+    })
+}
+
+/// Columns of one slot, used or free, written and read.
+pub fn one_slot(run: &mut Run) -> Result<(), String> {
+    run.cases(74, 100, |run, r| {
+        let library = inputs::library(r);
+        for is_used in [false, true] {
+            let c = inputs::one_slot(r, is_used);
+            rooms(run, r, &library, &c)?;
+            round_trip(run, r, &library, &c)?;
         }
         Ok(())
     })
