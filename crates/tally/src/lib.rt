@@ -22,7 +22,8 @@ fn has_room(number: u64, more: u64) -> bool
 
 // Check 10 of the three numbers.
 fn all_fit(tally: Tally, counts: Counts) -> bool
-    ensures { λ r. ⌜ r ≡ leb (tally .rr + counts .rr) mostTally && leb (tally .sr + counts .sr) mostTally && leb (tally .«rw» + counts .«rw») mostTally ⌝ }
+    ensures { λ r. ⌜ r
+        ≡ leb (tally .rr + counts .rr) mostTally && leb (tally .sr + counts .sr) mostTally && leb (tally .«rw» + counts .«rw») mostTally ⌝ }
 {
     if !has_room(tally.rr, counts.rr) {
         return false;
