@@ -54,11 +54,11 @@ abbrev pub halves : List ℕ
 halves = 1 ∷ 3 ∷ []
 
 -- that column, with these lengths and slices
-abbrev pub columnOf : List ℕ → List ℕ → List ℕ → List ℕ → Column
-columnOf ns gs ws ys = record { directory = directoryNumbers blockLimit (record { block = 2; lengths = ns; fences = 40 ∷ 80 ∷ [] }); growers = gs; weights = ws; yields = ys }
+abbrev pub columnWith : List ℕ → List ℕ → List ℕ → List ℕ → Column
+columnWith ns gs ws ys = record { directory = directoryNumbers blockLimit (record { block = 2; lengths = ns; fences = 40 ∷ 80 ∷ [] }); growers = gs; weights = ws; yields = ys }
 
 abbrev pub thatColumn : Column
-thatColumn = columnOf (4 ∷ 4 ∷ []) (week .growers) (week .weights) (week .yields)
+thatColumn = columnWith (4 ∷ 4 ∷ []) (week .growers) (week .weights) (week .yields)
 
 -- an accepted call
 abbrev pub gives : Totals → Counts → Column → Called
@@ -87,15 +87,15 @@ pub record OnThatColumn : Type 0 where
   -- "range 40 to 50: 2 records, rr 1 sr 3"
   pub range-40-50 : columnCall blockLimit thatColumn (range 40 50) ≡ gives (totals 2 200 400000) (counts 1 3 0) thatColumn
   -- "insert 15: rr 3 rw 3; growers 10 20 30 40 15 60 70 80 50"
-  pub insert-15 : columnCall blockLimit thatColumn (insert (of 15)) ≡ gives noTotals (counts 3 0 3) (columnOf (5 ∷ 4 ∷ []) (10 ∷ 20 ∷ 30 ∷ 40 ∷ 15 ∷ 60 ∷ 70 ∷ 80 ∷ 50 ∷ []) (nine 100) (nine 2000))
+  pub insert-15 : columnCall blockLimit thatColumn (insert (of 15)) ≡ gives noTotals (counts 3 0 3) (columnWith (5 ∷ 4 ∷ []) (10 ∷ 20 ∷ 30 ∷ 40 ∷ 15 ∷ 60 ∷ 70 ∷ 80 ∷ 50 ∷ []) (nine 100) (nine 2000))
   -- "delete 30: rr 3 sr 1 rw 3; 10 20 40 80 50 60 70"
-  pub delete-30 : columnCall blockLimit thatColumn (delete (of 30)) ≡ gives noTotals (counts 3 1 3) (columnOf (3 ∷ 4 ∷ []) (10 ∷ 20 ∷ 40 ∷ 80 ∷ 50 ∷ 60 ∷ 70 ∷ 0 ∷ 0 ∷ []) (seven 100) (seven 2000))
+  pub delete-30 : columnCall blockLimit thatColumn (delete (of 30)) ≡ gives noTotals (counts 3 1 3) (columnWith (3 ∷ 4 ∷ []) (10 ∷ 20 ∷ 40 ∷ 80 ∷ 50 ∷ 60 ∷ 70 ∷ 0 ∷ 0 ∷ []) (seven 100) (seven 2000))
   -- "move 20 to 70: rr 3 sr 1 rw 3; 10 40 30 70 50 60 70 80"
-  pub move-20-70 : columnCall blockLimit thatColumn (move (of 20) 70) ≡ gives noTotals (counts 3 1 3) (columnOf (3 ∷ 5 ∷ []) (10 ∷ 40 ∷ 30 ∷ 70 ∷ 50 ∷ 60 ∷ 70 ∷ 80 ∷ 0 ∷ []) (eight 100) (eight 2000))
+  pub move-20-70 : columnCall blockLimit thatColumn (move (of 20) 70) ≡ gives noTotals (counts 3 1 3) (columnWith (3 ∷ 5 ∷ []) (10 ∷ 40 ∷ 30 ∷ 70 ∷ 50 ∷ 60 ∷ 70 ∷ 80 ∷ 0 ∷ []) (eight 100) (eight 2000))
   -- "move 70 to 20: same counts; 10 20 30 40 20 60 50 80"
-  pub move-70-20 : columnCall blockLimit thatColumn (move (of 70) 20) ≡ gives noTotals (counts 3 1 3) (columnOf (5 ∷ 3 ∷ []) (10 ∷ 20 ∷ 30 ∷ 40 ∷ 20 ∷ 60 ∷ 50 ∷ 80 ∷ 0 ∷ []) (eight 100) (eight 2000))
+  pub move-70-20 : columnCall blockLimit thatColumn (move (of 70) 20) ≡ gives noTotals (counts 3 1 3) (columnWith (5 ∷ 3 ∷ []) (10 ∷ 20 ∷ 30 ∷ 40 ∷ 20 ∷ 60 ∷ 50 ∷ 80 ∷ 0 ∷ []) (eight 100) (eight 2000))
   -- "move 20 to 25: rr 2 sr 1 rw 2"
-  pub move-20-25 : columnCall blockLimit thatColumn (move (of 20) 25) ≡ gives noTotals (counts 2 1 2) (columnOf (4 ∷ 4 ∷ []) (10 ∷ 40 ∷ 30 ∷ 25 ∷ 50 ∷ 60 ∷ 70 ∷ 80 ∷ 0 ∷ []) (eight 100) (eight 2000))
+  pub move-20-25 : columnCall blockLimit thatColumn (move (of 20) 25) ≡ gives noTotals (counts 2 1 2) (columnWith (4 ∷ 4 ∷ []) (10 ∷ 40 ∷ 30 ∷ 25 ∷ 50 ∷ 60 ∷ 70 ∷ 80 ∷ 0 ∷ []) (eight 100) (eight 2000))
 
 -- "Three partitions also cost 35; one costs 40."
 pub record Costs : Type 0 where
@@ -181,7 +181,7 @@ abbrev pub refuses : ℕ → Counts → Called
 refuses n k = record { answer = record { refusal = n; totals = noTotals; counts = k }; column = thatColumn }
 
 abbrev pub fullColumn : Column
-fullColumn = columnOf (4 ∷ 5 ∷ []) (nine 50) (nine 100) (nine 2000)
+fullColumn = columnWith (4 ∷ 5 ∷ []) (nine 50) (nine 100) (nine 2000)
 
 pub record Refusals : Type 0 where
   -- "13 reports its scan"

@@ -9,7 +9,7 @@ use lib.IntN.{pos, negsuc}
 use Rattle.model.specs.Fields.{numberField, signedField, readField}
 use Rattle.model.specs.SnapshotCalls.{writeCall, readCall}
 use Rattle.model.specs.Text.{bytesOf}
-use Rattle.model.specs.Examples.{columnOf, thatColumn}
+use Rattle.model.specs.Examples.{columnWith, thatColumn}
 
 -- "decimal, right-justified in 11 columns, no leading zeros, zero as `0`"; a signed one in 20
 pub record NumberFields : Type 0 where
@@ -77,4 +77,4 @@ pub record BooksWritten : Type 0 where
   pub just-room : writeCall 64 thatColumn (replicate 352 7) .answer .refusal ≡ 0
   pub one-byte-short : writeCall 64 thatColumn (replicate 351 7) ≡ record { answer = record { refusal = 15; bytes = 0 }; text = replicate 351 7 }
   pub read-again : readCall 64 (bytesOf thatText) (thatColumn .growers) (thatColumn .weights) (thatColumn .yields) ≡ record { refusal = 0; column = thatColumn }
-  pub unsound : writeCall 64 (columnOf (3 ∷ 5 ∷ []) (thatColumn .growers) (thatColumn .weights) (thatColumn .yields)) [] .answer .refusal ≡ 6
+  pub unsound : writeCall 64 (columnWith (3 ∷ 5 ∷ []) (thatColumn .growers) (thatColumn .weights) (thatColumn .yields)) [] .answer .refusal ≡ 6
