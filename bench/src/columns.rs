@@ -1,9 +1,11 @@
 //! The five calls on a column of 262,144 slots.
 
-use crate::meltusk::{Answer, ColumnSlices, Counts, Empty, Library, SetSlices, Totals};
 use crate::timing::{timed, Times, REPETITIONS, ROUNDS};
+use meltusk::{
+    call_second, even_ends, spread_growers, Answer, Call, Column, Empty, Library, Set, Slots,
+};
 use second::random::{case_seed, Random};
-use second::{Delivery, ReadAnswer, WriteAnswer, BLOCK_LENGTH_LIMIT, SLOT_LIMIT};
+use second::{Delivery, BLOCK_LENGTH_LIMIT, SLOT_LIMIT};
 
 /// Slots left free.
 const FREE: usize = 256;
@@ -21,126 +23,31 @@ pub const LIBRARY: Library = Library {
 pub const OURS: usize = 0;
 pub const SECOND: usize = 1;
 
-#[derive(Clone, PartialEq, Eq)]
-pub struct Column {
-    pub directory: Vec<u32>,
-    pub growers: Vec<u32>,
-    pub weights: Vec<u32>,
-    pub yields: Vec<u32>,
-}
-
-#[derive(Clone, Copy)]
-enum Call {
-    Find(u32),
-    Range(u32, u32),
-    Insert(Delivery),
-    Delete(Delivery),
-    Move(Delivery, u32),
-}
-
-fn of_counts(c: second::Counts) -> Counts {
-    Counts {
-        rr: c.rr,
-        sr: c.sr,
-        rw: c.rw,
-    }
-}
-
-fn of_read(a: ReadAnswer) -> Answer {
-    Answer {
-        refusal: a.refusal,
-        totals: Totals {
-            records: a.totals.records,
-            weight: a.totals.weight,
-            oil: a.totals.oil,
-        },
-        counts: of_counts(a.counts),
-    }
-}
-
-fn of_write(a: WriteAnswer) -> Answer {
-    Answer {
-        refusal: a.refusal,
-        totals: Totals {
-            records: 0,
-            weight: 0,
-            oil: 0,
-        },
-        counts: of_counts(a.counts),
-    }
-}
-
 /// Makes a list of calls on the column of one side.
 fn make(side: usize, c: &mut Column, calls: &[Call], answers: &mut Vec<Answer>) {
     answers.clear();
-    let (g, w, y, d) = (
-        &mut c.growers[..],
-        &mut c.weights[..],
-        &mut c.yields[..],
-        &mut c.directory[..],
-    );
+    let mut column = c.lend();
     if side == SECOND {
-        for call in calls {
-            answers.push(match *call {
-                Call::Find(grower) => of_read(second::find(g, w, y, d, grower)),
-                Call::Range(lo, hi) => of_read(second::range(g, w, y, d, lo, hi)),
-                Call::Insert(delivery) => of_write(second::insert(g, w, y, d, delivery)),
-                Call::Delete(delivery) => of_write(second::delete(g, w, y, d, delivery)),
-                Call::Move(delivery, new) => {
-                    of_write(second::move_delivery(g, w, y, d, delivery, new))
-                }
-            });
-        }
-        return;
-    }
-    let mut column = ColumnSlices {
-        directory: d,
-        growers: g,
-        weights: w,
-        yields: y,
-    };
-    for call in calls {
-        answers.push(match *call {
-            Call::Find(grower) => LIBRARY.find(&column, grower),
-            Call::Range(lo, hi) => LIBRARY.range(&column, lo, hi),
-            Call::Insert(delivery) => LIBRARY.insert(&mut column, delivery),
-            Call::Delete(delivery) => LIBRARY.delete(&mut column, delivery),
-            Call::Move(delivery, new) => LIBRARY.move_delivery(&mut column, delivery, new),
-        });
+        answers.extend(calls.iter().map(|call| call_second(&mut column, call)));
+    } else {
+        answers.extend(calls.iter().map(|call| LIBRARY.call(&mut column, call)));
     }
 }
 
 /// Growers spread evenly over all numbers, in the order of the unpartitioned
 /// set, laid in partitions of equal blocks.
 pub fn laid(r: &mut Random, partitions: usize, used: usize) -> Column {
-    let step = (1u64 << 32) / used as u64;
-    let mut growers: Vec<u32> = (0..used)
-        .map(|i| (i as u64 * step + r.next() % step) as u32)
-        .collect();
-    let mut weights: Vec<u32> = (0..used).map(|_| r.within(0, 100_000) as u32).collect();
-    let mut yields: Vec<u32> = (0..used).map(|_| r.within(0, 10_000) as u32).collect();
-    for slice in [&mut growers, &mut weights, &mut yields] {
-        slice.resize(SLOT_LIMIT, 0);
-    }
-    let each = 64 / partitions as u32;
-    let ends: Vec<u32> = (1..=partitions as u32).map(|p| p * each - 1).collect();
-    let applied = LIBRARY.apply_layout(
-        &SetSlices {
-            block: BLOCK_LENGTH_LIMIT,
-            used: used as u32,
-            growers: &growers,
-            weights: &weights,
-            yields: &yields,
-        },
-        &ends,
-    );
+    let mut set = Set {
+        block: BLOCK_LENGTH_LIMIT,
+        used: used as u32,
+        growers: spread_growers(r, used),
+        weights: (0..used).map(|_| r.within(0, 100_000) as u32).collect(),
+        yields: (0..used).map(|_| r.within(0, 10_000) as u32).collect(),
+    };
+    set.resize(SLOT_LIMIT);
+    let applied = LIBRARY.apply_layout(&set.view(), &even_ends(partitions));
     assert_eq!(applied.refusal, 0, "the layout is refused");
-    Column {
-        directory: applied.directory.to_vec(),
-        growers,
-        weights,
-        yields,
-    }
+    set.laid(&applied)
 }
 
 /// One column for each side, and the times of the calls.

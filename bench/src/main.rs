@@ -2,10 +2,6 @@
 //! side by side, and checks on the way that both give the same answers.
 
 mod columns;
-#[path = "../../tests/compare/src/meltusk.rs"]
-#[allow(dead_code)]
-mod meltusk;
-#[cfg(feature = "plan")]
 mod plans;
 mod snapshots;
 mod timing;
@@ -21,15 +17,12 @@ fn main() {
     for partitions in [1, 64] {
         snapshots::run(partitions);
     }
-    #[cfg(feature = "plan")]
-    {
-        println!();
-        println!(
-            "{:<14}{:>4}{:>14}{:>14}{:>8}",
-            "call", "N", "ns ours", "ns second", "ratio"
-        );
-        for blocks in [8, 16, 32, 64] {
-            plans::run(blocks);
-        }
+    println!();
+    println!(
+        "{:<14}{:>4}{:>14}{:>14}{:>8}",
+        "call", "N", "ns ours", "ns second", "ratio"
+    );
+    for blocks in [8, 16, 32, 64] {
+        plans::run(blocks);
     }
 }

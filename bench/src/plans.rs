@@ -1,14 +1,10 @@
 //! The whole planner against the second implementation's table.
 
-#[path = "../../tests/compare/src/plan/library.rs"]
-#[allow(dead_code)]
-mod library;
-
-use crate::meltusk::{Empty, Library, SetSlices};
+use crate::columns::LIBRARY;
 use crate::timing::{timed, Times, REPETITIONS, ROUNDS};
-use library::Planned;
+use meltusk::{Planned, Set};
 use second::random::{case_seed, Random};
-use second::{Limits, PriceCard, UnlaidSet, HISTOGRAM_LEN, LIMIT_LIMIT};
+use second::{Limits, PriceCard, HISTOGRAM_LEN, LIMIT_LIMIT};
 
 const BLOCK: usize = 16;
 /// Plans of a batch.
@@ -17,12 +13,14 @@ const PLANS: usize = 4;
 pub fn run(blocks: usize) {
     let mut r = Random::new(case_seed(101, blocks as u64));
     let used = BLOCK * blocks;
-    let growers: Vec<u32> = (0..used as u32).map(|i| 10 * i).collect();
-    let weights = vec![100; used];
-    let yields = vec![2_000; used];
-    let library = Library {
-        empty: Empty::Place,
+    let set = Set {
+        block: BLOCK as u32,
+        used: used as u32,
+        growers: (0..used as u32).map(|i| 10 * i).collect(),
+        weights: vec![100; used],
+        yields: vec![2_000; used],
     };
+    let set = set.view();
     let card = PriceCard::FACTORY;
     let limits = Limits::new(LIMIT_LIMIT, LIMIT_LIMIT);
     let mut times = Times::default();
@@ -38,30 +36,10 @@ pub fn run(blocks: usize) {
                         .map(|histograms| {
                             let mut ends = [0; 64];
                             let planned = if side == 0 {
-                                let set = SetSlices {
-                                    block: BLOCK as u32,
-                                    used: used as u32,
-                                    growers: &growers,
-                                    weights: &weights,
-                                    yields: &yields,
-                                };
-                                library.plan(&card, &limits, &set, histograms, &mut ends)
+                                LIBRARY.plan(&card, &limits, &set, histograms, &mut ends)
                             } else {
-                                let set = UnlaidSet {
-                                    b: BLOCK as u32,
-                                    m: used,
-                                    growers: &growers,
-                                    weights: &weights,
-                                    yields: &yields,
-                                };
-                                let a = second::plan_by_table(
-                                    &card, &limits, &set, histograms, &mut ends,
-                                );
-                                Planned {
-                                    refusal: a.refusal,
-                                    count: a.count as u32,
-                                    cost: a.bill,
-                                }
+                                let ends = &mut ends;
+                                second::plan_by_table(&card, &limits, &set, histograms, ends).into()
                             };
                             (planned, ends)
                         })

@@ -1,7 +1,8 @@
 //! A snapshot of 262,144 deliveries written and read.
 
-use crate::columns::{laid, Column, LIBRARY, OURS, SECOND};
+use crate::columns::{laid, LIBRARY, OURS, SECOND};
 use crate::timing::{timed, Times, REPETITIONS};
+use meltusk::Column;
 use second::random::{case_seed, Random};
 use second::{snapshot_read, snapshot_size, snapshot_write, SLOT_LIMIT};
 
@@ -28,12 +29,12 @@ impl Side {
 
     /// Refusal and bytes.
     fn write(&mut self, side: usize, c: &Column) -> (u32, usize) {
-        let (d, g, w, y) = (&c.directory, &c.growers, &c.weights, &c.yields);
         if side == OURS {
-            let a = LIBRARY.write_snapshot(d, g, w, y, &mut self.text);
+            let a = LIBRARY.write_snapshot(&c.view(), &mut self.text);
             (a.refusal, a.bytes as usize)
         } else {
-            let a = snapshot_write(g, w, y, d, &mut self.text);
+            let (g, w, y) = (&c.growers, &c.weights, &c.yields);
+            let a = snapshot_write(g, w, y, &c.directory, &mut self.text);
             (a.refusal, a.written)
         }
     }

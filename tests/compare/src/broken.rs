@@ -1,9 +1,9 @@
 //! Single calls on broken input: each fault alone, in pairs, and at random.
 
-use crate::calls::{Call, Pair};
-use crate::inputs::{self, Column, Kind, EDGE_COUNTS, LIBRARIES, MIXES};
-use crate::meltusk::{Empty, Library};
+use crate::calls::{Asked, Pair};
+use crate::inputs::{self, Kind, EDGE_COUNTS, MIXES};
 use crate::{Run, Test};
+use meltusk::{Call, Column, Library, Slots, LIBRARIES};
 use second::random::Random;
 use second::{Delivery, BLOCK_LIMIT, FENCES, LENGTHS, SLOT_LIMIT, WEIGHT_LIMIT, YIELD_LIMIT};
 
@@ -86,31 +86,26 @@ pub const FAULTS: &[Fault] = &[
 ];
 
 /// The partitions that a call scans, first and last.
-fn scanned(call: &Call, c: &Column) -> Option<(usize, usize)> {
+fn scanned(asked: &Asked, c: &Column) -> Option<(usize, usize)> {
     let view = c.view();
-    match *call {
+    let Asked::Call(call) = *asked else {
+        return None;
+    };
+    match call {
         Call::Find(g) => Some((view.partition_of(g), view.partition_of(g))),
         Call::Range(lo, hi) => Some((view.partition_of(lo), view.partition_of(hi))),
         Call::Delete(d) | Call::Move(d, _) => {
             let p = view.partition_of(d.grower);
             Some((p, p))
         }
-        Call::Insert(_) | Call::Partition(_) => None,
+        Call::Insert(_) => None,
     }
 }
 
-fn offered(call: &mut Call) -> Option<&mut Delivery> {
-    match call {
-        Call::Insert(d) | Call::Delete(d) | Call::Move(d, _) => Some(d),
-        _ => None,
-    }
-}
-
-pub fn slice(c: &mut Column, i: usize) -> &mut Vec<u32> {
-    match i {
-        0 => &mut c.growers,
-        1 => &mut c.weights,
-        _ => &mut c.yields,
+fn offered(asked: &mut Asked) -> Option<&mut Delivery> {
+    match asked {
+        Asked::Call(call) => call.offered(),
+        Asked::Partition(_) => None,
     }
 }
 
@@ -128,11 +123,11 @@ impl Fault {
     }
 
     /// Puts the fault; false if it cannot be put here.
-    pub fn put(self, r: &mut Random, c: &mut Column, call: &mut Call) -> bool {
+    pub fn put(self, r: &mut Random, c: &mut Column, asked: &mut Asked) -> bool {
         let k = c.directory[1] as usize;
         match self {
             ScannedWeight(_) | ScannedYield(_) | OtherWeight | OtherYield => {
-                let range = scanned(call, c);
+                let range = scanned(asked, c);
                 let inside = matches!(self, ScannedWeight(_) | ScannedYield(_));
                 let view = c.view();
                 let slots: Vec<usize> = (0..k)
@@ -158,16 +153,16 @@ impl Fault {
                 c.weights[used] = u32::MAX;
                 c.yields[used] = u32::MAX;
             }
-            OfferedWeight(w) => match offered(call) {
+            OfferedWeight(w) => match offered(asked) {
                 Some(d) => d.weight = w,
                 None => return false,
             },
-            OfferedYield(y) => match offered(call) {
+            OfferedYield(y) => match offered(asked) {
                 Some(d) => d.oil_yield = y,
                 None => return false,
             },
-            RangeFalls => match call {
-                Call::Range(lo, hi) => {
+            RangeFalls => match asked {
+                Asked::Call(Call::Range(lo, hi)) => {
                     let x = *hi;
                     *hi = if *lo == 0 { 0 } else { *lo - 1 };
                     *lo = x.max(*hi + 1);
@@ -175,18 +170,18 @@ impl Fault {
                 _ => return false,
             },
             // No random delivery has this weight.
-            Absent => match offered(call) {
+            Absent => match offered(asked) {
                 Some(d) if d.weight <= WEIGHT_LIMIT => d.weight = 54_321,
                 _ => return false,
             },
             Full => {
                 let used = c.view().used();
-                c.growers.truncate(used);
-                c.weights.truncate(used);
-                c.yields.truncate(used);
+                for slice in c.slices() {
+                    slice.truncate(used);
+                }
             }
-            Shorter(i) => return slice(c, i).pop().is_some(),
-            Longer(i) => slice(c, i).push(0),
+            Shorter(i) => return c.slices()[i].pop().is_some(),
+            Longer(i) => c.slices()[i].push(0),
             Length(n) => c.resize(n),
             FencesEqual | FencesFall => {
                 if k < 2 {
@@ -238,11 +233,11 @@ impl Fault {
     }
 
     /// The refusal of an else accepted call with this fault alone.
-    pub fn expected(self, call: &Call) -> u32 {
+    pub fn expected(self, asked: &Asked) -> u32 {
         let on = |yes: bool, number: u32| if yes { number } else { 0 };
-        let partition = matches!(call, Call::Partition(_));
-        let insert = matches!(call, Call::Insert(_));
-        let removes = matches!(call, Call::Delete(_) | Call::Move(..));
+        let partition = matches!(asked, Asked::Partition(_));
+        let insert = matches!(asked, Asked::Call(Call::Insert(_)));
+        let removes = matches!(asked, Asked::Call(Call::Delete(_) | Call::Move(..)));
         match self {
             ScannedWeight(_) | ScannedYield(_) => 8,
             OtherWeight | OtherYield | FreeSlot => 0,
@@ -269,26 +264,41 @@ pub fn base(r: &mut Random) -> Column {
     }
 }
 
-/// Calls that `accepted` gives.
+/// What `about` can ask.
 const CALLS: usize = 6;
 
-/// A call that a column of `base` accepts.
-fn accepted(r: &mut Random, c: &Column, which: usize) -> Call {
+/// One of the calls, about a delivery and a range of growers. A move goes to a
+/// grower near the first `used` slots.
+fn about(
+    r: &mut Random,
+    c: &Column,
+    used: usize,
+    d: Delivery,
+    (lo, hi): (u32, u32),
+    which: usize,
+) -> Asked {
+    let call = match which {
+        0 => Call::Find(d.grower),
+        1 => Call::Range(lo, hi),
+        2 => Call::Insert(d),
+        3 => Call::Delete(d),
+        4 => Call::Move(d, inputs::near(r, &c.view(), used)),
+        _ => return Asked::Partition(d.grower),
+    };
+    call.into()
+}
+
+/// What a column of `base` accepts.
+fn accepted(r: &mut Random, c: &Column, which: usize) -> Asked {
     let view = c.view();
     let used = view.used();
-    let d = view.slot(r.below(used));
-    let other = view.slot(r.below(used));
-    match which {
-        0 => Call::Find(d.grower),
-        1 => Call::Range(d.grower.min(other.grower), d.grower.max(other.grower)),
-        2 => Call::Insert(Delivery {
-            grower: inputs::near(r, &view, used),
-            ..d
-        }),
-        3 => Call::Delete(d),
-        4 => Call::Move(d, inputs::near(r, &view, used)),
-        _ => Call::Partition(d.grower),
+    let mut d = view.slot(r.below(used));
+    let other = view.slot(r.below(used)).grower;
+    let range = (d.grower.min(other), d.grower.max(other));
+    if which == 2 {
+        d.grower = inputs::near(r, &view, used);
     }
+    about(r, c, used, d, range, which)
 }
 
 fn single(
@@ -296,9 +306,9 @@ fn single(
     r: &mut Random,
     library: &Library,
     c: &Column,
-    call: &Call,
+    asked: &Asked,
 ) -> Result<u32, String> {
-    let outcome = Pair::new(r, c).call(&mut run.seen, library, call)?;
+    let outcome = Pair::new(r, c).ask(&mut run.seen, library, *asked)?;
     Ok(outcome.refusal())
 }
 
@@ -308,18 +318,18 @@ pub fn on_copy(
     r: &mut Random,
     library: &Library,
     column: &Column,
-    call: Call,
+    asked: Asked,
 ) -> Result<(), String> {
-    let (mut c, mut call) = (column.clone(), call);
+    let (mut c, mut asked) = (column.clone(), asked);
     let mut first = 0;
     for _ in 0..r.within(1, 2) {
         let i = r.within(first, FAULTS.len() - 1);
         if !FAULTS[i].is_large() && c.directory.len() > 1 {
-            FAULTS[i].put(r, &mut c, &mut call);
+            FAULTS[i].put(r, &mut c, &mut asked);
         }
         first = i;
     }
-    single(run, r, library, &c, &call).map(|_| ())
+    single(run, r, library, &c, &asked).map(|_| ())
 }
 
 /// Each fault alone, with the refusal that it must give.
@@ -329,14 +339,14 @@ fn alone(run: &mut Run) -> Result<(), String> {
         for fault in FAULTS {
             for which in 0..CALLS {
                 let mut c = base(r);
-                let mut call = accepted(r, &c, which);
-                if !fault.put(r, &mut c, &mut call) {
+                let mut asked = accepted(r, &c, which);
+                if !fault.put(r, &mut c, &mut asked) {
                     continue;
                 }
                 let with = |why| format!("{fault:?}: {why}");
-                let refusal = single(run, r, &library, &c, &call).map_err(with)?;
-                if refusal != fault.expected(&call) {
-                    return Err(format!("{fault:?}, {call:?}: refusal {refusal}"));
+                let refusal = single(run, r, &library, &c, &asked).map_err(with)?;
+                if refusal != fault.expected(&asked) {
+                    return Err(format!("{fault:?}, {asked:?}: refusal {refusal}"));
                 }
             }
         }
@@ -356,13 +366,13 @@ fn pairs(run: &mut Run) -> Result<(), String> {
                         continue;
                     }
                     let mut c = base(r);
-                    let mut call = accepted(r, &c, which);
-                    if first.put(r, &mut c, &mut call) {
+                    let mut asked = accepted(r, &c, which);
+                    if first.put(r, &mut c, &mut asked) {
                         if c.directory.len() > 1 {
-                            second.put(r, &mut c, &mut call);
+                            second.put(r, &mut c, &mut asked);
                         }
                         let with = |why| format!("{first:?} and {second:?}: {why}");
-                        single(run, r, &library, &c, &call).map_err(with)?;
+                        single(run, r, &library, &c, &asked).map_err(with)?;
                     }
                 }
             }
@@ -376,7 +386,7 @@ fn any_directory(run: &mut Run) -> Result<(), String> {
     run.cases(12, 30_000, |run, r| {
         let library = inputs::library(r);
         let mut c = inputs::column(r, Kind::Unsound);
-        let call = inputs::call(r, &c.view(), &MIXES[0]);
+        let asked = inputs::asked(r, &c.view(), &MIXES[0]);
         let slots = c.growers.len() as u32;
         for _ in 0..r.within(1, 3) {
             let k = c.directory[1].clamp(1, 64) as usize;
@@ -399,7 +409,7 @@ fn any_directory(run: &mut Run) -> Result<(), String> {
                 _ => old.wrapping_sub(1),
             };
         }
-        single(run, r, &library, &c, &call).map(|_| ())
+        single(run, r, &library, &c, &asked).map(|_| ())
     })
 }
 
@@ -421,18 +431,11 @@ fn values(run: &mut Run) -> Result<(), String> {
                     c.weights[i] = weight;
                     c.yields[i] = oil_yield;
                     let d = c.view().slot(i);
-                    let call = match which {
-                        0 => Call::Find(d.grower),
-                        1 => Call::Range(d.grower, d.grower),
-                        2 => Call::Insert(d),
-                        3 => Call::Delete(d),
-                        4 => Call::Move(d, inputs::near(r, &c.view(), i + 1)),
-                        _ => Call::Partition(d.grower),
-                    };
-                    let refusal = single(run, r, &library, &c, &call)?;
+                    let asked = about(r, &c, i + 1, d, (d.grower, d.grower), which);
+                    let refusal = single(run, r, &library, &c, &asked)?;
                     let expected = if which == 5 || d.in_range() { 0 } else { 8 };
                     if refusal != expected {
-                        return Err(format!("{call:?}, record {d:?}: refusal {refusal}"));
+                        return Err(format!("{asked:?}, record {d:?}: refusal {refusal}"));
                     }
                 }
             }
@@ -461,16 +464,15 @@ fn slice_lengths(run: &mut Run) -> Result<(), String> {
     let none = [[0; 3]];
     run.cases(14, 2, |run, r| {
         for lengths in none.iter().chain(&same).chain(&different) {
-            for empty in [Empty::Null, Empty::Place] {
-                let library = Library { empty };
+            for library in LIBRARIES {
                 for which in 0..CALLS {
                     let mut c = base(r);
-                    let call = accepted(r, &c, which);
+                    let asked = accepted(r, &c, which);
                     let used = c.view().used();
                     for (i, &n) in lengths.iter().enumerate() {
-                        slice(&mut c, i).resize(n, 0);
+                        c.slices()[i].resize(n, 0);
                     }
-                    let refusal = single(run, r, &library, &c, &call)?;
+                    let refusal = single(run, r, &library, &c, &asked)?;
                     let lent = if which == 5 {
                         &lengths[..1]
                     } else {
@@ -484,7 +486,7 @@ fn slice_lengths(run: &mut Run) -> Result<(), String> {
                         true => 0,
                     };
                     if refusal != expected {
-                        return Err(format!("{call:?}, lengths {lengths:?}: refusal {refusal}"));
+                        return Err(format!("{asked:?}, lengths {lengths:?}: refusal {refusal}"));
                     }
                 }
             }
@@ -496,17 +498,16 @@ fn slice_lengths(run: &mut Run) -> Result<(), String> {
 /// Every slice empty, with null pointers and without.
 fn nothing_lent(run: &mut Run) -> Result<(), String> {
     run.cases(15, 1, |run, r| {
-        for empty in [Empty::Null, Empty::Place] {
-            let library = Library { empty };
+        for library in LIBRARIES {
             for which in 0..CALLS {
                 let mut c = base(r);
-                let call = accepted(r, &c, which);
+                let asked = accepted(r, &c, which);
                 c.resize(0);
                 for directory in [c.directory.clone(), Vec::new()] {
                     c.directory = directory;
-                    let refusal = single(run, r, &library, &c, &call)?;
+                    let refusal = single(run, r, &library, &c, &asked)?;
                     if refusal != 3 {
-                        return Err(format!("{call:?}: refusal {refusal}"));
+                        return Err(format!("{asked:?}: refusal {refusal}"));
                     }
                 }
             }
@@ -523,11 +524,11 @@ fn edge_counts(run: &mut Run) -> Result<(), String> {
                 for lent in 0..4 {
                     for n in EDGE_COUNTS {
                         let mut c = base(r);
-                        let call = accepted(r, &c, which);
+                        let asked = accepted(r, &c, which);
                         let used = c.view().used();
                         match lent {
                             3 => c.directory.resize(n, 0),
-                            i => slice(&mut c, i).resize(n, 0),
+                            i => c.slices()[i].resize(n, 0),
                         }
                         let expected = match (lent, which) {
                             (3, _) => 6,
@@ -537,9 +538,9 @@ fn edge_counts(run: &mut Run) -> Result<(), String> {
                             (0, 5) if n == 1 => 6,
                             _ => 3,
                         };
-                        let refusal = single(run, r, &library, &c, &call)?;
+                        let refusal = single(run, r, &library, &c, &asked)?;
                         if refusal != expected {
-                            return Err(format!("{call:?}, slice {lent} of {n}: {refusal}"));
+                            return Err(format!("{asked:?}, slice {lent} of {n}: {refusal}"));
                         }
                     }
                 }
@@ -557,22 +558,15 @@ fn one_slot(run: &mut Run) -> Result<(), String> {
             for which in 0..CALLS {
                 let c = inputs::one_slot(r, is_used);
                 let d = c.view().slot(0);
-                let call = match which {
-                    0 => Call::Find(d.grower),
-                    1 => Call::Range(0, u32::MAX),
-                    2 => Call::Insert(d),
-                    3 => Call::Delete(d),
-                    4 => Call::Move(d, inputs::near(r, &c.view(), 0)),
-                    _ => Call::Partition(d.grower),
-                };
+                let asked = about(r, &c, 0, d, (0, u32::MAX), which);
                 let expected = match which {
                     2 if is_used => 12,
                     3 | 4 if !is_used => 13,
                     _ => 0,
                 };
-                let refusal = single(run, r, &library, &c, &call)?;
+                let refusal = single(run, r, &library, &c, &asked)?;
                 if refusal != expected {
-                    return Err(format!("{call:?} of {c:?}: refusal {refusal}"));
+                    return Err(format!("{asked:?} of {c:?}: refusal {refusal}"));
                 }
             }
         }

@@ -1,22 +1,25 @@
 //! One call made of both implementations, and the comparison after it.
 
-use crate::inputs::{Column, Set, View};
-use crate::meltusk::*;
 use crate::memory::Memory;
-use crate::seen::Seen;
+use crate::seen;
+use meltusk::{
+    call_second, Answer, Applied, Call, Column, ColumnSlices, Library, PartitionSlice, Seen, Set,
+    View, DIRECTORY,
+};
 use second::random::Random;
-use second::{Delivery, DirectoryAnswer, ReadAnswer, WriteAnswer};
 use std::fmt::Write;
 
-/// A call on a column.
+/// What a column is asked: one of the five calls, or where a partition lies.
 #[derive(Clone, Copy, Debug)]
-pub enum Call {
-    Find(u32),
-    Range(u32, u32),
-    Insert(Delivery),
-    Delete(Delivery),
-    Move(Delivery, u32),
+pub enum Asked {
+    Call(Call),
     Partition(u32),
+}
+
+impl From<Call> for Asked {
+    fn from(call: Call) -> Asked {
+        Asked::Call(call)
+    }
 }
 
 #[derive(Clone, Copy, Debug, PartialEq, Eq)]
@@ -34,83 +37,33 @@ impl Outcome {
     }
 }
 
-fn counts(c: &second::Counts) -> Counts {
-    Counts {
-        rr: c.rr,
-        sr: c.sr,
-        rw: c.rw,
-    }
-}
-
-fn of_read(a: ReadAnswer) -> Outcome {
-    Outcome::Answer(Answer {
-        refusal: a.refusal,
-        totals: Totals {
-            records: a.totals.records,
-            weight: a.totals.weight,
-            oil: a.totals.oil,
-        },
-        counts: counts(&a.counts),
-    })
-}
-
-fn of_write(a: WriteAnswer) -> Outcome {
-    Outcome::Answer(Answer {
-        refusal: a.refusal,
-        totals: Totals {
-            records: 0,
-            weight: 0,
-            oil: 0,
-        },
-        counts: counts(&a.counts),
-    })
-}
-
-pub fn of_applied(a: DirectoryAnswer) -> Applied {
-    Applied {
-        refusal: a.refusal,
-        directory: a.directory,
-    }
-}
-
 /// Order of the slices of a column in its memory.
-const NAMES: [&str; 4] = ["growers", "weights", "yields", "directory"];
+pub const NAMES: [&str; 4] = ["growers", "weights", "yields", "directory"];
 
-fn call_compiled(library: &Library, memory: &mut Memory, call: &Call) -> Outcome {
-    let [growers, weights, yields, directory] = memory.lend();
-    let mut column = ColumnSlices {
+fn slices([growers, weights, yields, directory]: [&mut [u32]; 4]) -> ColumnSlices<'_> {
+    ColumnSlices {
         directory,
         growers,
         weights,
         yields,
-    };
-    match *call {
-        Call::Find(g) => Outcome::Answer(library.find(&column, g)),
-        Call::Range(lo, hi) => Outcome::Answer(library.range(&column, lo, hi)),
-        Call::Insert(d) => Outcome::Answer(library.insert(&mut column, d)),
-        Call::Delete(d) => Outcome::Answer(library.delete(&mut column, d)),
-        Call::Move(d, g) => Outcome::Answer(library.move_delivery(&mut column, d, g)),
-        Call::Partition(g) => {
-            Outcome::Partition(library.partition(column.directory, column.growers, g))
-        }
     }
 }
 
-fn call_second(memory: &mut Memory, call: &Call) -> Outcome {
-    let [g, w, y, d] = memory.lend();
-    match *call {
-        Call::Find(grower) => of_read(second::find(g, w, y, d, grower)),
-        Call::Range(lo, hi) => of_read(second::range(g, w, y, d, lo, hi)),
-        Call::Insert(delivery) => of_write(second::insert(g, w, y, d, delivery)),
-        Call::Delete(delivery) => of_write(second::delete(g, w, y, d, delivery)),
-        Call::Move(delivery, new) => of_write(second::move_delivery(g, w, y, d, delivery, new)),
-        Call::Partition(grower) => {
-            let span = second::partition_span(g, d, grower);
-            Outcome::Partition(PartitionSlice {
-                refusal: span.refusal,
-                start: span.start as u32,
-                count: span.count as u32,
-            })
+fn ask_compiled(library: &Library, memory: &mut Memory, asked: &Asked) -> Outcome {
+    let mut column = slices(memory.lend());
+    match asked {
+        Asked::Call(call) => Outcome::Answer(library.call(&mut column, call)),
+        Asked::Partition(g) => Outcome::Partition(library.partition(&column.view(), *g)),
+    }
+}
+
+fn ask_second(memory: &mut Memory, asked: &Asked) -> Outcome {
+    let mut column = slices(memory.lend());
+    match asked {
+        Asked::Call(call) => Outcome::Answer(call_second(&mut column, call)),
+        Asked::Partition(g) => {
+            let span = second::partition_span(column.growers, column.directory, *g);
+            Outcome::Partition(span.into())
         }
     }
 }
@@ -175,37 +128,29 @@ impl Pair {
     }
 
     pub fn column(&self) -> Column {
-        let view = self.view();
-        Column {
-            directory: view.directory.to_vec(),
-            growers: view.growers.to_vec(),
-            weights: view.weights.to_vec(),
-            yields: view.yields.to_vec(),
-        }
+        self.view().to_column()
     }
 
-    /// Makes the call of both; compares answers, slices and guards.
-    pub fn call(
+    /// Asks both; compares answers, slices and guards.
+    pub fn ask(
         &mut self,
         seen: &mut Seen,
         library: &Library,
-        call: &Call,
+        asked: impl Into<Asked>,
     ) -> Result<Outcome, String> {
+        let asked = asked.into();
         self.before.clone_from(&self.second);
-        let second = call_second(&mut self.second, call);
-        let compiled = call_compiled(library, &mut self.compiled, call);
+        let second = ask_second(&mut self.second, &asked);
+        let compiled = ask_compiled(library, &mut self.compiled, &asked);
         let (growers, directory) = (self.before.slice(0), self.before.slice(3));
-        seen.note(call, second.refusal(), growers, directory);
+        seen::note(seen, &asked, second.refusal(), growers, directory);
         if compiled == second && self.compiled.equals(&self.second) {
             return Ok(second);
         }
-        let slices = match self.compiled.difference(&self.second, &NAMES) {
-            Some(text) => format!("memory differs, first {text}"),
-            None => "memory the same".into(),
-        };
+        let slices = self.compiled.compared(&self.second, &NAMES);
         let before = |i: usize| self.before.slice(i);
         Err(format!(
-            "{call:?}: compiled {compiled:?}, second {second:?}; {slices}; before: {}, {}",
+            "{asked:?}: compiled {compiled:?}, second {second:?}; {slices}; before: {}, {}",
             directory_text(before(3)),
             slots_text(before(0), before(1), before(2))
         ))
@@ -223,25 +168,14 @@ pub fn apply(
     let slices = [&set.growers[..], &set.weights, &set.yields, ends];
     let mut memory = Memory::new(r, &slices);
     let before = memory.clone();
-    let second = of_applied(second::apply_layout(&set.second(), ends));
+    let second = Applied::from(second::apply_layout(&set.view(), ends));
     let [growers, weights, yields, lent_ends] = memory.lend();
-    let lent = SetSlices {
-        block: set.block,
-        used: set.used,
-        growers,
-        weights,
-        yields,
-    };
-    let compiled = library.apply_layout(&lent, lent_ends);
-    seen.note_applied(second.refusal);
+    let compiled = library.apply_layout(&set.over([growers, weights, yields]), lent_ends);
+    seen.answer("apply_layout", second.refusal);
     if compiled == second && memory.equals(&before) {
         return Ok(second);
     }
-    let names = ["growers", "weights", "yields", "ends"];
-    let slices = match memory.difference(&before, &names) {
-        Some(text) => format!("memory written, first {text}"),
-        None => "memory as before".into(),
-    };
+    let slices = memory.compared(&before, &["growers", "weights", "yields", "ends"]);
     Err(format!(
         "apply_layout: compiled {} with {}, second {} with {}; {slices}; block {}, used {}, ends {ends:?}, {}",
         compiled.refusal,

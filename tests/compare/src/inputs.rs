@@ -1,119 +1,14 @@
 //! Random columns, sets, layouts and calls.
 
-use crate::calls::Call;
-use crate::meltusk::{Empty, Library};
+use crate::calls::Asked;
+use meltusk::{Call, Column, Empty, Library, Set, View};
 use second::random::Random;
 use second::{
     Delivery, UnlaidSet, DIRECTORY_LEN, FENCES, LENGTHS, SLOT_LIMIT, WEIGHT_LIMIT, YIELD_LIMIT,
 };
 
-/// A column that owns its slices.
-#[derive(Clone, Debug, PartialEq, Eq)]
-pub struct Column {
-    pub directory: Vec<u32>,
-    pub growers: Vec<u32>,
-    pub weights: Vec<u32>,
-    pub yields: Vec<u32>,
-}
-
-impl Column {
-    pub fn view(&self) -> View<'_> {
-        View {
-            directory: &self.directory,
-            growers: &self.growers,
-            weights: &self.weights,
-            yields: &self.yields,
-        }
-    }
-
-    /// Changes the length of all three slices; new slots hold 0, 0, 0.
-    pub fn resize(&mut self, length: usize) {
-        self.growers.resize(length, 0);
-        self.weights.resize(length, 0);
-        self.yields.resize(length, 0);
-    }
-}
-
-/// The slices of a column whose directory has its shape.
-#[derive(Clone, Copy)]
-pub struct View<'a> {
-    pub directory: &'a [u32],
-    pub growers: &'a [u32],
-    pub weights: &'a [u32],
-    pub yields: &'a [u32],
-}
-
-impl View<'_> {
-    pub fn partitions(&self) -> usize {
-        self.directory[1] as usize
-    }
-
-    pub fn length(&self, p: usize) -> usize {
-        self.directory[LENGTHS + p] as usize
-    }
-
-    pub fn start(&self, p: usize) -> usize {
-        (0..p).map(|q| self.length(q)).sum()
-    }
-
-    pub fn used(&self) -> usize {
-        self.start(self.partitions())
-    }
-
-    pub fn fence(&self, p: usize) -> u32 {
-        self.directory[FENCES + p]
-    }
-
-    /// The first partition whose fence is at least the grower, else the last.
-    pub fn partition_of(&self, grower: u32) -> usize {
-        (0..self.partitions())
-            .find(|&p| self.fence(p) >= grower)
-            .unwrap_or(self.partitions() - 1)
-    }
-
-    pub fn slot(&self, i: usize) -> Delivery {
-        Delivery::new(self.growers[i], self.weights[i], self.yields[i])
-    }
-}
-
-/// An unpartitioned set that owns its slices.
-#[derive(Clone, Debug)]
-pub struct Set {
-    pub block: u32,
-    pub used: u32,
-    pub growers: Vec<u32>,
-    pub weights: Vec<u32>,
-    pub yields: Vec<u32>,
-}
-
-impl Set {
-    pub fn second(&self) -> UnlaidSet<'_> {
-        UnlaidSet {
-            b: self.block,
-            m: self.used as usize,
-            growers: &self.growers,
-            weights: &self.weights,
-            yields: &self.yields,
-        }
-    }
-
-    pub fn resize(&mut self, length: usize) {
-        self.growers.resize(length, 0);
-        self.weights.resize(length, 0);
-        self.yields.resize(length, 0);
-    }
-}
-
 /// Counts of a slice, at the edges of what any slice may have.
 pub const EDGE_COUNTS: [usize; 3] = [0, 1, SLOT_LIMIT + 1];
-
-/// Both ways to lend an empty slice.
-pub const LIBRARIES: [Library; 2] = [
-    Library { empty: Empty::Null },
-    Library {
-        empty: Empty::Place,
-    },
-];
 
 /// Empty slices are lent in both ways.
 pub fn library(r: &mut Random) -> Library {
@@ -436,8 +331,8 @@ pub const MIXES: [[usize; 6]; 4] = [
     [1, 1, 2, 2, 9, 1],
 ];
 
-/// A random call on a column of proper shape.
-pub fn call(r: &mut Random, c: &View, mix: &[usize; 6]) -> Call {
+/// What a column of proper shape is asked.
+pub fn asked(r: &mut Random, c: &View, mix: &[usize; 6]) -> Asked {
     let used = c.used();
     let mut at = r.below(mix.iter().sum());
     let mut which = 0;
@@ -445,7 +340,7 @@ pub fn call(r: &mut Random, c: &View, mix: &[usize; 6]) -> Call {
         at -= mix[which];
         which += 1;
     }
-    match which {
+    let call = match which {
         0 => Call::Find(near(r, c, used)),
         1 => {
             let (x, y) = (near(r, c, used), near(r, c, used));
@@ -465,6 +360,7 @@ pub fn call(r: &mut Random, c: &View, mix: &[usize; 6]) -> Call {
         }
         3 => Call::Delete(mostly_held(r, c, used)),
         4 => Call::Move(mostly_held(r, c, used), near(r, c, used)),
-        _ => Call::Partition(near(r, c, used)),
-    }
+        _ => return Asked::Partition(near(r, c, used)),
+    };
+    call.into()
 }

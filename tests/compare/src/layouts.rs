@@ -1,9 +1,9 @@
 //! Layouts applied to unpartitioned sets, good and bad.
 
 use crate::calls::apply;
-use crate::inputs::{self, Set, EDGE_COUNTS, LIBRARIES};
-use crate::meltusk::{Empty, Library};
+use crate::inputs::{self, EDGE_COUNTS};
 use crate::{Run, Test};
+use meltusk::{Set, Slots, LIBRARIES};
 use second::random::Random;
 use second::{BLOCK_LIMIT, SLOT_LIMIT, WEIGHT_LIMIT, YIELD_LIMIT};
 
@@ -71,14 +71,6 @@ pub const END_FAULTS: &[Fault] = &[
     ManyEnds,
 ];
 
-pub fn slice(s: &mut Set, i: usize) -> &mut Vec<u32> {
-    match i {
-        0 => &mut s.growers,
-        1 => &mut s.weights,
-        _ => &mut s.yields,
-    }
-}
-
 impl Fault {
     pub fn is_large(self) -> bool {
         matches!(self, Length(n) if n > 1_000)
@@ -139,8 +131,8 @@ impl Fault {
                     *g = grower;
                 }
             }
-            Shorter(i) => return slice(s, i).pop().is_some(),
-            Longer(i) => slice(s, i).push(0),
+            Shorter(i) => return s.slices()[i].pop().is_some(),
+            Longer(i) => s.slices()[i].push(0),
             Length(n) => s.resize(n),
             Block(b) => s.block = b,
             NoEnd => ends.clear(),
@@ -205,7 +197,7 @@ fn good(run: &mut Run) -> Result<(), String> {
         let most_blocks = r.pick(&[3, 10, 64]);
         let free = r.below(3);
         let set = inputs::set(r, most_blocks, free);
-        let ends = inputs::layout(r, &set.second());
+        let ends = inputs::layout(r, &set.view());
         let applied = apply(r, &mut run.seen, &library, &set, &ends)?;
         match applied.refusal {
             0 => Ok(()),
@@ -239,7 +231,7 @@ fn alone(run: &mut Run) -> Result<(), String> {
         let library = inputs::library(r);
         for fault in faults() {
             let mut set = base(r);
-            let mut ends = inputs::layout(r, &set.second());
+            let mut ends = inputs::layout(r, &set.view());
             if fault.is_large() && !r.one_in(8) || !fault.put(r, &mut set, &mut ends) {
                 continue;
             }
@@ -263,7 +255,7 @@ fn pairs(run: &mut Run) -> Result<(), String> {
                     continue;
                 }
                 let mut set = base(r);
-                let mut ends = inputs::layout(r, &set.second());
+                let mut ends = inputs::layout(r, &set.view());
                 first.put(r, &mut set, &mut ends);
                 second.put(r, &mut set, &mut ends);
                 let with = |why| format!("{first:?} and {second:?}: {why}");
@@ -277,8 +269,7 @@ fn pairs(run: &mut Run) -> Result<(), String> {
 /// Blocks of the largest length, and 262,144 slots in blocks of one.
 fn largest(run: &mut Run) -> Result<(), String> {
     run.cases(24, 2, |run, r| {
-        for empty in [Empty::Null, Empty::Place] {
-            let library = Library { empty };
+        for library in LIBRARIES {
             for (block, used, slots) in [
                 (4_096, SLOT_LIMIT, SLOT_LIMIT),
                 (4_096, SLOT_LIMIT - 4_096, SLOT_LIMIT),
@@ -320,7 +311,7 @@ fn edge_counts(run: &mut Run) -> Result<(), String> {
                 for n in EDGE_COUNTS {
                     let mut set = base(r);
                     let last = set.used.div_ceil(set.block) - 1;
-                    let mut ends = inputs::layout(r, &set.second());
+                    let mut ends = inputs::layout(r, &set.view());
                     let expected = match (lent, n) {
                         (3, 1) => 0,
                         (3, _) => 6,
@@ -329,7 +320,7 @@ fn edge_counts(run: &mut Run) -> Result<(), String> {
                     match lent {
                         // The only end is the last block.
                         3 => ends = (0..n as u32).map(|i| last + i).collect(),
-                        i => slice(&mut set, i).resize(n, u32::MAX),
+                        i => set.slices()[i].resize(n, u32::MAX),
                     }
                     let applied = apply(r, &mut run.seen, &library, &set, &ends)?;
                     if applied.refusal != expected {

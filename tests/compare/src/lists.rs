@@ -1,10 +1,13 @@
 //! Random lists of calls, and 01's examples.
 
 use crate::broken;
-use crate::calls::{apply, Call, Outcome, Pair};
-use crate::inputs::{self, Column, Kind, Set, MIXES};
-use crate::meltusk::{Answer, Counts, Empty, Library, PartitionSlice, Totals};
+use crate::calls::{apply, Asked, Outcome, Pair};
+use crate::inputs::{self, Kind, MIXES};
 use crate::{Run, Test};
+use meltusk::{
+    even_ends, spread_growers, Answer, Call, Column, Counts, Empty, Library, PartitionSlice, Set,
+    Slots, Totals,
+};
 use second::random::Random;
 use second::{Delivery, DIRECTORY_LEN, FENCES, LENGTHS};
 
@@ -43,12 +46,12 @@ fn list(
     let mut pair = Pair::new(r, column);
     let mix = r.pick(&MIXES);
     for i in 0..calls {
-        let call = inputs::call(r, &pair.view(), &mix);
+        let asked = inputs::asked(r, &pair.view(), &mix);
         let small = pair.view().growers.len() <= 200;
         let outcome = match r.below(24) {
-            0 | 1 if small => broken::on_copy(run, r, library, &pair.column(), call),
+            0 | 1 if small => broken::on_copy(run, r, library, &pair.column(), asked),
             2 if small => apply_to(run, r, library, &pair),
-            _ => pair.call(&mut run.seen, library, &call).map(|_| ()),
+            _ => pair.ask(&mut run.seen, library, asked).map(|_| ()),
         };
         outcome.map_err(|why| format!("call {i}: {why}"))?;
     }
@@ -79,24 +82,23 @@ fn large(run: &mut Run) -> Result<(), String> {
     lists(run, 4, 1_000, Kind::Large)
 }
 
-/// The directory comes from the compiled library itself.
+/// A column whose directory comes from the compiled library itself.
+pub fn laid_column(run: &mut Run, r: &mut Random, library: &Library) -> Result<Column, String> {
+    let most_blocks = r.pick(&[2, 10, 10, 64]);
+    let free = r.below(4);
+    let set = inputs::set(r, most_blocks, free);
+    let ends = inputs::layout(r, &set.view());
+    let applied = apply(r, &mut run.seen, library, &set, &ends)?;
+    match applied.refusal {
+        0 => Ok(set.laid(&applied)),
+        number => Err(format!("a layout is refused by {number}")),
+    }
+}
+
 fn laid(run: &mut Run) -> Result<(), String> {
     run.cases(5, 6_000, |run, r| {
         let library = inputs::library(r);
-        let most_blocks = r.pick(&[2, 10, 10, 64]);
-        let free = r.below(4);
-        let set = inputs::set(r, most_blocks, free);
-        let ends = inputs::layout(r, &set.second());
-        let applied = apply(r, &mut run.seen, &library, &set, &ends)?;
-        if applied.refusal != 0 {
-            return Err(format!("a layout is refused by {}", applied.refusal));
-        }
-        let column = Column {
-            directory: applied.directory.to_vec(),
-            growers: set.growers,
-            weights: set.weights,
-            yields: set.yields,
-        };
+        let column = laid_column(run, r, &library)?;
         list(run, r, &library, &column, CALLS)
     })
 }
@@ -110,13 +112,10 @@ fn largest(run: &mut Run) -> Result<(), String> {
         let free = r.pick(&[0, 1, 100]);
         let used = slots - free;
         let heavy = r.one_in(2);
-        let step = (1u64 << 32) / used as u64;
         let mut set = Set {
             block: 4_096,
             used: used as u32,
-            growers: (0..used)
-                .map(|i| (i as u64 * step + r.next() % step) as u32)
-                .collect(),
+            growers: spread_growers(r, used),
             weights: (0..used)
                 .map(|_| if heavy { 100_000 } else { inputs::weight(r) })
                 .collect(),
@@ -126,14 +125,8 @@ fn largest(run: &mut Run) -> Result<(), String> {
         };
         set.resize(slots);
         let count = r.pick(&[1, 8, 64]);
-        let ends: Vec<u32> = (1..=count).map(|p| 64 / count * p - 1).collect();
-        let applied = apply(r, &mut run.seen, &library, &set, &ends)?;
-        let mut column = Column {
-            directory: applied.directory.to_vec(),
-            growers: set.growers,
-            weights: set.weights,
-            yields: set.yields,
-        };
+        let applied = apply(r, &mut run.seen, &library, &set, &even_ends(count))?;
+        let mut column = set.laid(&applied);
         if count == 8 && r.one_in(2) {
             // Partition 3 takes the records of 4 and 5; 4 and 5 are empty.
             let d = &mut column.directory;
@@ -143,7 +136,7 @@ fn largest(run: &mut Run) -> Result<(), String> {
             d[LENGTHS + 5] = 0;
         }
         let all = Call::Range(0, u32::MAX);
-        Pair::new(r, &column).call(&mut run.seen, &library, &all)?;
+        Pair::new(r, &column).ask(&mut run.seen, &library, all)?;
         list(run, r, &library, &column, 60)
     })
 }
@@ -220,7 +213,7 @@ fn examples(run: &mut Run) -> Result<(), String> {
     ];
     for (call, records, [rr, sr, rw], growers) in stated {
         let mut pair = Pair::new(&mut r, &column);
-        let outcome = pair.call(&mut run.seen, &library, &call)?;
+        let outcome = pair.ask(&mut run.seen, &library, call)?;
         let answer = Outcome::Answer(Answer {
             refusal: 0,
             totals: Totals {
@@ -236,7 +229,7 @@ fn examples(run: &mut Run) -> Result<(), String> {
         }
     }
     let mut pair = Pair::new(&mut r, &column);
-    let outcome = pair.call(&mut run.seen, &library, &Call::Partition(50))?;
+    let outcome = pair.ask(&mut run.seen, &library, Asked::Partition(50))?;
     let answer = Outcome::Partition(PartitionSlice {
         refusal: 0,
         start: 4,

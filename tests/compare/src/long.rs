@@ -2,12 +2,11 @@
 //! proper. The memory is reserved addresses; nothing but its first cells is
 //! touched.
 
-use crate::calls::of_applied;
-use crate::meltusk::{ColumnSlices, Empty, Library, SetSlices};
 use crate::{Run, Test};
-use second::{Delivery, UnlaidSet, DIRECTORY_LEN, FENCES, LENGTHS};
-#[cfg(feature = "plan")]
-use second::{Limits, PriceCard, HISTOGRAM_LEN};
+use meltusk::{Applied, Call, ColumnSlices, Empty, Library, View};
+use second::{
+    Delivery, Limits, PriceCard, UnlaidSet, DIRECTORY_LEN, FENCES, HISTOGRAM_LEN, LENGTHS,
+};
 use std::ffi::{c_int, c_void};
 
 extern "C" {
@@ -57,22 +56,27 @@ impl Drop for Long {
     }
 }
 
+/// The five calls.
+fn five(d: Delivery) -> [Call; 5] {
+    [
+        Call::Find(0),
+        Call::Range(0, 1),
+        Call::Insert(d),
+        Call::Delete(d),
+        Call::Move(d, 1),
+    ]
+}
+
 /// Each call on a column of one record and one free slot, all in partition 0.
 fn calls(run: &mut Run, column: &mut ColumnSlices, expected: u32) -> Result<(), String> {
     let library = Library { empty: Empty::Null };
     let d = Delivery::new(0, 0, 0);
-    let answers = [
-        library.find(column, 0),
-        library.range(column, 0, 1),
-        library.insert(column, d),
-        library.delete(column, d),
-        library.move_delivery(column, d, 1),
-    ];
-    for (i, answer) in answers.iter().enumerate() {
+    for call in five(d) {
+        let answer = library.call(column, &call);
         run.seen.calls += 1;
         let zero = answer.counts.rr == 0 && answer.counts.rw == 0 && answer.totals.records == 0;
         if answer.refusal != expected || !zero {
-            return Err(format!("call {i}: {answer:?} for refusal {expected}"));
+            return Err(format!("{call:?}: {answer:?} for refusal {expected}"));
         }
     }
     Ok(())
@@ -103,23 +107,14 @@ fn long(run: &mut Run) -> Result<(), String> {
             1 => [a, long_slots.slice(), b],
             _ => [a, b, long_slots.slice()],
         };
-        let set = SetSlices {
-            block: 1,
-            used: 1,
+        let set = UnlaidSet {
+            b: 1,
+            m: 1,
             growers,
             weights,
             yields,
         };
-        let second = of_applied(second::apply_layout(
-            &UnlaidSet {
-                b: set.block,
-                m: 1,
-                growers: set.growers,
-                weights: set.weights,
-                yields: set.yields,
-            },
-            &[0],
-        ));
+        let second = Applied::from(second::apply_layout(&set, &[0]));
         let compiled = library.apply_layout(&set, &[0]);
         run.seen.calls += 1;
         if compiled != second || compiled.refusal != 3 {
@@ -133,7 +128,7 @@ fn long(run: &mut Run) -> Result<(), String> {
             yields,
         };
         if which == 0 {
-            let a = library.partition(column.directory, column.growers, 0);
+            let a = library.partition(&column.view(), 0);
             run.seen.calls += 1;
             if (a.refusal, a.start, a.count) != (3, 0, 0) {
                 return Err(format!("partition: {a:?}"));
@@ -144,13 +139,20 @@ fn long(run: &mut Run) -> Result<(), String> {
     long_directory.slice()[..DIRECTORY_LEN].copy_from_slice(&proper);
     let mut slots = [[0; 2]; 3];
     let [growers, weights, yields] = &mut slots;
-    let a = library.partition(long_directory.slice(), growers, 0);
+    let mut column = ColumnSlices {
+        directory: long_directory.slice(),
+        growers,
+        weights,
+        yields,
+    };
+    let a = library.partition(&column.view(), 0);
     if (a.refusal, a.start, a.count) != (6, 0, 0) {
         return Err(format!("partition: {a:?}"));
     }
-    let set = SetSlices {
-        block: 1,
-        used: 2,
+    calls(run, &mut column, 6)?;
+    let set = UnlaidSet {
+        b: 1,
+        m: 2,
         growers: &[0, 1],
         weights,
         yields,
@@ -165,13 +167,7 @@ fn long(run: &mut Run) -> Result<(), String> {
             return Err(format!("apply_layout: {}", compiled.refusal));
         }
     }
-    let mut column = ColumnSlices {
-        directory: long_directory.slice(),
-        growers,
-        weights,
-        yields,
-    };
-    calls(run, &mut column, 6)
+    Ok(())
 }
 
 /// The snapshot of one record 0, 0, 0.
@@ -179,6 +175,15 @@ const TEXT: &[u8] = b"          1          1          1
           1          9
           0          0          0
 ";
+
+fn view<'a>(directory: &'a [u32], [growers, weights, yields]: [&'a [u32]; 3]) -> View<'a> {
+    View {
+        directory,
+        growers,
+        weights,
+        yields,
+    }
+}
 
 /// A long text is no snapshot, a long room is enough, long slices are refused
 /// by 3 and a long directory by 6.
@@ -193,7 +198,7 @@ fn snapshots(run: &mut Run) -> Result<(), String> {
     let (mut a, mut b, mut c) = ([0], [0], [0]);
     text.bytes()[..TEXT.len()].copy_from_slice(TEXT);
     let read = library.read_snapshot(text.bytes(), &mut a, &mut b, &mut c);
-    let written = library.write_snapshot(&directory, &a, &b, &c, room.bytes());
+    let written = library.write_snapshot(&view(&directory, [&a, &b, &c]), room.bytes());
     // Each refusal and the one it has to be.
     let mut refusals = vec![(read.refusal, 14), (written.refusal, 0)];
     for which in 0..3 {
@@ -204,17 +209,17 @@ fn snapshots(run: &mut Run) -> Result<(), String> {
             _ => [&mut a, &mut b, long],
         };
         let mut out = [0; TEXT.len()];
-        let written = library.write_snapshot(&directory, g, w, y, &mut out);
+        let written = library.write_snapshot(&view(&directory, [g, w, y]), &mut out);
         let read = library.read_snapshot(TEXT, g, w, y);
         refusals.extend([(written.refusal, 3), (read.refusal, 3)]);
     }
     if let Some(mut long) = Long::new(DIRECTORY_LEN) {
         long.slice()[..DIRECTORY_LEN].copy_from_slice(&directory);
         let mut out = [0; TEXT.len()];
-        let written = library.write_snapshot(long.slice(), &a, &b, &c, &mut out);
+        let written = library.write_snapshot(&view(long.slice(), [&a, &b, &c]), &mut out);
         refusals.push((written.refusal, 6));
     }
-    run.snapshots.calls += refusals.len() as u64;
+    run.seen.calls += refusals.len() as u64;
     let right = refusals.iter().all(|(is, should)| is == should);
     match right && &room.bytes()[..TEXT.len()] == TEXT {
         true => Ok(()),
@@ -223,9 +228,8 @@ fn snapshots(run: &mut Run) -> Result<(), String> {
 }
 
 /// Each call of recorder, cost and planner: its refusal and its cost, if any.
-#[cfg(feature = "plan")]
 fn planned(
-    set: &SetSlices,
+    set: &UnlaidSet,
     histograms: &mut [u32],
     ends: &[u32],
     room: &mut [u32],
@@ -234,23 +238,16 @@ fn planned(
     let card = PriceCard::FACTORY;
     let limits = Limits::new(100, 100);
     let d = Delivery::new(0, 0, 0);
-    let recorded = |refusal: u32| (refusal, 0);
     let cost = library.cost(&card, set, ends, histograms);
     let plan = library.plan(&card, &limits, set, histograms, room);
-    [
-        recorded(library.record_find(histograms, set, 0)),
-        recorded(library.record_range(histograms, set, 0, 1)),
-        recorded(library.record_insert(histograms, set, d)),
-        recorded(library.record_delete(histograms, set, d)),
-        recorded(library.record_move(histograms, set, d, 1)),
-        (cost.refusal, cost.cost),
-        (plan.refusal, plan.cost),
-    ]
+    let [find, range, insert, delete, moved] =
+        five(d).map(|call| (library.record(histograms, set, &call), 0));
+    let (cost, plan) = ((cost.refusal, cost.cost), (plan.refusal, plan.cost));
+    [find, range, insert, delete, moved, cost, plan]
 }
 
 /// Long slots are refused by 3 and long histograms by 9; long ends are no
 /// layout, and a long room is enough.
-#[cfg(feature = "plan")]
 fn plans(run: &mut Run) -> Result<(), String> {
     let (Some(mut slots), Some(mut counts), Some(mut ends), Some(mut room)) = (
         Long::new(1),
@@ -261,9 +258,9 @@ fn plans(run: &mut Run) -> Result<(), String> {
         return Ok(());
     };
     let one = [0];
-    let set = |growers, weights, yields| SetSlices {
-        block: 1,
-        used: 1,
+    let set = |growers, weights, yields| UnlaidSet {
+        b: 1,
+        m: 1,
         growers,
         weights,
         yields,
@@ -291,7 +288,7 @@ fn plans(run: &mut Run) -> Result<(), String> {
             [0, 0, 0, 0, 0, 6, 0],
         ),
     ];
-    run.planned.calls += 7 * answers.len() as u64;
+    run.seen.calls += 7 * answers.len() as u64;
     for (i, (given, expected)) in answers.iter().enumerate() {
         if *given != expected.map(|refusal| (refusal, 0)) {
             return Err(format!("case {i}: {given:?} for {expected:?}"));
@@ -303,6 +300,5 @@ fn plans(run: &mut Run) -> Result<(), String> {
 pub const TESTS: &[(&str, Test)] = &[
     ("broken input, slice counts past 32 bits", long),
     ("snapshots: slice counts past 32 bits", snapshots),
-    #[cfg(feature = "plan")]
     ("plan: slice counts past 32 bits", plans),
 ];

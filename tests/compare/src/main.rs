@@ -7,8 +7,6 @@
 //!
 //! MELTUSK_LIB=target/staticlib CARGO_TARGET_DIR=target/compare cargo run
 //! --release --offline --manifest-path tests/compare/Cargo.toml
-//!
-//! `--features plan` adds the recorder, the cost and the planner.
 
 mod broken;
 mod calls;
@@ -16,16 +14,15 @@ mod inputs;
 mod layouts;
 mod lists;
 mod long;
-mod meltusk;
 mod memory;
-#[cfg(feature = "plan")]
 mod plan;
 mod seen;
 mod snapshots;
 mod tallies;
 
+use meltusk::Seen;
 use second::random::{case_seed, Random};
-use seen::Seen;
+use snapshots::seen::Damages;
 use std::io::{BufRead, BufReader};
 use std::panic::{catch_unwind, AssertUnwindSafe};
 use std::process::{Command, Stdio};
@@ -39,24 +36,12 @@ const CHILD: &str = "MELTUSK_COMPARE_CHILD";
 pub struct Run {
     scale: f64,
     pub seen: Seen,
-    pub snapshots: snapshots::seen::Seen,
-    pub tallies: tallies::Seen,
-    #[cfg(feature = "plan")]
-    pub planned: plan::seen::Seen,
+    pub damages: Damages,
 }
 
 pub type Test = fn(&mut Run) -> Result<(), String>;
 
 impl Run {
-    /// Calls compared so far.
-    fn calls(&self) -> u64 {
-        #[cfg(feature = "plan")]
-        let planned = self.planned.calls;
-        #[cfg(not(feature = "plan"))]
-        let planned = 0;
-        self.seen.calls + self.snapshots.calls + self.tallies.calls + planned
-    }
-
     /// Random cases of one test, each with its own seed. `count` is that of
     /// scale 1.
     pub fn cases(
@@ -78,7 +63,7 @@ impl Run {
 }
 
 fn every_answer(run: &mut Run) -> Result<(), String> {
-    run.seen.complete()
+    seen::complete(&run.seen)
 }
 
 fn tests() -> Vec<(&'static str, Test)> {
@@ -90,7 +75,6 @@ fn tests() -> Vec<(&'static str, Test)> {
     tests.push(("every answer of every call has occurred", every_answer));
     tests.extend(snapshots::TESTS);
     tests.extend(tallies::TESTS);
-    #[cfg(feature = "plan")]
     tests.extend(plan::TESTS);
     tests
 }
@@ -100,15 +84,12 @@ fn run_tests(scale: f64) {
     let mut run = Run {
         scale,
         seen: Seen::default(),
-        snapshots: snapshots::seen::Seen::default(),
-        tallies: tallies::Seen::default(),
-        #[cfg(feature = "plan")]
-        planned: plan::seen::Seen::default(),
+        damages: Damages::default(),
     };
     for (name, test) in tests() {
-        let before = run.calls();
+        let before = run.seen.calls;
         match test(&mut run) {
-            Ok(()) => match run.calls() - before {
+            Ok(()) => match run.seen.calls - before {
                 0 => println!("{PASSED}{name}"),
                 calls => println!("{PASSED}{name}: {calls} calls"),
             },

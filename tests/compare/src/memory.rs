@@ -102,10 +102,17 @@ impl<T: Cell> Memory<T> {
         std::hint::black_box(&self.cells) == std::hint::black_box(&other.cells)
     }
 
-    /// The first cell that differs from the second implementation's.
-    pub fn difference(&self, second: &Memory<T>, names: &[&str]) -> Option<String> {
-        let at = (0..self.cells.len()).find(|&i| self.cells[i] != second.cells[i])?;
-        let values = format!("{} for {}", self.cells[at], second.cells[at]);
+    /// The first cell that differs from what is expected, for a message.
+    pub fn compared(&self, expected: &Memory<T>, names: &[&str]) -> String {
+        match self.difference(expected, names) {
+            Some(text) => format!("{} differ, first {text}", names.join(", ")),
+            None => format!("{} the same", names.join(", ")),
+        }
+    }
+
+    fn difference(&self, expected: &Memory<T>, names: &[&str]) -> Option<String> {
+        let at = (0..self.cells.len()).find(|&i| self.cells[i] != expected.cells[i])?;
+        let values = format!("{} for {}", self.cells[at], expected.cells[at]);
         for (&(first, past), name) in self.spans.iter().zip(names) {
             if at < first {
                 return Some(format!("guard {} before {name}: {values}", first - at));

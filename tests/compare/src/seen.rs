@@ -1,29 +1,19 @@
-//! What the compared calls were: every answer, every kind of move and of scan
-//! has to occur, or the comparison shows less than it says.
+//! What the calls on columns were: every answer, every kind of move and of
+//! scan.
 
-use crate::calls::Call;
+use crate::calls::Asked;
+use meltusk::{Call, Seen};
 use second::{FENCES, LENGTHS};
 
-const CALLS: [&str; 7] = [
-    "find",
-    "range",
-    "insert",
-    "delete",
-    "move",
-    "partition",
-    "apply_layout",
-];
-const APPLY: usize = 6;
-
 /// The refusals of each call, 0 for accepted.
-const ANSWERS: [&[usize]; 7] = [
-    &[0, 2, 3, 6, 8],
-    &[0, 2, 3, 6, 7, 8],
-    &[0, 2, 3, 6, 8, 12],
-    &[0, 2, 3, 6, 8, 13],
-    &[0, 2, 3, 6, 8, 13],
-    &[0, 2, 3, 6],
-    &[0, 2, 3, 4, 5, 6, 8],
+const ANSWERS: [(&str, &[u32]); 7] = [
+    ("find", &[0, 2, 3, 6, 8]),
+    ("range", &[0, 2, 3, 6, 7, 8]),
+    ("insert", &[0, 2, 3, 6, 8, 12]),
+    ("delete", &[0, 2, 3, 6, 8, 13]),
+    ("move", &[0, 2, 3, 6, 8, 13]),
+    ("partition", &[0, 2, 3, 6]),
+    ("apply_layout", &[0, 2, 3, 4, 5, 6, 8]),
 ];
 
 const MOVES: [&str; 8] = [
@@ -47,22 +37,14 @@ const SCANS: [&str; 4] = [
     "match past the last whole stride",
 ];
 
-#[derive(Default)]
-pub struct Seen {
-    pub calls: u64,
-    answers: [[u64; 16]; 7],
-    moves: [u64; 8],
-    scans: [u64; 4],
-}
-
-fn which(call: &Call) -> usize {
-    match call {
-        Call::Find(_) => 0,
-        Call::Range(..) => 1,
-        Call::Insert(_) => 2,
-        Call::Delete(_) => 3,
-        Call::Move(..) => 4,
-        Call::Partition(_) => 5,
+fn name(asked: &Asked) -> &'static str {
+    match asked {
+        Asked::Call(Call::Find(_)) => "find",
+        Asked::Call(Call::Range(..)) => "range",
+        Asked::Call(Call::Insert(_)) => "insert",
+        Asked::Call(Call::Delete(_)) => "delete",
+        Asked::Call(Call::Move(..)) => "move",
+        Asked::Partition(_) => "partition",
     }
 }
 
@@ -78,78 +60,59 @@ fn parts<'a>(growers: &'a [u32], lengths: &[u32]) -> Vec<&'a [u32]> {
     parts
 }
 
-impl Seen {
-    /// Notes the strides of the partitions that are scanned for lo to hi.
-    fn note_scans(&mut self, parts: &[&[u32]], lo: u32, hi: u32) {
-        for part in parts {
-            for stride in part.chunks(STRIDE) {
-                let matches = stride.iter().filter(|&&g| lo <= g && g <= hi).count();
-                match (stride.len() == STRIDE, matches) {
-                    (true, 0) => self.scans[0] += 1,
-                    (true, STRIDE) => self.scans[2] += 1,
-                    (true, _) => self.scans[1] += 1,
-                    (false, n) => self.scans[3] += u64::from(n > 0 && part.len() > STRIDE),
-                }
+/// Notes the strides of the partitions that are scanned for lo to hi.
+fn note_scans(seen: &mut Seen, parts: &[&[u32]], lo: u32, hi: u32) {
+    for part in parts {
+        for stride in part.chunks(STRIDE) {
+            let matches = stride.iter().filter(|&&g| lo <= g && g <= hi).count();
+            match (stride.len() == STRIDE, matches) {
+                (true, 0) => seen.kind(true, SCANS[0]),
+                (true, STRIDE) => seen.kind(true, SCANS[2]),
+                (true, _) => seen.kind(true, SCANS[1]),
+                (false, n) => seen.kind(n > 0 && part.len() > STRIDE, SCANS[3]),
             }
         }
     }
+}
 
-    /// Notes a call and its refusal; growers and directory are those before
-    /// the call.
-    pub fn note(&mut self, call: &Call, refusal: u32, growers: &[u32], directory: &[u32]) {
-        self.calls += 1;
-        self.answers[which(call)][refusal as usize & 15] += 1;
-        if refusal != 0 {
-            return;
+/// Notes what was asked and its refusal; growers and directory are those
+/// before the call.
+pub fn note(seen: &mut Seen, asked: &Asked, refusal: u32, growers: &[u32], directory: &[u32]) {
+    seen.answer(name(asked), refusal);
+    let Asked::Call(call) = asked else { return };
+    if refusal != 0 {
+        return;
+    }
+    let k = directory[1] as usize;
+    let lengths = &directory[LENGTHS..LENGTHS + k];
+    let fences = &directory[FENCES..FENCES + k];
+    let partition = |g: u32| fences.partition_point(|&f| f < g).min(k - 1);
+    let parts = parts(growers, lengths);
+    let past = |seen: &mut Seen, lengths: &[u32], empty: usize, records: usize| {
+        seen.kind(lengths.contains(&0), MOVES[empty]);
+        seen.kind(lengths.iter().any(|&n| n > 0), MOVES[records]);
+    };
+    match *call {
+        Call::Find(g) => note_scans(seen, &parts[partition(g)..=partition(g)], g, g),
+        Call::Range(lo, hi) => {
+            note_scans(seen, &parts[partition(lo)..=partition(hi)], lo, hi);
         }
-        let k = directory[1] as usize;
-        let lengths = &directory[LENGTHS..LENGTHS + k];
-        let fences = &directory[FENCES..FENCES + k];
-        let partition = |g: u32| fences.partition_point(|&f| f < g).min(k - 1);
-        let parts = parts(growers, lengths);
-        let mut past = |lengths: &[u32], empty: usize, records: usize| {
-            self.moves[empty] += u64::from(lengths.contains(&0));
-            self.moves[records] += u64::from(lengths.iter().any(|&n| n > 0));
-        };
-        match *call {
-            Call::Find(g) => self.note_scans(&parts[partition(g)..=partition(g)], g, g),
-            Call::Range(lo, hi) => self.note_scans(&parts[partition(lo)..=partition(hi)], lo, hi),
-            Call::Insert(d) => past(&lengths[partition(d.grower) + 1..], 0, 1),
-            Call::Delete(d) => past(&lengths[partition(d.grower) + 1..], 2, 3),
-            Call::Move(d, g) => {
-                let (from, to) = (partition(d.grower), partition(g));
-                if from == to {
-                    self.moves[4] += 1;
-                } else if from < to {
-                    past(&lengths[from + 1..to], 5, 7);
-                } else {
-                    past(&lengths[to + 1..from], 6, 7);
-                }
+        Call::Insert(d) => past(seen, &lengths[partition(d.grower) + 1..], 0, 1),
+        Call::Delete(d) => past(seen, &lengths[partition(d.grower) + 1..], 2, 3),
+        Call::Move(d, g) => {
+            let (from, to) = (partition(d.grower), partition(g));
+            if from == to {
+                seen.kind(true, MOVES[4]);
+            } else if from < to {
+                past(seen, &lengths[from + 1..to], 5, 7);
+            } else {
+                past(seen, &lengths[to + 1..from], 6, 7);
             }
-            _ => {}
         }
     }
+}
 
-    pub fn note_applied(&mut self, refusal: u32) {
-        self.calls += 1;
-        self.answers[APPLY][refusal as usize & 15] += 1;
-    }
-
-    /// An error if an answer or a kind of move or scan has not occurred.
-    pub fn complete(&self) -> Result<(), String> {
-        for (call, answers) in ANSWERS.iter().enumerate() {
-            for &answer in *answers {
-                if self.answers[call][answer] == 0 {
-                    return Err(format!("{} never gave {answer}", CALLS[call]));
-                }
-            }
-        }
-        let moves = MOVES.iter().zip(&self.moves);
-        for (name, &count) in moves.chain(SCANS.iter().zip(&self.scans)) {
-            if count == 0 {
-                return Err(format!("no {name}"));
-            }
-        }
-        Ok(())
-    }
+/// An error if an answer or a kind of move or scan has not occurred.
+pub fn complete(seen: &Seen) -> Result<(), String> {
+    seen.complete(&ANSWERS, &[&MOVES[..], &SCANS[..]].concat())
 }

@@ -1,21 +1,19 @@
 //! Adding to a tally.
 
-use crate::meltusk::{tally_add, Counts};
 use crate::{Run, Test};
+use meltusk::{tally_add, Seen};
 use second::random::Random;
 use second::types::TALLY_LIMIT;
 
 const GUARD: u64 = 0x5A5A_5A5A_5A5A_5A5A;
 
-/// Which answers have occurred, in each of the three numbers.
-#[derive(Default)]
-pub struct Seen {
-    pub calls: u64,
-    accepted: u64,
-    refused: [u64; 3],
-    at_the_limit: u64,
-    wrapping: u64,
-}
+const KINDS: [&str; 5] = [
+    "tally: 10 by rr alone",
+    "tally: 10 by sr alone",
+    "tally: 10 by rw alone",
+    "tally: 10^12 itself",
+    "tally: a sum past 64 bits",
+];
 
 /// Small, near the limit, or near the end of the word.
 fn number(r: &mut Random) -> u64 {
@@ -49,29 +47,27 @@ fn one(run: &mut Run, old: [u64; 3], report: [u64; 3]) -> Result<u32, String> {
     let counts = second::Counts::new(report[0], report[1], report[2]);
     let expected = second::tally_add(&mut theirs, &counts);
     let mut ours = [GUARD, old[0], old[1], old[2], GUARD];
-    let given = Counts {
-        rr: report[0],
-        sr: report[1],
-        rw: report[2],
-    };
-    let answer = tally_add(&mut ours, &given);
+    let [_, rr, sr, rw, _] = &mut ours;
+    let answer = tally_add(rr, sr, rw, &counts.into());
     if answer != expected || ours != [GUARD, theirs.rr, theirs.sr, theirs.rw, GUARD] {
         return Err(format!(
             "{old:?} and {report:?}: {answer} {ours:?}, expected {expected} {theirs:?}"
         ));
     }
-    let seen = &mut run.tallies;
-    seen.calls += 1;
-    let over = |i: usize| old[i].checked_add(report[i]).is_none_or(|s| s > TALLY_LIMIT);
-    for i in 0..3 {
-        seen.refused[i] += u64::from((0..3).all(|j| over(j) == (i == j)));
-    }
-    seen.wrapping += u64::from((0..3).any(|i| old[i].checked_add(report[i]).is_none()));
-    if answer == 0 {
-        seen.accepted += 1;
-        seen.at_the_limit += u64::from([theirs.rr, theirs.sr, theirs.rw].contains(&TALLY_LIMIT));
-    }
+    note(&mut run.seen, old, report, answer);
     Ok(answer)
+}
+
+fn note(seen: &mut Seen, old: [u64; 3], report: [u64; 3], answer: u32) {
+    seen.answer("tally_add", answer);
+    let sums: [Option<u64>; 3] = std::array::from_fn(|i| old[i].checked_add(report[i]));
+    let over = sums.map(|sum| sum.is_none_or(|s| s > TALLY_LIMIT));
+    for i in 0..3 {
+        seen.kind((0..3).all(|j| over[j] == (i == j)), KINDS[i]);
+    }
+    let reached = answer == 0 && sums.contains(&Some(TALLY_LIMIT));
+    seen.kind(reached, KINDS[3]);
+    seen.kind(sums.contains(&None), KINDS[4]);
 }
 
 fn single(run: &mut Run) -> Result<(), String> {
@@ -109,19 +105,7 @@ fn lists(run: &mut Run) -> Result<(), String> {
 }
 
 fn every_answer(run: &mut Run) -> Result<(), String> {
-    let seen = &run.tallies;
-    let missing = [
-        (seen.accepted, "accepted"),
-        (seen.refused[0], "10 by rr alone"),
-        (seen.refused[1], "10 by sr alone"),
-        (seen.refused[2], "10 by rw alone"),
-        (seen.at_the_limit, "10^12 itself"),
-        (seen.wrapping, "a sum past 64 bits"),
-    ];
-    match missing.iter().find(|(count, _)| *count == 0) {
-        Some((_, what)) => Err(format!("never {what}")),
-        None => Ok(()),
-    }
+    run.seen.complete(&[("tally_add", &[0, 10])], &KINDS)
 }
 
 pub const TESTS: &[(&str, Test)] = &[

@@ -1,14 +1,13 @@
-//! Recorder, cost and planner: the second stage of the comparison.
+//! Recorder, cost and planner.
 
 mod calls;
-mod library;
-pub mod seen;
+mod seen;
 
-use crate::inputs::{self, Set, EDGE_COUNTS, LIBRARIES};
+use crate::inputs::{self, EDGE_COUNTS};
 use crate::layouts::{self, Fault, END_FAULTS, SET_FAULTS};
-use crate::meltusk::{Empty, Library};
 use crate::{Run, Test};
-use calls::{cost, plan, record_second, By, Case, Recorded, Recorder};
+use calls::{cost, plan, By, Case, Recorder};
+use meltusk::{record_second, Call, Empty, Library, Set, Slots, LIBRARIES};
 use second::random::Random;
 use second::recorder::count_index;
 use second::{Delivery, Limits, PriceCard, COUNT_LIMIT, HISTOGRAMS, HISTOGRAM_LEN, LIMIT_LIMIT};
@@ -75,35 +74,34 @@ fn delivery(r: &mut Random, set: &Set) -> Delivery {
 }
 
 /// One of the five calls, weights and yields in range, lo at most hi.
-fn proper_call(r: &mut Random, set: &Set, which: usize) -> Recorded {
+fn proper_call(r: &mut Random, set: &Set, which: usize) -> Call {
     match which {
-        0 => Recorded::Find(near(r, set)),
+        0 => Call::Find(near(r, set)),
         1 => {
             let (x, y) = (near(r, set), near(r, set));
-            Recorded::Range(x.min(y), x.max(y))
+            Call::Range(x.min(y), x.max(y))
         }
-        2 => Recorded::Insert(Delivery {
+        2 => Call::Insert(Delivery {
             grower: near(r, set),
             ..delivery(r, set)
         }),
-        3 => Recorded::Delete(delivery(r, set)),
-        _ => Recorded::Move(delivery(r, set), near(r, set)),
+        3 => Call::Delete(delivery(r, set)),
+        _ => Call::Move(delivery(r, set), near(r, set)),
     }
 }
 
-fn any_call(r: &mut Random, set: &Set) -> Recorded {
+fn any_call(r: &mut Random, set: &Set) -> Call {
     let which = r.below(5);
     let mut call = proper_call(r, set, which);
     if r.one_in(12) {
         let heavy = r.one_in(2);
-        match &mut call {
-            Recorded::Find(_) => {}
-            Recorded::Range(lo, hi) => std::mem::swap(lo, hi),
-            Recorded::Insert(d) | Recorded::Delete(d) | Recorded::Move(d, _) if heavy => {
-                d.weight = inputs::weight_out(r);
-            }
-            Recorded::Insert(d) | Recorded::Delete(d) | Recorded::Move(d, _) => {
-                d.oil_yield = inputs::oil_yield_out(r);
+        match call.offered() {
+            Some(d) if heavy => d.weight = inputs::weight_out(r),
+            Some(d) => d.oil_yield = inputs::oil_yield_out(r),
+            None => {
+                if let Call::Range(lo, hi) = &mut call {
+                    std::mem::swap(lo, hi);
+                }
             }
         }
     }
@@ -115,7 +113,7 @@ fn recorded_histograms(r: &mut Random, set: &Set) -> Vec<u32> {
     let mut histograms = vec![0; HISTOGRAM_LEN];
     for _ in 0..r.pick(&[0, 3, 20, 100]) {
         let call = any_call(r, set);
-        record_second(&set.second(), &mut histograms, &call);
+        record_second(&mut histograms, &set.view(), &call);
     }
     histograms
 }
@@ -167,13 +165,13 @@ fn room(r: &mut Random, blocks: usize) -> Vec<u32> {
 fn case(r: &mut Random, most_blocks: usize) -> Case {
     let free = r.within(1, 3);
     let set = inputs::set(r, most_blocks, free);
-    let blocks = set.second().blocks();
+    let blocks = set.view().blocks();
     let card = card(r);
     let which = r.below(5);
     Case {
         limits: limits(r, &card, blocks),
         card,
-        ends: inputs::layout(r, &set.second()),
+        ends: inputs::layout(r, &set.view()),
         histograms: histograms(r, &set),
         room: room(r, blocks),
         call: proper_call(r, &set, which),
@@ -196,7 +194,7 @@ fn recorder(run: &mut Run) -> Result<(), String> {
         for i in 0..30 {
             let call = any_call(r, &set);
             recorder
-                .record(&mut run.planned, &library, &call)
+                .record(&mut run.seen, &library, &call)
                 .map_err(|why| format!("call {i}: {why}"))?;
         }
         Ok(())
@@ -209,9 +207,9 @@ fn costs(run: &mut Run) -> Result<(), String> {
         let most_blocks = r.pick(&[3, 12, 64]);
         let mut case = case(r, most_blocks);
         if r.one_in(4) {
-            case.ends = inputs::any_ends(r, case.set.second().blocks());
+            case.ends = inputs::any_ends(r, case.set.view().blocks());
         }
-        cost(r, &mut run.planned, &library, &case).map(|_| ())
+        cost(r, &mut run.seen, &library, &case).map(|_| ())
     })
 }
 
@@ -220,10 +218,10 @@ fn plans(run: &mut Run, test: u64, count: u64, most_blocks: usize, by: By) -> Re
     run.cases(test, count, |run, r| {
         let library = inputs::library(r);
         let mut case = case(r, most_blocks);
-        let (planned, ends) = plan(r, &mut run.planned, &library, &case, by)?;
+        let (planned, ends) = plan(r, &mut run.seen, &library, &case, by)?;
         if planned.refusal == 0 {
             case.ends = ends;
-            let costed = cost(r, &mut run.planned, &library, &case)?;
+            let costed = cost(r, &mut run.seen, &library, &case)?;
             if costed.refusal != 0 || costed.cost != planned.cost {
                 return Err(format!("{planned:?}, but {costed:?} for {:?}", case.ends));
             }
@@ -316,20 +314,16 @@ impl CaseFault {
             InsertBelow => case.limits.insert = 2 * (case.card.rr + case.card.rw) - 1,
             Room(n) => case.room.truncate(n),
             RangeFalls => match &mut case.call {
-                Recorded::Range(lo, hi) if *lo < *hi => std::mem::swap(lo, hi),
+                Call::Range(lo, hi) if *lo < *hi => std::mem::swap(lo, hi),
                 _ => return false,
             },
-            OfferedWeight(weight) => match &mut case.call {
-                Recorded::Insert(d) | Recorded::Delete(d) | Recorded::Move(d, _) => {
-                    d.weight = weight;
-                }
-                _ => return false,
+            OfferedWeight(weight) => match case.call.offered() {
+                Some(d) => d.weight = weight,
+                None => return false,
             },
-            OfferedYield(oil_yield) => match &mut case.call {
-                Recorded::Insert(d) | Recorded::Delete(d) | Recorded::Move(d, _) => {
-                    d.oil_yield = oil_yield;
-                }
-                _ => return false,
+            OfferedYield(oil_yield) => match case.call.offered() {
+                Some(d) => d.oil_yield = oil_yield,
+                None => return false,
             },
             CountsAtLimit => case.histograms.fill(COUNT_LIMIT),
             // In a used block or a later one.
@@ -370,7 +364,7 @@ fn accepted(r: &mut Random, which: usize) -> Case {
     Case {
         limits: Limits::new(LIMIT_LIMIT, LIMIT_LIMIT),
         card,
-        ends: inputs::layout(r, &set.second()),
+        ends: inputs::layout(r, &set.view()),
         histograms: recorded_histograms(r, &set),
         room: vec![7; 64],
         call: proper_call(r, &set, which),
@@ -385,7 +379,7 @@ fn made(
     case: &Case,
     target: Target,
 ) -> Result<u32, String> {
-    let seen = &mut run.planned;
+    let seen = &mut run.seen;
     match target {
         Target::Record => {
             Recorder::new(r, &case.set, &case.histograms).record(seen, library, &case.call)
@@ -458,7 +452,7 @@ fn edge_counts(run: &mut Run) -> Result<(), String> {
                 for lent in 0..6 {
                     for n in EDGE_COUNTS {
                         let mut case = accepted(r, which);
-                        let last = case.set.second().blocks() as u32 - 1;
+                        let last = case.set.view().blocks() as u32 - 1;
                         match lent {
                             3 => case.histograms.resize(n, 0),
                             // The only end is the last block.
@@ -468,7 +462,7 @@ fn edge_counts(run: &mut Run) -> Result<(), String> {
                                 case.limits.insert = 2 * (case.card.rr + case.card.rw);
                                 case.room = vec![7; n];
                             }
-                            i => layouts::slice(&mut case.set, i).resize(n, u32::MAX),
+                            i => case.set.slices()[i].resize(n, u32::MAX),
                         }
                         let expected = match (lent, target) {
                             (3, _) => 9,
@@ -543,9 +537,9 @@ fn examples(run: &mut Run) -> Result<(), String> {
     };
     set.resize(9);
     let mut recorder = Recorder::new(&mut r, &set, &[0; HISTOGRAM_LEN]);
-    let insert = Recorded::Insert(Delivery::new(15, 100, 2_000));
-    for call in [Recorded::Find(30); 5].iter().chain(&[insert]) {
-        let refusal = recorder.record(&mut run.planned, &library, call)?;
+    let insert = Call::Insert(Delivery::new(15, 100, 2_000));
+    for call in [Call::Find(30); 5].iter().chain(&[insert]) {
+        let refusal = recorder.record(&mut run.seen, &library, call)?;
         if refusal != 0 {
             return Err(format!("{call:?}: refusal {refusal}"));
         }
@@ -569,14 +563,14 @@ fn examples(run: &mut Run) -> Result<(), String> {
     ];
     for (read, insert, refusal, cost, ends) in stated {
         case.limits = Limits::new(read, insert);
-        let (a, given) = plan(&mut r, &mut run.planned, &library, &case, By::Listing)?;
+        let (a, given) = plan(&mut r, &mut run.seen, &library, &case, By::Listing)?;
         if (a.refusal, a.cost, &given[..]) != (refusal, cost, ends) {
             return Err(format!("limits {read} and {insert}: {a:?}, ends {given:?}"));
         }
     }
     for (ends, stated) in [(&[3][..], 40), (&[1, 3], 35), (&[0, 1, 3], 35)] {
         case.ends = ends.to_vec();
-        let a = cost(&mut r, &mut run.planned, &library, &case)?;
+        let a = cost(&mut r, &mut run.seen, &library, &case)?;
         if a.refusal != 0 || a.cost != stated {
             return Err(format!("cost of {ends:?}: {a:?}"));
         }
@@ -585,7 +579,7 @@ fn examples(run: &mut Run) -> Result<(), String> {
 }
 
 fn every_answer(run: &mut Run) -> Result<(), String> {
-    run.planned.complete()
+    seen::complete(&run.seen)
 }
 
 pub const TESTS: &[(&str, Test)] = &[

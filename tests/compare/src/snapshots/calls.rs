@@ -1,16 +1,12 @@
 //! A snapshot written or read by both implementations, and the comparison
 //! after it.
 
-use super::seen::Seen;
-use crate::calls::{directory_text, of_applied, slots_text};
-use crate::inputs::Column;
-use crate::meltusk::{Applied, Library, Written, DIRECTORY};
-use crate::memory::{Cell, Memory};
+use super::seen;
+use crate::calls::{directory_text, slots_text, NAMES};
+use crate::memory::Memory;
+use meltusk::{Applied, Column, Library, Seen, View, Written, DIRECTORY};
 use second::random::Random;
 use second::{snapshot_size, BLOCK_LIMIT, LENGTHS};
-
-/// Order of the slices of a column in its memory.
-const NAMES: [&str; 4] = ["growers", "weights", "yields", "directory"];
 
 /// Most bytes printed of a failed case.
 const PRINTED: usize = 2_000;
@@ -67,13 +63,6 @@ pub fn old_slots(r: &mut Random, lengths: [usize; 3]) -> [Vec<u32>; 3] {
     })
 }
 
-fn memory_text<T: Cell>(after: &Memory<T>, expected: &Memory<T>, names: &[&str]) -> String {
-    match after.difference(expected, names) {
-        Some(text) => format!("{} differ, first {text}", names.join(", ")),
-        None => format!("{} the same", names.join(", ")),
-    }
-}
-
 fn shown(text: &[u8]) -> String {
     let more = if text.len() > PRINTED { " .." } else { "" };
     let first = &text[..text.len().min(PRINTED)];
@@ -96,14 +85,17 @@ pub fn write(
     let before = slots.clone();
     let [growers, weights, yields, directory] = slots.lend();
     let [text] = compiled_text.lend();
-    let compiled = library.write_snapshot(directory, growers, weights, yields, text);
+    let column = View {
+        directory,
+        growers,
+        weights,
+        yields,
+    };
+    let compiled = library.write_snapshot(&column, text);
     let [text] = second_text.lend();
     let answer = second::snapshot_write(&c.growers, &c.weights, &c.yields, &c.directory, text);
-    let second = Written {
-        refusal: answer.refusal,
-        bytes: answer.written as u64,
-    };
-    seen.note_write(c, room, second.refusal);
+    let second = Written::from(answer);
+    seen::note_write(seen, c, room, second.refusal);
     let text = compiled_text.slice(0);
     let same = compiled == second && compiled_text.equals(&second_text) && slots.equals(&before);
     if same && text[answer.written..] == old[answer.written..] {
@@ -111,8 +103,8 @@ pub fn write(
     }
     Err(format!(
         "write_snapshot: compiled {compiled:?}, second {second:?}; {}; {}; text {}, room {room}, {}, {}",
-        memory_text(&compiled_text, &second_text, &["text"]),
-        memory_text(&slots, &before, &NAMES),
+        compiled_text.compared(&second_text, &["text"]),
+        slots.compared(&before, &NAMES),
         shown(text),
         directory_text(&c.directory),
         slots_text(&c.growers, &c.weights, &c.yields)
@@ -148,8 +140,8 @@ pub fn read(
     let [growers, weights, yields] = compiled_slots.lend();
     let compiled = library.read_snapshot(bytes, growers, weights, yields);
     let [growers, weights, yields] = second_slots.lend();
-    let second = of_applied(second::snapshot_read(text.lent(), growers, weights, yields));
-    seen.note_read(&second, old[0].len());
+    let second = Applied::from(second::snapshot_read(text.lent(), growers, weights, yields));
+    seen::note_read(seen, &second, old[0].len());
     let same =
         compiled == second && compiled_slots.equals(&second_slots) && lent.equals(&lent_before);
     if same && leaves(&compiled, &before, &compiled_slots) {
@@ -167,8 +159,8 @@ pub fn read(
         directory_text(&compiled.directory),
         second.refusal,
         directory_text(&second.directory),
-        memory_text(&compiled_slots, &second_slots, &NAMES[..3]),
-        memory_text(&lent, &lent_before, &["text"]),
+        compiled_slots.compared(&second_slots, &NAMES[..3]),
+        lent.compared(&lent_before, &["text"]),
         shown(text.lent()),
         slots_text(&old[0], &old[1], &old[2])
     ))

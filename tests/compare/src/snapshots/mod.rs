@@ -9,7 +9,9 @@ mod writing;
 use crate::{Run, Test};
 
 fn every_answer(run: &mut Run) -> Result<(), String> {
-    run.snapshots.complete(run.scale)
+    seen::complete(&run.seen)?;
+    run.damages.complete()?;
+    run.damages.enough(&run.seen, run.scale)
 }
 
 pub const TESTS: &[(&str, Test)] = &[

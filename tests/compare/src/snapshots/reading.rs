@@ -2,11 +2,12 @@
 
 use super::calls::{old_slots, read_back, size, text_of, write, Text};
 use super::damage::{damages, line, Damage, Draft, Effect};
+use super::seen;
 use super::writing::{lines, same_column};
-use crate::inputs::{self, Column, Kind, EDGE_COUNTS, LIBRARIES};
+use crate::inputs::{self, Kind, EDGE_COUNTS};
 use crate::lists;
-use crate::meltusk::{Empty, Library};
 use crate::Run;
+use meltusk::{spread_growers, Column, Library, LIBRARIES};
 use second::random::Random;
 use second::{BLOCK_LIMIT, DIRECTORY_LEN, FENCES, LENGTHS, SLOT_LIMIT};
 
@@ -84,14 +85,13 @@ fn judged(
     let Some(lengths) = lent.lengths(r, given.used) else {
         return Ok(None);
     };
-    let seen = &mut run.snapshots;
     let old = old_slots(r, lengths);
-    let (refusal, column) = read_back(r, seen, library, &given.text, &old)?;
+    let (refusal, column) = read_back(r, &mut run.seen, library, &given.text, &old)?;
     if given.effect != Effect::None {
-        seen.note_damaged();
+        run.damages.note();
     }
     if lent == Lent::Fewer {
-        seen.note_few(given.effect, refusal);
+        seen::note_few(&mut run.seen, given.effect, refusal);
     }
     match given.expected(lengths) {
         Some(number) if number != refusal => Err(format!(
@@ -169,7 +169,7 @@ pub fn alone(run: &mut Run) -> Result<(), String> {
                 let with = |why| format!("{damage:?}: {why}");
                 let answer = judged(run, r, &library, &given, lent).map_err(with)?;
                 if let Some((refusal, _)) = answer {
-                    run.snapshots.note_damage(kind, refusal);
+                    run.damages.note_alone(kind, refusal);
                 }
             }
         }
@@ -204,8 +204,8 @@ fn read_damaged(
     slots: usize,
 ) -> Result<u32, String> {
     let old = old_slots(r, [slots; 3]);
-    let (refusal, _) = read_back(r, &mut run.snapshots, library, text, &old)?;
-    run.snapshots.note_damaged();
+    let (refusal, _) = read_back(r, &mut run.seen, library, text, &old)?;
+    run.damages.note();
     Ok(refusal)
 }
 
@@ -342,13 +342,12 @@ pub fn slice_lengths(run: &mut Run) -> Result<(), String> {
     ];
     run.cases(71, 2, |run, r| {
         let text = text_of(&lists::main_column())?;
-        for empty in [Empty::Null, Empty::Place] {
-            let library = Library { empty };
+        for library in LIBRARIES {
             for text in [&text[..], &text[1..], &[]] {
                 let text = Text::whole(text);
                 for lengths in refused {
                     let old = old_slots(r, lengths);
-                    let (refusal, _) = read_back(r, &mut run.snapshots, &library, &text, &old)?;
+                    let (refusal, _) = read_back(r, &mut run.seen, &library, &text, &old)?;
                     if refusal != 3 {
                         return Err(format!("lengths {lengths:?}: refusal {refusal}"));
                     }
@@ -375,7 +374,7 @@ pub fn edge_counts(run: &mut Run) -> Result<(), String> {
                     let expected = if lent == 3 { 14 } else { 3 };
                     let old = old_slots(r, lengths);
                     let text = Text::whole(&text);
-                    let (refusal, _) = read_back(r, &mut run.snapshots, &library, &text, &old)?;
+                    let (refusal, _) = read_back(r, &mut run.seen, &library, &text, &old)?;
                     if refusal != expected {
                         return Err(format!("slice {lent} of {n}: refusal {refusal}"));
                     }
@@ -388,10 +387,7 @@ pub fn edge_counts(run: &mut Run) -> Result<(), String> {
 
 /// 262,144 deliveries in 64 partitions, no free slot.
 fn largest_column(r: &mut Random) -> Column {
-    let step = (1u64 << 32) / SLOT_LIMIT as u64;
-    let growers: Vec<u32> = (0..SLOT_LIMIT as u64)
-        .map(|i| (i * step + r.next() % step) as u32)
-        .collect();
+    let growers = spread_growers(r, SLOT_LIMIT);
     let mut directory = vec![0; DIRECTORY_LEN];
     let length = SLOT_LIMIT / BLOCK_LIMIT;
     directory[0] = 4_096;
@@ -430,22 +426,22 @@ pub fn largest(run: &mut Run) -> Result<(), String> {
     run.cases(72, 1, |run, r| {
         let library = inputs::library(r);
         let c = largest_column(r);
-        let (refusal, text) = write(r, &mut run.snapshots, &library, &c, size(&c))?;
+        let (refusal, text) = write(r, &mut run.seen, &library, &c, size(&c))?;
         stated("written", refusal, 0)?;
         if text != lines(&c) {
             return Err("written: another text".into());
         }
-        let (refusal, _) = write(r, &mut run.snapshots, &library, &c, size(&c) - 1)?;
+        let (refusal, _) = write(r, &mut run.seen, &library, &c, size(&c) - 1)?;
         stated("room one byte short", refusal, 15)?;
         let whole = Text::whole(&text);
         let old = old_slots(r, [SLOT_LIMIT; 3]);
-        let (refusal, column) = read_back(r, &mut run.snapshots, &library, &whole, &old)?;
+        let (refusal, column) = read_back(r, &mut run.seen, &library, &whole, &old)?;
         stated("read", refusal, 0)?;
         if column != c {
             return Err("read: another column".into());
         }
         let old = old_slots(r, [SLOT_LIMIT - 1; 3]);
-        let (refusal, _) = read_back(r, &mut run.snapshots, &library, &whole, &old)?;
+        let (refusal, _) = read_back(r, &mut run.seen, &library, &whole, &old)?;
         stated("read, one slot too few", refusal, 12)?;
         for (back, byte) in NEAR_THE_END {
             let mut changed = text.clone();

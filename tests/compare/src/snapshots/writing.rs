@@ -3,11 +3,11 @@
 use super::calls::{old_slots, read, size, write, Text};
 use super::damage::line;
 use crate::broken::{self, Fault, FAULTS};
-use crate::calls::{apply, Call, Pair};
-use crate::inputs::{self, Column, Kind, EDGE_COUNTS, LIBRARIES, MIXES};
+use crate::calls::{Asked, Pair};
+use crate::inputs::{self, Kind, EDGE_COUNTS, MIXES};
 use crate::lists;
-use crate::meltusk::{Empty, Library};
 use crate::Run;
+use meltusk::{Call, Column, Empty, Library, Slots, LIBRARIES};
 use second::random::Random;
 use second::{SLOT_LIMIT, WEIGHT_LIMIT, YIELD_LIMIT};
 
@@ -29,7 +29,7 @@ pub fn main_text(run: &mut Run) -> Result<(), String> {
     let library = Library { empty: Empty::Null };
     let mut r = Random::new(0);
     let c = lists::main_column();
-    let seen = &mut run.snapshots;
+    let seen = &mut run.seen;
     let (refusal, text) = write(&mut r, seen, &library, &c, MAIN.len())?;
     if refusal != 0 || text != MAIN {
         return Err(format!("refusal {refusal}, \"{}\"", text.escape_ascii()));
@@ -80,7 +80,7 @@ pub fn same_column(written: &Column, read: &Column, refusal: u32) -> Result<(), 
 
 /// A column written, read and written again by the library.
 fn round_trip(run: &mut Run, r: &mut Random, library: &Library, c: &Column) -> Result<(), String> {
-    let seen = &mut run.snapshots;
+    let seen = &mut run.seen;
     let (refusal, text) = write(r, seen, library, c, size(c))?;
     if refusal != 0 {
         return Err(format!("a sound column is refused by {refusal}"));
@@ -107,7 +107,7 @@ fn rooms(run: &mut Run, r: &mut Random, library: &Library, c: &Column) -> Result
         exact + 1,
         exact + r.within(2, 1_000),
     ] {
-        let (refusal, text) = write(r, &mut run.snapshots, library, c, room)?;
+        let (refusal, text) = write(r, &mut run.seen, library, c, room)?;
         let expected = if room < exact { 15 } else { 0 };
         if refusal != expected || expected == 0 && text != lines(c) {
             return Err(format!(
@@ -137,24 +137,14 @@ pub fn sound(run: &mut Run) -> Result<(), String> {
 pub fn laid(run: &mut Run) -> Result<(), String> {
     run.cases(61, 1_500, |run, r| {
         let library = inputs::library(r);
-        let most_blocks = r.pick(&[2, 10, 10, 64]);
-        let free = r.below(4);
-        let set = inputs::set(r, most_blocks, free);
-        let ends = inputs::layout(r, &set.second());
-        let applied = apply(r, &mut run.seen, &library, &set, &ends)?;
-        let column = Column {
-            directory: applied.directory.to_vec(),
-            growers: set.growers,
-            weights: set.weights,
-            yields: set.yields,
-        };
+        let column = lists::laid_column(run, r, &library)?;
         let mut pair = Pair::new(r, &column);
         let mix = r.pick(&MIXES);
         for _ in 0..r.within(1, 3) {
             round_trip(run, r, &library, &pair.column())?;
             for _ in 0..r.below(20) {
-                let call = inputs::call(r, &pair.view(), &mix);
-                pair.call(&mut run.seen, &library, &call)?;
+                let asked = inputs::asked(r, &pair.view(), &mix);
+                pair.ask(&mut run.seen, &library, asked)?;
             }
         }
         round_trip(run, r, &library, &pair.column())
@@ -177,7 +167,7 @@ enum WriteFault {
 use WriteFault::*;
 
 /// A range of all growers scans all partitions, as writing does.
-const ALL: Call = Call::Range(0, u32::MAX);
+const ALL: Asked = Asked::Call(Call::Range(0, u32::MAX));
 
 /// Those that leave the directory a directory come first.
 fn faults() -> Vec<WriteFault> {
@@ -261,7 +251,7 @@ pub fn alone(run: &mut Run) -> Result<(), String> {
                 continue;
             }
             let with = |why| format!("{fault:?}: {why}");
-            let (refusal, _) = write(r, &mut run.snapshots, &library, &c, room).map_err(with)?;
+            let (refusal, _) = write(r, &mut run.seen, &library, &c, room).map_err(with)?;
             if refusal != fault.expected() {
                 return Err(format!("{fault:?}: refusal {refusal}"));
             }
@@ -300,8 +290,7 @@ pub fn pairs(run: &mut Run) -> Result<(), String> {
                     continue;
                 }
                 let with = |why| format!("{first:?} and {second:?}: {why}");
-                let (refusal, _) =
-                    write(r, &mut run.snapshots, &library, &c, room).map_err(with)?;
+                let (refusal, _) = write(r, &mut run.seen, &library, &c, room).map_err(with)?;
                 if refusal != expected_of(first, second) {
                     return Err(format!("{first:?} and {second:?}: refusal {refusal}"));
                 }
@@ -328,9 +317,9 @@ pub fn edge_counts(run: &mut Run) -> Result<(), String> {
                     match lent {
                         4 => room = n,
                         3 => c.directory.resize(n, 0),
-                        i => broken::slice(&mut c, i).resize(n, 0),
+                        i => c.slices()[i].resize(n, 0),
                     }
-                    let (refusal, _) = write(r, &mut run.snapshots, &library, &c, room)?;
+                    let (refusal, _) = write(r, &mut run.seen, &library, &c, room)?;
                     if refusal != expected {
                         return Err(format!("slice {lent} of {n}: refusal {refusal}"));
                     }
@@ -339,7 +328,7 @@ pub fn edge_counts(run: &mut Run) -> Result<(), String> {
             let (mut c, _) = accepted(r);
             c.resize(0);
             c.directory.clear();
-            let (refusal, _) = write(r, &mut run.snapshots, &library, &c, 0)?;
+            let (refusal, _) = write(r, &mut run.seen, &library, &c, 0)?;
             if refusal != 3 {
                 return Err(format!("nothing lent: refusal {refusal}"));
             }
@@ -385,6 +374,6 @@ pub fn any(run: &mut Run) -> Result<(), String> {
                 _ => old.wrapping_sub(1),
             };
         }
-        write(r, &mut run.snapshots, &library, &c, room).map(|_| ())
+        write(r, &mut run.seen, &library, &c, room).map(|_| ())
     })
 }

@@ -1,0 +1,76 @@
+//! The five calls as values, made and recorded by either implementation.
+
+use crate::answers::Answer;
+use crate::column::ColumnSlices;
+use crate::library::Library;
+use second::{Delivery, UnlaidSet};
+
+/// A call on a column, or one to be recorded against a set.
+#[derive(Clone, Copy, Debug)]
+pub enum Call {
+    Find(u32),
+    Range(u32, u32),
+    Insert(Delivery),
+    Delete(Delivery),
+    Move(Delivery, u32),
+}
+
+impl Call {
+    /// The delivery that the call is offered.
+    pub fn offered(&mut self) -> Option<&mut Delivery> {
+        match self {
+            Call::Insert(d) | Call::Delete(d) | Call::Move(d, _) => Some(d),
+            Call::Find(_) | Call::Range(..) => None,
+        }
+    }
+}
+
+impl Library {
+    #[inline]
+    pub fn call(&self, column: &mut ColumnSlices, call: &Call) -> Answer {
+        match *call {
+            Call::Find(grower) => self.find(&column.view(), grower),
+            Call::Range(lo, hi) => self.range(&column.view(), lo, hi),
+            Call::Insert(d) => self.insert(column, d),
+            Call::Delete(d) => self.delete(column, d),
+            Call::Move(d, new_grower) => self.move_delivery(column, d, new_grower),
+        }
+    }
+
+    pub fn record(&self, histograms: &mut [u32], set: &UnlaidSet, call: &Call) -> u32 {
+        match *call {
+            Call::Find(grower) => self.record_find(histograms, set, grower),
+            Call::Range(lo, hi) => self.record_range(histograms, set, lo, hi),
+            Call::Insert(d) => self.record_insert(histograms, set, d),
+            Call::Delete(d) => self.record_delete(histograms, set, d),
+            Call::Move(d, new_grower) => self.record_move(histograms, set, d, new_grower),
+        }
+    }
+}
+
+#[inline]
+pub fn call_second(column: &mut ColumnSlices, call: &Call) -> Answer {
+    let ColumnSlices {
+        directory: at,
+        growers: g,
+        weights: w,
+        yields: y,
+    } = column;
+    match *call {
+        Call::Find(grower) => second::find(g, w, y, at, grower).into(),
+        Call::Range(lo, hi) => second::range(g, w, y, at, lo, hi).into(),
+        Call::Insert(d) => second::insert(g, w, y, at, d).into(),
+        Call::Delete(d) => second::delete(g, w, y, at, d).into(),
+        Call::Move(d, new_grower) => second::move_delivery(g, w, y, at, d, new_grower).into(),
+    }
+}
+
+pub fn record_second(histograms: &mut [u32], set: &UnlaidSet, call: &Call) -> u32 {
+    match *call {
+        Call::Find(grower) => second::record_find(set, histograms, grower),
+        Call::Range(lo, hi) => second::record_range(set, histograms, lo, hi),
+        Call::Insert(d) => second::record_insert(set, histograms, d),
+        Call::Delete(d) => second::record_delete(set, histograms, d),
+        Call::Move(d, new_grower) => second::record_move(set, histograms, d, new_grower),
+    }
+}

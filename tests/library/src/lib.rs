@@ -1,0 +1,20 @@
+//! The compiled library through its C interface, beside the second
+//! implementation: the C declarations, safe calls, the columns and sets that
+//! both are given, and what both answer in the same types.
+
+mod answers;
+mod calls;
+mod column;
+mod declared;
+mod library;
+mod seen;
+mod set;
+
+pub use answers::{
+    Answer, Applied, Costed, Counts, PartitionSlice, Planned, Totals, Written, DIRECTORY,
+};
+pub use calls::{call_second, record_second, Call};
+pub use column::{Column, ColumnSlices, View};
+pub use library::{tally_add, Empty, Library, LIBRARIES};
+pub use seen::Seen;
+pub use set::{even_ends, spread_growers, Set, Slots};
