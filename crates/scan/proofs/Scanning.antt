@@ -5,54 +5,22 @@ use mathlib.Core.Bool.{Bool, true, false, cond, _&&_}
 use mathlib.Core.List.{List, [], _∷_, _++_, append-nil, map, map-append, flatten}
 use native.Mathlib.Omega.{arith}
 use native.Mathlib.Numerals.{add-one}
-use lib.Dec.{T, leb}
 use lib.ListN.{length, getD, take, drop, length-take, length-drop}
 use lib.Seq.{take-suc, getD-drop}
 use Rattle.model.specs.declared.Delivery.{Delivery}
-use Rattle.model.specs.declared.Totals.{Totals}
 use Rattle.model.specs.Bounds.{blockLimit, mostSlots}
-use Rattle.model.specs.Lent.{Even}
 use Rattle.model.specs.Lists.{sumOf, every, keep}
 use Rattle.model.specs.Deliveries.{plusTotals, inRange, noTotals, totalsOf, totalsBetween, rows}
 use Rattle.model.specs.Partitions.{parts, part, startOf}
 use Rattle.model.specs.Accesses.{blocksOf}
-use Rattle.model.proofs.Tests.{and-fst, and-snd, of-true}
+use Rattle.model.proofs.Tests.{of-true}
 use Rattle.model.proofs.ListLaws.{sum-append, sum-cut, sum-take-le, flatten-append, every-joined}
 use Rattle.model.proofs.Parts.{flatten-parts, take-parts, drop-parts, part-parts, length-parts, length-part, start-next}
-use Rattle.model.proofs.Deliveries.{values-rows, rows-part}
-use Rattle.checks.specs.Values.{allValuesOk}
+use Rattle.model.proofs.Deliveries.{rows-part}
 use Rattle.scan.specs.declared.Scan.{Scan}
-use Rattle.slices.specs.Slices.{Measured}
 use Rattle.slices.proofs.Sums.{totals-joined, totals-light}
 use Rattle.scan.specs.Scans.{badScan, scanMore, recordsIn, scanOf, Light}
 use Rattle.scan.proofs.Blocks.{blocks-most}
-
--- One more partition.
-
-module _ (b lo hi : ℕ) (s : Scan) (g w y : List ℕ) (p : length w ≡ length g) (q : length y ≡ length g) where
-  pub more-after-bad : s .good ≡ false → badScan ≡ scanMore b lo hi s (rows g w y)
-  unfolding scanMore
-  more-after-bad e = rw e
-
-  pub more-bad : s .good ≡ true → allValuesOk w y ≡ false → badScan ≡ scanMore b lo hi s (rows g w y)
-  unfolding scanMore
-  more-bad e f = rw (e, values-rows g w y p q, f)
-
-  pub more-good : (t : Totals) (k : ℕ) → s .good ≡ true → allValuesOk w y ≡ true → t ≡ plusTotals (s .totals) (totalsBetween lo hi (rows g w y)) → k ≡ blocksOf b (length (rows g w y))
-      → _≡_ {A = Scan} (record { good = true; totals = t; blocks = s .blocks + k }) (scanMore b lo hi s (rows g w y))
-  unfolding scanMore
-  more-good t k e f h i = rw (e, values-rows g w y p q, f, h, i)
-
--- slices that pass check 8 may be totalled
-pub measured : (g w y : List ℕ) → length g ≤ mostSlots → Even g w y → allValuesOk w y ≡ true → Measured g w y
-measured g w y h p e =
-    let t : T (allValuesOk w y) = of-true (allValuesOk w y) e in
-    record {
-      few = h;
-      even = p;
-      good-weights = and-fst (every (λ (n : ℕ). leb n 100000) w) (every (λ (n : ℕ). leb n 10000) y) t;
-      good-yields = and-snd (every (λ (n : ℕ). leb n 100000) w) (every (λ (n : ℕ). leb n 10000) y) t;
-    }
 
 -- Partitions, one after the other.
 

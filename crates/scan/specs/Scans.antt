@@ -8,7 +8,20 @@ use Rattle.model.specs.Lists.{sumOf, every}
 use Rattle.model.specs.Deliveries.{LightTotals, plusTotals, inRange, noTotals, totalsBetween}
 use Rattle.model.specs.Partitions.{parts}
 use Rattle.model.specs.Accesses.{blocksOf}
+use Rattle.scan.specs.declared.Sum.{Sum}
 use Rattle.scan.specs.declared.Scan.{Scan}
+
+-- a sum that met a value out of range
+abbrev pub badSum : Sum
+badSum = record { good = false; totals = noTotals }
+
+-- a sum that goes on to the records ds
+unfoldable pub sumMore : ℕ → ℕ → Sum → List Delivery → Sum
+sumMore lo hi s ds = cond (s .good && every inRange ds) (record { good = true; totals = plusTotals (s .totals) (totalsBetween lo hi ds) }) badSum
+
+-- the sum of the records ds
+unfoldable pub sumAll : ℕ → ℕ → List Delivery → Sum
+sumAll lo hi ds = cond (every inRange ds) (record { good = true; totals = totalsBetween lo hi ds }) badSum
 
 -- a scan that met a value out of range
 abbrev pub badScan : Scan

@@ -5,11 +5,12 @@ ghost use lib.ListN.{length};
 ghost use Rattle.model.specs.Bounds.{blockLimit, mostSlots};
 ghost use Rattle.model.specs.Lent.{Even};
 ghost use Rattle.model.specs.Lists.{sumOf};
-ghost use Rattle.model.specs.Deliveries.{rows};
+ghost use Rattle.model.specs.Deliveries.{rows, LightTotals};
 ghost use Rattle.model.specs.Partitions.{startOf};
 ghost use Rattle.model.specs.Accesses.{blocksOf, readsOf};
-ghost use Rattle.scan.specs.Scans.{badScan, scanMore, scanOf, Light};
+ghost use Rattle.scan.specs.Scans.{badSum, sumMore, sumAll, badScan, scanMore, scanOf, Light};
 use model::Counts;
+use model::STRIDE;
 use model::Totals;
 
 // How many blocks a partition of this many records counts as.
@@ -34,6 +35,58 @@ pub fn reads_of(blocks: u64) -> Counts
         sr: blocks - 1,
         rw: 0,
     }
+}
+
+// Are all values in range, and then the totals of lo to hi.
+struct Sum {
+    good: bool,
+    totals: Totals,
+}
+
+fn bad_sum() -> Sum
+    ensures { λ r. ⌜ r ≡ badSum ⌝ }
+{
+    let totals = Totals::none();
+    Sum {
+        good: false,
+        totals,
+    }
+}
+
+// A sum goes on to more records. They are judged, counted and added while they are at hand.
+fn sum_more(s: Sum, g: &[u32], w: &[u32], y: &[u32], lo: u32, hi: u32) -> Sum
+    requires { ⌜ (length (now g) ≤ mostSlots) × Even (now g) (now w) (now y) × LightTotals mostSlots (s .totals) ⌝ }
+    ensures { λ r. ⌜ r ≡ sumMore lo hi s (rows (now (g .entry)) (now (w .entry)) (now (y .entry))) ⌝ }
+{
+    if !s.good {
+        return bad_sum();
+    }
+    if !checks::values_ok(w, y) {
+        return bad_sum();
+    }
+    let more = slices::total_stride(g, w, y, lo, hi);
+    let totals = s.totals.plus(more);
+    Sum { good: true, totals }
+}
+
+// The records of three slices, a stride at a time.
+fn sum_all(g: &[u32], w: &[u32], y: &[u32], lo: u32, hi: u32) -> Sum
+    requires { ⌜ (length (now g) ≤ mostSlots) × Even (now g) (now w) (now y) ⌝ }
+    ensures { λ r. ⌜ r ≡ sumAll lo hi (rows (now (g .entry)) (now (w .entry)) (now (y .entry))) ⌝ }
+{
+    let none = Totals::none();
+    let mut s = Sum {
+        good: true,
+        totals: none,
+    };
+    let mut i = 0;
+    while STRIDE <= g.len() - i {
+        let e = i + STRIDE;
+        s = sum_more(s, &g[i..e], &w[i..e], &y[i..e], lo, hi);
+        i = e;
+    }
+    let e = g.len();
+    sum_more(s, &g[i..e], &w[i..e], &y[i..e], lo, hi)
 }
 
 // What a scan says: are all values in range, the totals of lo to hi, and the blocks.
@@ -62,11 +115,11 @@ fn scan_more(s: Scan, g: &[u32], w: &[u32], y: &[u32], block: u32, lo: u32, hi: 
     if !s.good {
         return bad_scan();
     }
-    if !checks::values_ok(w, y) {
+    let more = sum_all(g, w, y, lo, hi);
+    if !more.good {
         return bad_scan();
     }
-    let more = slices::totals(g, w, y, lo, hi);
-    let totals = s.totals.plus(more);
+    let totals = s.totals.plus(more.totals);
     let blocks = s.blocks + blocks_of(g.len(), block);
     Scan {
         good: true,

@@ -3,4 +3,5 @@ pub mod Flags
 pub mod Places
 pub mod Scans
 pub mod Sums
+pub mod Strides
 pub mod Matching

@@ -4,17 +4,20 @@ use mathlib.Core.Path.{_≡_, refl, sym, ap, _∙_, subst}
 use mathlib.Core.Bool.{Bool, true, false, cond, _&&_}
 use mathlib.Core.List.{List, [], _∷_, _++_}
 use native.Mathlib.Omega.{arith}
-use lib.Dec.{T, leb, eqb, eqb→eq, le→leb}
-use lib.ListN.{length, take, drop, take-append-drop, length-drop}
-use lib.Seq.{drop-drop, take-all, length-take-le}
+use borrow.Author.Tests.{ltb-true, ltb-false, le-ltb}
+use lib.Dec.{T, leb, ltb, eqb, eqb→eq, le→leb}
+use lib.ListN.{length, take, drop, take-append-drop, length-take}
+use lib.Seq.{length-take-le}
 use Rattle.model.specs.declared.Delivery.{Delivery}
 use Rattle.model.specs.Lists.{keep}
+use Rattle.model.specs.Lent.{Even}
 use Rattle.model.specs.Deliveries.{rows, same, firstMatch}
 use Rattle.model.proofs.Tests.{and-mk, of-true}
 use Rattle.model.proofs.Deliveries.{rows-part, length-rows}
 use Rattle.slices.specs.Slices.{countBetween}
+use Rattle.slices.proofs.Strides.{Strides, strides-next, strides-end}
 
-first-most : (d : Delivery) (l : List Delivery) → firstMatch d l ≤ length l
+pub first-most : (d : Delivery) (l : List Delivery) → firstMatch d l ≤ length l
 unfolding firstMatch
 first-most d [] = omega arith
 first-most d (r ∷ l) = go (same d r) (first-most d l)
@@ -44,6 +47,17 @@ first-right d (r ∷ a) b h = go (same d r) (first-right d a b) h
     go true e k = let z : ⊥ = omega arith in absurd z
     go false e k = omega (arith, e (omega arith))
 
+-- a search that goes on to the records ds, which i records are before
+abbrev pub firstMore : Delivery → ℕ → ℕ → List Delivery → ℕ
+firstMore d s i ds = cond (ltb s i) s (i + firstMatch d ds)
+
+pub first-joined : (d : Delivery) (a b : List Delivery) → firstMatch d (a ++ b) ≡ firstMore d (firstMatch d a) (length a) b
+first-joined d a b = go (ltb (firstMatch d a) (length a)) refl
+  where
+    go : (t : Bool) → ltb (firstMatch d a) (length a) ≡ t → firstMatch d (a ++ b) ≡ cond t (firstMatch d a) (length a + firstMatch d b)
+    go true e = first-left d a b (ltb-true (firstMatch d a) (length a) e)
+    go false e = first-right d a b (ltb-false (firstMatch d a) (length a) e)
+
 -- without its grower there is no match
 pub grower-missing : (d : Delivery) (g w y : List ℕ) → length w ≡ length g → length y ≡ length g → countBetween (d .grower) (d .grower) g < 1 → length g ≡ firstMatch d (rows g w y)
 unfolding firstMatch rows keep
@@ -67,40 +81,29 @@ grower-missing d (a ∷ g) (b ∷ w) (c ∷ y) p q h =
         let s : x ≡ a = eqb→eq x a (of-true _ e) in
         absurd (subst T f (and-mk (leb x a) (leb a x) (le→leb x a (omega arith)) (le→leb a x (omega arith))))
 
--- none before slot i is
-pub record Passing (d : Delivery) (g w y : List ℕ) (i : ℕ) : Type 0 where
-  pub at : i ≤ length g
-  pub none-yet : firstMatch d (rows g w y) ≡ i + firstMatch d (drop i (rows g w y))
+-- The loop over strides: the first match among the records passed is past them.
 
-pub passing-start : (d : Delivery) (g w y : List ℕ) → Passing d g w y 0
-passing-start d g w y = record { at = omega arith; none-yet = omega arith }
+pub passing-start : (d : Delivery) (g w y : List ℕ) → Strides (firstMatch d) g w y 0 0
+unfolding firstMatch
+passing-start d g w y = record { at = omega arith; so-far = refl }
 
-module _ (d : Delivery) (g w y : List ℕ) (p : length w ≡ length g) (q : length y ≡ length g) (i n k : ℕ) (h : i + n ≤ length g) (t : Passing d g w y i)
+module _ (d : Delivery) (g w y : List ℕ) (p : Even g w y) (i : ℕ) (t : Strides (firstMatch d) g w y i i) (n k : ℕ) (h : i + n ≤ length g)
     (e : k ≡ firstMatch d (rows (take n (drop i g)) (take n (drop i w)) (take n (drop i y)))) where
-  abbrev part : List Delivery
-  part = take n (drop i (rows g w y))
-
-  first : k ≡ firstMatch d part
-  first = e ∙ ap (firstMatch d) (rows-part n i g w y)
-
-  size : length part ≡ n
-  size = length-take-le n (drop i (rows g w y)) (omega (arith, length-drop i (rows g w y), length-rows g w y p q))
-
-  split : firstMatch d (drop i (rows g w y)) ≡ firstMatch d (part ++ drop n (drop i (rows g w y)))
-  split = ap (firstMatch d) (sym (take-append-drop n (drop i (rows g w y))))
+  passed : Strides (firstMatch d) g w y (i + k) (i + n)
+  passed = strides-next (firstMatch d) (firstMore d) (first-joined d) g w y p i i t n (i + k) h (rw (le-ltb i i (omega arith), e))
 
   pub passing-found : k < n → i + k ≡ firstMatch d (rows g w y)
-  passing-found l = omega (arith, t .none-yet, split, first, first-left d part (drop n (drop i (rows g w y))) (omega (arith, first, size)))
-
-  pub passing-next : n ≤ k → Passing d g w y (i + n)
-  passing-next l =
-      let r : firstMatch d (drop n (drop i (rows g w y))) ≡ firstMatch d (drop (i + n) (rows g w y)) = ap (firstMatch d) (drop-drop n i (rows g w y)) in
-      record { at = h; none-yet = omega (arith, t .none-yet, split, r, size, first-right d part (drop n (drop i (rows g w y))) (omega (arith, first, size))) }
+  passing-found l =
+      let a : List Delivery = take (i + n) (rows g w y) in
+      let b : List Delivery = drop (i + n) (rows g w y) in
+      let z : length a ≡ i + n = length-take-le (i + n) (rows g w y) (omega (arith, length-rows g w y (p .weights) (p .yields))) in
+      passed .so-far ∙ sym (first-left d a b (omega (arith, passed .so-far))) ∙ ap (firstMatch d) (take-append-drop (i + n) (rows g w y))
 
   pub passing-most : k ≤ n
-  passing-most = omega (arith, first, size, first-most d part)
+  passing-most = omega (arith, e, ap (firstMatch d) (rows-part n i g w y), first-most d (take n (drop i (rows g w y))), length-take n (drop i (rows g w y)))
+
+  pub passing-next : n ≤ k → Strides (firstMatch d) g w y (i + n) (i + n)
+  passing-next l = let z : k ≡ n = omega (arith, passing-most) in record { at = h; so-far = ap (λ (x : ℕ). i + x) (sym z) ∙ passed .so-far }
 
   pub passing-end : length g ≤ i + n → i + k ≡ firstMatch d (rows g w y)
-  passing-end l =
-      let a : part ≡ drop i (rows g w y) = take-all n (drop i (rows g w y)) (omega (arith, length-drop i (rows g w y), length-rows g w y p q)) in
-      omega (arith, t .none-yet, first, ap (firstMatch d) a)
+  passing-end l = strides-end (firstMatch d) g w y p (i + k) (i + n) passed l

@@ -125,6 +125,17 @@ is-below lo hi x l = rw (lt-leb lo x l)
 pub is-above : (lo hi x : ℕ) → lo ≤ x → hi < x → inside lo hi x ≡ false
 is-above lo hi x l m = rw (le-leb lo x l, lt-leb x hi m)
 
+pub is-equal : (q x : ℕ) → x ≡ q → inside q q x ≡ true
+is-equal q x e = is-inside q q x (omega arith) (omega arith)
+
+pub is-other : (q x : ℕ) → (x ≡ q → ⊥) → inside q q x ≡ false
+is-other q x h = go (leb q x) (leb x q) refl refl
+  where
+    go : (a b : Bool) → leb q x ≡ a → leb x q ≡ b → a && b ≡ false
+    go true true l m = absurd (h (omega (arith, leb-true q x l, leb-true x q m)))
+    go true false l m = refl
+    go false b l m = refl
+
 -- Growers counted.
 
 pub record Counting (f : ℕ → Bool) (s : List ℕ) (n i : ℕ) : Type 0 where

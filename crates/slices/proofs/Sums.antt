@@ -1,13 +1,12 @@
 -- Totals: of joined records, of records in range, of parts. Assumes nothing.
 use Prim.Native.Nat.{ℕ, suc, _+_, _*_, _≤_, _<_}
-use mathlib.Core.Path.{_≡_, refl, sym, ap, _∙_, subst}
+use mathlib.Core.Path.{_≡_, refl, sym, ap, subst}
 use mathlib.Core.Bool.{Bool, true, false, cond, _&&_}
 use mathlib.Core.List.{List, [], _∷_, _++_, map, map-append}
 use native.Mathlib.Omega.{arith}
 use native.Mathlib.Nat.{mul-le-mul}
 use lib.Dec.{T, leb, leb→le}
 use lib.ListN.{length, take, drop, length-append, length-take, length-drop}
-use lib.Seq.{take-add, take-all}
 use Rattle.model.specs.declared.Delivery.{Delivery}
 use Rattle.model.specs.declared.Totals.{Totals}
 use Rattle.model.specs.Bounds.{mostSlots}
@@ -15,8 +14,8 @@ use Rattle.model.specs.Lent.{Even}
 use Rattle.model.specs.Lists.{sumOf, every, keep}
 use Rattle.model.specs.Deliveries.{LightTotals, plusTotals, inRange, matches, rows, noTotals, totalsOf, totalsBetween}
 use Rattle.model.proofs.Tests.{and-fst, and-snd, and-mk, is-true}
-use Rattle.model.proofs.ListLaws.{sum-append, keep-append, every-part, keep-fewer}
-use Rattle.model.proofs.Deliveries.{values-rows, rows-part, length-rows}
+use Rattle.model.proofs.ListLaws.{sum-append, keep-append, keep-fewer}
+use Rattle.model.proofs.Deliveries.{values-rows, length-rows}
 use Rattle.slices.specs.Slices.{allWithin, countBetween, Measured}
 
 -- Totals of records that were joined.
@@ -117,45 +116,6 @@ module _ (lo hi : ℕ) (g w y : List ℕ) (m : Measured g w y) where
   measured-light t e =
       subst (LightTotals mostSlots) (sym e) (totals-light lo hi mostSlots (rows g w y) values (omega (arith, m .few, length-rows g w y (m .even .weights) (m .even .yields))))
 
-within-part : (m a n : ℕ) (s : List ℕ) → a + n ≤ length s → T (allWithin m s) → T (allWithin m (take n (drop a s)))
-within-part m a n s h t = every-part (λ (x : ℕ). leb x m) a n (length s) s h (rw (take-all (length s) s (omega arith)) t)
-
--- parts of even slices, and of measured ones
+-- parts of even slices
 pub even-part : (g w y : List ℕ) (n a : ℕ) → Even g w y → Even (take n (drop a g)) (take n (drop a w)) (take n (drop a y))
 even-part g w y n a e = record { weights = simp (length-take, length-drop) (omega (arith, e .weights)); yields = simp (length-take, length-drop) (omega (arith, e .yields)) }
-
-pub measured-part : (g w y : List ℕ) (n a : ℕ) → a + n ≤ length g → Measured g w y → Measured (take n (drop a g)) (take n (drop a w)) (take n (drop a y))
-measured-part g w y n a h m =
-    record {
-      few = simp (length-take, length-drop) (omega (arith, m .few));
-      even = even-part g w y n a (m .even);
-      good-weights = within-part 100000 a n w (omega (arith, m .even .weights)) (m .good-weights);
-      good-yields = within-part 10000 a n y (omega (arith, m .even .yields)) (m .good-yields);
-    }
-
--- The loop over strides.
-
-pub record Adding (lo hi : ℕ) (g w y : List ℕ) (t : Totals) (i : ℕ) : Type 0 where
-  pub at : i ≤ length g
-  pub so-far : t ≡ totalsBetween lo hi (take i (rows g w y))
-
-pub adding-start : (lo hi : ℕ) (g w y : List ℕ) (t : Totals) → t ≡ noTotals → Adding lo hi g w y t 0
-unfolding totalsOf sumOf keep
-adding-start lo hi g w y t e = record { at = omega arith; so-far = e }
-
-module _ (lo hi : ℕ) (g w y : List ℕ) (m : Measured g w y) (t : Totals) (i : ℕ) (k : Adding lo hi g w y t i) where
-  pub adding-light : LightTotals mostSlots t
-  adding-light =
-      let e : rows (take i (drop 0 g)) (take i (drop 0 w)) (take i (drop 0 y)) ≡ take i (rows g w y) = rows-part i 0 g w y in
-      measured-light lo hi (take i (drop 0 g)) (take i (drop 0 w)) (take i (drop 0 y)) (measured-part g w y i 0 (omega (arith, k .at)) m) t (k .so-far ∙ ap (totalsBetween lo hi) (sym e))
-
-  pub adding-next : (n : ℕ) (u v : Totals) → i + n ≤ length g → u ≡ totalsBetween lo hi (rows (take n (drop i g)) (take n (drop i w)) (take n (drop i y))) → v ≡ plusTotals t u
-      → Adding lo hi g w y v (i + n)
-  adding-next n u v h e f =
-      let j : totalsBetween lo hi (take (i + n) (rows g w y)) ≡ plusTotals (totalsBetween lo hi (take i (rows g w y))) (totalsBetween lo hi (take n (drop i (rows g w y))))
-      = ap (totalsBetween lo hi) (take-add i n (rows g w y)) ∙ totals-joined lo hi (take i (rows g w y)) (take n (drop i (rows g w y))) in
-      let r : u ≡ totalsBetween lo hi (take n (drop i (rows g w y))) = e ∙ ap (totalsBetween lo hi) (rows-part n i g w y) in
-      record { at = h; so-far = f ∙ ap (λ (x : Totals). plusTotals x u) (k .so-far) ∙ ap (plusTotals (totalsBetween lo hi (take i (rows g w y)))) r ∙ sym j }
-
-pub adding-end : (lo hi : ℕ) (g w y : List ℕ) (m : Measured g w y) (t : Totals) (i : ℕ) → length g ≤ i → Adding lo hi g w y t i → t ≡ totalsBetween lo hi (rows g w y)
-adding-end lo hi g w y m t i h k = k .so-far ∙ ap (totalsBetween lo hi) (take-all i (rows g w y) (omega (arith, length-rows g w y (m .even .weights) (m .even .yields))))

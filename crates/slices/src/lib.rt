@@ -156,6 +156,23 @@ pub fn surveyed(lens: &[u32], fences: &[u32], g: u32) -> Survey
     }
 }
 
+// How many growers are q: one comparison a grower, where a range takes two.
+fn count_equal(g: &[u32], q: u32) -> usize
+    requires { ⌜ length (now g) ≤ mostSlots ⌝ }
+    ensures { λ r. ⌜ r ≡ countBetween q q (now (g .entry)) ⌝ }
+{
+    let mut n: u32 = 0;
+    let mut i = 0;
+    while i < g.len() {
+        let x = g[i];
+        i += 1;
+        if x == q {
+            n += 1;
+        }
+    }
+    n as usize
+}
+
 // How many growers are lo to hi.
 fn count_between(g: &[u32], lo: u32, hi: u32) -> usize
     requires { ⌜ length (now g) ≤ mostSlots ⌝ }
@@ -173,6 +190,17 @@ fn count_between(g: &[u32], lo: u32, hi: u32) -> usize
         }
     }
     n as usize
+}
+
+// How many growers are lo to hi, of a find and of a range.
+fn count(g: &[u32], lo: u32, hi: u32) -> usize
+    requires { ⌜ length (now g) ≤ mostSlots ⌝ }
+    ensures { λ r. ⌜ r ≡ countBetween lo hi (now (g .entry)) ⌝ }
+{
+    if lo == hi {
+        return count_equal(g, lo);
+    }
+    count_between(g, lo, hi)
 }
 
 // All records: how many, their weight and their oil.
@@ -229,11 +257,11 @@ fn total_tested(g: &[u32], w: &[u32], y: &[u32], lo: u32, hi: u32) -> Totals
 }
 
 // The records whose grower is lo to hi. Counting is cheaper than adding: where none is, or all are, no record is tested again.
-fn total_stride(g: &[u32], w: &[u32], y: &[u32], lo: u32, hi: u32) -> Totals
+pub fn total_stride(g: &[u32], w: &[u32], y: &[u32], lo: u32, hi: u32) -> Totals
     requires { ⌜ Measured (now g) (now w) (now y) ⌝ }
     ensures { λ r. ⌜ r ≡ totalsBetween lo hi (rows (now (g .entry)) (now (w .entry)) (now (y .entry))) ⌝ }
 {
-    let n = count_between(g, lo, hi);
+    let n = count(g, lo, hi);
     if n < 1 {
         return Totals::none();
     }
@@ -241,24 +269,6 @@ fn total_stride(g: &[u32], w: &[u32], y: &[u32], lo: u32, hi: u32) -> Totals
         return total_all(g, w, y);
     }
     total_tested(g, w, y, lo, hi)
-}
-
-// The records whose grower is lo to hi: how many, their weight and their oil; a stride at a time.
-pub fn totals(g: &[u32], w: &[u32], y: &[u32], lo: u32, hi: u32) -> Totals
-    requires { ⌜ Measured (now g) (now w) (now y) ⌝ }
-    ensures { λ r. ⌜ r ≡ totalsBetween lo hi (rows (now (g .entry)) (now (w .entry)) (now (y .entry))) ⌝ }
-{
-    let mut t = Totals::none();
-    let mut i = 0;
-    while STRIDE <= g.len() - i {
-        let e = i + STRIDE;
-        let u = total_stride(&g[i..e], &w[i..e], &y[i..e], lo, hi);
-        t = t.plus(u);
-        i = e;
-    }
-    let e = g.len();
-    let u = total_tested(&g[i..e], &w[i..e], &y[i..e], lo, hi);
-    t.plus(u)
 }
 
 // Whether record i is the delivery.
@@ -291,11 +301,11 @@ fn first_tested(g: &[u32], w: &[u32], y: &[u32], d: Delivery) -> usize
 }
 
 // The first record that is the delivery, or how many there are. Only where the delivery's grower is among them are the records tested.
-fn first_in_stride(g: &[u32], w: &[u32], y: &[u32], d: Delivery) -> usize
+pub fn first_in_stride(g: &[u32], w: &[u32], y: &[u32], d: Delivery) -> usize
     requires { ⌜ (length (now g) ≤ mostSlots) × Even (now g) (now w) (now y) ⌝ }
     ensures { λ r. ⌜ r ≡ firstMatch d (rows (now (g .entry)) (now (w .entry)) (now (y .entry))) ⌝ }
 {
-    if count_between(g, d.grower, d.grower) < 1 {
+    if count_equal(g, d.grower) < 1 {
         return g.len();
     }
     first_tested(g, w, y, d)

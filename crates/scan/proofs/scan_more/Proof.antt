@@ -1,93 +1,87 @@
--- `scan::scan_more` meets its contract. Assumes nothing.
-use mathlib.Core.Path.{sym, ap, _∙_}
+-- `scan::scan_more`: bad after a bad scan and after a bad sum of the partition; else its totals and its blocks are added, both small enough. Assumes nothing.
+use mathlib.Core.Path.{_≡_, sym, ap, ap₂, subst, _∙_}
+use mathlib.Core.Bool.{Bool, true, false}
+use mathlib.Core.List.{List}
+use Prim.Native.Nat.{ℕ, _+_}
 use native.Mathlib.Omega.{arith}
 use borrow.Author.Needs.{needs}
 use borrow.Author.Tests.{not-true, not-false}
 use lib.ListN.{length}
-use Rattle.model.specs.Deliveries.{plusTotals}
+use Rattle.model.specs.declared.Delivery.{Delivery}
+use Rattle.model.specs.declared.Totals.{Totals}
+use Rattle.model.specs.Bounds.{mostSlots}
+use Rattle.model.specs.Lists.{every}
+use Rattle.model.specs.Deliveries.{LightTotals, inRange, plusTotals, totalsBetween, rows}
 use Rattle.model.specs.Accesses.{blocksOf}
 use Rattle.model.proofs.Deliveries.{length-rows}
-use Rattle.slices.proofs.Sums.{measured-light}
+use Rattle.scan.specs.declared.Sum.{Sum}
+use Rattle.scan.specs.Scans.{badScan, scanMore, sumAll}
 use Rattle.scan.proofs.Blocks.{blocks-most}
-use Rattle.scan.proofs.Scanning.{measured, more-after-bad, more-bad, more-good}
+use Rattle.scan.proofs.Judging.{good-on, judged-says, judged-value}
+use Rattle.scan.proofs.Summing.{sums, sum-light}
 use Rattle.scan.proofs.scan_more.Statement.{statement}
 use Rattle.scan.proofs.scan_more.Tie as tie
 
-bad-scan-requires : tie.Need-bad-scan-requires
-bad-scan-requires c κs = search needs
+abbrev start : tie.After-sum-all → tie.Start
+start c = c .before .before .before .before .before .before
+
+abbrev records : tie.After-sum-all → List Delivery
+records c = let a = start c .args in rows (a .g .now) (a .w .now) (a .y .now)
+
+size : (c : tie.After-sum-all) → length (records c) ≡ length (start c .args .g .now)
+size c = let a = start c .args in length-rows (a .g .now) (a .w .now) (a .y .now) (start c .pre .1 .weights) (start c .pre .1 .yields)
+
+-- what the sum of the partition's records says
+in-range : (c : tie.After-sum-all) (b : Bool) → c .sum-all .result .good ≡ b → every inRange (records c) ≡ b
+unfolding sumAll
+in-range c = let a = start c .args in judged-says sums (every inRange (records c)) (totalsBetween (a .lo) (a .hi) (records c)) (c .sum-all .result) (c .sum-all .ensures)
+
+totals-are : (c : tie.After-sum-all) → c .sum-all .result .good ≡ true → c .sum-all .result .totals ≡ totalsBetween (start c .args .lo) (start c .args .hi) (records c)
+unfolding sumAll
+totals-are c = let a = start c .args in judged-value sums (every inRange (records c)) (totalsBetween (a .lo) (a .hi) (records c)) (c .sum-all .result) (c .sum-all .ensures)
 
 returns : tie.Need-returns
-returns c =
-    let b = c .before .before .before .before .before .before in
-    let g = b .args in
-    let p = b .pre in
-    c .bad-scan .ensures ∙ more-after-bad (g .block) (g .lo) (g .hi) (g .s) (g .g .now) (g .w .now) (g .y .now) (p .1 .weights) (p .1 .yields) (not-true _ (c .before .if1 .taken))
-
-values-ok-requires : tie.Need-values-ok-requires
-values-ok-requires c κs = search needs
-
-bad-scan-requires-2 : tie.Need-bad-scan-requires-2
-bad-scan-requires-2 c κs = search needs
+unfolding scanMore
+returns c = c .bad-scan .ensures ∙ rw (not-true (c .before .before .before .before .before .before .args .s .good) (c .before .if1 .taken))
 
 returns-2 : tie.Need-returns-2
+unfolding scanMore
 returns-2 c =
-    let b = c .before .before .before .before .before .before .before .before in
-    let g = b .args in
-    let p = b .pre in
-    c .bad-scan2 .ensures ∙ more-bad (g .block) (g .lo) (g .hi) (g .s) (g .g .now) (g .w .now) (g .y .now) (p .1 .weights) (p .1 .yields) (not-false _ (c .before .before .before .if1 .left))
-    (sym (c .before .before .values-ok .ensures) ∙ not-true _ (c .before .if2 .taken))
-
-totals-requires : tie.Need-totals-requires
-totals-requires c κs =
-    let b = c .before .before .before .before .before .before .before in
-    let g = b .args in
-    let p = b .pre in
-    measured (g .g .now) (g .w .now) (g .y .now) (p .0) (p .1) (sym (c .before .values-ok .ensures) ∙ not-false _ (c .if2 .left))
+    let m = c .before .before .before in
+    c .bad-scan2 .ensures ∙ rw (not-false (start m .args .s .good) (m .before .if1 .left), in-range m false (not-true _ (c .before .if2 .taken)))
 
 plus-requires : tie.Need-plus-requires
 plus-requires c κs =
-    let b = c .before .before .before .before .before .before .before .before in
-    let g = b .args in
-    let p = b .pre in (
-      p .3 .light,
-      measured-light (g .lo) (g .hi) (g .g .now) (g .w .now) (g .y .now) (measured (g .g .now) (g .w .now) (g .y .now) (p .0) (p .1)
-          (sym (c .before .before .values-ok .ensures) ∙ not-false _ (c .before .if2 .left))) _ (c .totals .ensures),
-    )
-
-blocks-of-requires : tie.Need-blocks-of-requires
-blocks-of-requires c κs = search needs
+    let m = c .before .before in
+    let a = start m .args in
+    (start m .pre .3 .light, subst (λ (x : Sum). LightTotals mostSlots (x .totals)) (sym (m .sum-all .ensures)) (sum-light (a .lo) (a .hi) (records m) (omega (arith, size m))))
 
 add-blocks : tie.Need-add-blocks
 add-blocks c =
-    let b = c .before .before .before .before .before .before .before .before .before .before .before in
-    let g = b .args in
-    let p = b .pre in
-    omega (arith, p .3 .short, c .before .blocks-of .ensures, blocks-most (g .block) (length (g .g .now)) (p .2))
+    let s = start (c .before .before .before .before .before) in
+    omega (arith, s .pre .3 .short, c .before .blocks-of .ensures, blocks-most (s .args .block) (length (s .args .g .now)) (s .pre .2))
 
 returns-3 : tie.Need-returns-3
+unfolding scanMore
 returns-3 c =
-    let b₁ = c .before .before in
-    let b₂ = b₁ .before .before in
-    let b₃ = b₂ .before in
-    let b₄ = b₃ .before in
-    let b₅ = b₄ .before .before .before .before .before in
-    let g = b₅ .args in
-    let p = b₅ .pre in
-    more-good (g .block) (g .lo) (g .hi) (g .s) (g .g .now) (g .w .now) (g .y .now) (p .1 .weights) (p .1 .yields) (b₁ .plus .result) (c .before .blocks-of .result) (not-false _ (b₄ .if1 .left))
-    (sym (b₃ .values-ok .ensures) ∙ not-false _ (b₂ .if2 .left)) (b₁ .plus .ensures ∙ ap (plusTotals (g .s .totals)) (c .before .before .before .totals .ensures))
-    (c .before .blocks-of .ensures ∙ ap (blocksOf (g .block)) (sym (length-rows (g .g .now) (g .w .now) (g .y .now) (p .1 .weights) (p .1 .yields))))
+    let m = c .before .before .before .before .before in
+    let a = start m .args in
+    let good = not-false _ (c .before .before .before .if2 .left) in
+    let t = c .before .before .plus .ensures ∙ ap (plusTotals (a .s .totals)) (totals-are m good) in
+    let k = c .before .blocks-of .ensures ∙ ap (blocksOf (a .block)) (sym (size m)) in
+    good-on badScan (not-false (a .s .good) (m .before .if1 .left)) (in-range m true good)
+    (ap₂ (λ (x : Totals) (n : ℕ). record { good = true; totals = x; blocks = a .s .blocks + n }) t k)
 
 pub scan-more-spec : {M : Type 1} → statement M
 scan-more-spec =
     tie.close
     (tie.spec
-    bad-scan-requires
+    (λ c κs. search needs)
     returns
-    values-ok-requires
-    bad-scan-requires-2
+    (λ c κs. search needs)
+    (λ c κs. search needs)
     returns-2
-    totals-requires
     plus-requires
-    blocks-of-requires
+    (λ c κs. search needs)
     add-blocks
     returns-3)

@@ -5,15 +5,15 @@ use Rattle.slices.proofs.Matching.{grower-missing}
 use Rattle.slices.proofs.first_in_stride.Statement.{statement}
 use Rattle.slices.proofs.first_in_stride.Tie as tie
 
-count-between-requires : tie.Need-count-between-requires
-count-between-requires c κs = search needs
+count-equal-requires : tie.Need-count-equal-requires
+count-equal-requires c κs = search needs
 
 returns : tie.Need-returns
 returns c =
     let b = c .before .before .before .before .before in
     let g = b .args in
     let p = b .pre in
-    grower-missing (g .d) (g .g .now) (g .w .now) (g .y .now) (p .1 .weights) (p .1 .yields) (omega (arith, c .before .count-between .ensures, c .if1 .taken))
+    grower-missing (g .d) (g .g .now) (g .w .now) (g .y .now) (p .1 .weights) (p .1 .yields) (omega (arith, c .before .count-equal .ensures, c .if1 .taken))
 
 first-tested-requires : tie.Need-first-tested-requires
 first-tested-requires c κs = search needs
@@ -23,4 +23,4 @@ returns-2 c = search needs
 
 pub first-in-stride-spec : {M : Type 1} → statement M
 first-in-stride-spec =
-    tie.close (tie.spec count-between-requires returns first-tested-requires returns-2)
+    tie.close (tie.spec count-equal-requires returns first-tested-requires returns-2)

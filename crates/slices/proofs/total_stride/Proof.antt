@@ -6,8 +6,8 @@ use Rattle.slices.proofs.Sums.{none-between, all-between}
 use Rattle.slices.proofs.total_stride.Statement.{statement}
 use Rattle.slices.proofs.total_stride.Tie as tie
 
-count-between-requires : tie.Need-count-between-requires
-count-between-requires c κs = search needs
+count-requires : tie.Need-count-requires
+count-requires c κs = search needs
 
 none-requires : tie.Need-none-requires
 none-requires c κs = search needs
@@ -17,7 +17,7 @@ returns c =
     let b = c .before .before .before .before .before .before in
     let g = b .args in
     let m = b .pre in
-    c .none .ensures ∙ none-between (g .lo) (g .hi) (g .g .now) (g .w .now) (g .y .now) m (omega (arith, c .before .before .count-between .ensures, c .before .if1 .taken))
+    c .none .ensures ∙ none-between (g .lo) (g .hi) (g .g .now) (g .w .now) (g .y .now) m (omega (arith, c .before .before .count .ensures, c .before .if1 .taken))
 
 total-all-requires : tie.Need-total-all-requires
 total-all-requires c κs = search needs
@@ -27,7 +27,7 @@ returns-2 c =
     let b = c .before .before .before .before .before .before .before in
     let g = b .args in
     let m = b .pre in
-    c .total-all .ensures ∙ all-between (g .lo) (g .hi) (g .g .now) (g .w .now) (g .y .now) m (omega (arith, c .before .before .before .count-between .ensures, c .before .if2 .taken))
+    c .total-all .ensures ∙ all-between (g .lo) (g .hi) (g .g .now) (g .w .now) (g .y .now) m (omega (arith, c .before .before .before .count .ensures, c .before .if2 .taken))
 
 total-tested-requires : tie.Need-total-tested-requires
 total-tested-requires c κs = search needs
@@ -39,7 +39,7 @@ pub total-stride-spec : {M : Type 1} → statement M
 total-stride-spec =
     tie.close
     (tie.spec
-    count-between-requires
+    count-requires
     none-requires
     returns
     total-all-requires
