@@ -21,8 +21,7 @@ use Rattle.model.specs.Accesses.{noCounts, blocksOf, readsOf, blocksScanned, sc
 use Rattle.model.specs.Questions.{lentChecks, callChecks}
 use Rattle.model.specs.ColumnCalls.{columnRefusal}
 use Rattle.model.proofs.Parts.{between-one, part-parts, length-part}
-use Rattle.model.proofs.Deliveries.{rows-part, length-rows, values-rows, first-among}
-use Rattle.checks.specs.Values.{allValuesOk}
+use Rattle.model.proofs.Deliveries.{rows-part, length-rows, first-among}
 use Rattle.column.specs.declared.Located.{Located}
 use Rattle.column.specs.Answers.{notLocated, searchedOf, locatedOf}
 use Rattle.directory.proofs.LentColumns.{LentColumn, lent-column}
@@ -35,19 +34,19 @@ among-match d ds = sym (first-among d ds)
 
 -- In one partition.
 
-module _ (b t a : ℕ) (d : Delivery) (g w y : List ℕ) (p : length w ≡ length g) (q : length y ≡ length g) where
-  pub search-bad : allValuesOk w y ≡ false → notLocated 8 noCounts ≡ searchedOf b t a d (rows g w y)
+module _ (b t a : ℕ) (d : Delivery) (ds : List Delivery) where
+  pub search-bad : every inRange ds ≡ false → notLocated 8 noCounts ≡ searchedOf b t a d ds
   unfolding searchedOf
-  search-bad e = rw (values-rows g w y p q, e)
+  search-bad e = rw e
 
-  module _ (e : allValuesOk w y ≡ true) (i : ℕ) (k : Counts) (m : i ≡ firstMatch d (rows g w y)) (n : k ≡ readsOf (blocksOf b (length g))) where
-    pub search-found : i < length g → _≡_ {A = Located} (record { refusal = 0; target = t; start = a; slot = i; counts = k }) (searchedOf b t a d (rows g w y))
+  module _ (e : every inRange ds ≡ true) (i : ℕ) (k : Counts) (m : i ≡ firstMatch d ds) (n : k ≡ readsOf (blocksOf b (length ds))) where
+    pub search-found : i < length ds → _≡_ {A = Located} (record { refusal = 0; target = t; start = a; slot = i; counts = k }) (searchedOf b t a d ds)
     unfolding searchedOf
-    search-found h = rw (values-rows g w y p q, e, length-rows g w y p q, ← m, lt-ltb i (length g) h, n)
+    search-found h = rw (e, ← m, lt-ltb i (length ds) h, n)
 
-    pub search-missing : length g ≤ i → notLocated 13 k ≡ searchedOf b t a d (rows g w y)
+    pub search-missing : length ds ≤ i → notLocated 13 k ≡ searchedOf b t a d ds
     unfolding searchedOf
-    search-missing h = rw (values-rows g w y p q, e, length-rows g w y p q, ← m, le-ltb i (length g) h, n)
+    search-missing h = rw (e, ← m, le-ltb i (length ds) h, n)
 
 -- In the column.
 

@@ -171,10 +171,11 @@ fn search_part(
     requires { ⌜ (length (now g) ≤ mostSlots) × Even (now g) (now w) (now y) × (1 ≤ block) ⌝ }
     ensures { λ r. ⌜ r ≡ searchedOf block partition start d (rows (now (g .entry)) (now (w .entry)) (now (y .entry))) ⌝ }
 {
-    if !checks::values_ok(w, y) {
+    let f = scan::seek_all(g, w, y, d);
+    if !f.good {
         return not_located(8);
     }
-    let i = slices::first_match(g, w, y, d);
+    let i = f.slot;
     let counts = scan::reads_of(scan::blocks_of(g.len(), block));
     if i < g.len() {
         return Located {

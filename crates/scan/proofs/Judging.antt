@@ -1,6 +1,17 @@
 -- Answers with a flag: a value where all was in range, and else a fixed answer. Assumes nothing.
 use mathlib.Core.Path.{_≡_, sym, ap, _∙_}
 use mathlib.Core.Bool.{Bool, true, false, cond, _&&_}
+use mathlib.Core.List.{List}
+use Prim.Native.Nat.{ℕ}
+use Rattle.model.specs.Lent.{Even}
+use Rattle.model.specs.Lists.{every}
+use Rattle.model.specs.Deliveries.{inRange, rows}
+use Rattle.model.proofs.Deliveries.{values-rows}
+use Rattle.checks.specs.Values.{allValuesOk}
+
+-- check 8 of two slices says whether their records are in range
+pub values-say : (g w y : List ℕ) → Even g w y → (v : Bool) → v ≡ allValuesOk w y → (b : Bool) → v ≡ b → every inRange (rows g w y) ≡ b
+values-say g w y p v e b h = values-rows g w y (p .weights) (p .yields) ∙ sym e ∙ h
 
 -- what goes on from a good answer with what is in range is good
 pub good-on : {S : Type 0} {a b : Bool} {x good : S} (bad : S) → a ≡ true → b ≡ true → x ≡ good → x ≡ cond (a && b) good bad

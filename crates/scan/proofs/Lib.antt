@@ -3,3 +3,4 @@ pub mod Blocks
 pub mod Judging
 pub mod Summing
 pub mod Scanning
+pub mod Seeking

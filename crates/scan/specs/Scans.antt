@@ -2,14 +2,16 @@
 use Prim.Native.Nat.{ℕ, _+_, _≤_}
 use mathlib.Core.Bool.{true, false, cond, _&&_}
 use mathlib.Core.List.{List, map, flatten}
+use lib.Dec.{ltb}
 use lib.ListN.{length, take, drop}
 use Rattle.model.specs.declared.Delivery.{Delivery}
 use Rattle.model.specs.Lists.{sumOf, every}
-use Rattle.model.specs.Deliveries.{LightTotals, plusTotals, inRange, noTotals, totalsBetween}
+use Rattle.model.specs.Deliveries.{LightTotals, plusTotals, inRange, noTotals, totalsBetween, firstMatch}
 use Rattle.model.specs.Partitions.{parts}
 use Rattle.model.specs.Accesses.{blocksOf}
 use Rattle.scan.specs.declared.Sum.{Sum}
 use Rattle.scan.specs.declared.Scan.{Scan}
+use Rattle.scan.specs.declared.Sought.{Sought}
 
 -- a sum that met a value out of range
 abbrev pub badSum : Sum
@@ -49,3 +51,15 @@ scanOf b ns p n lo hi ds =
 pub record Light (m k : ℕ) (s : Scan) : Type 0 where
   pub light : LightTotals m (s .totals)
   pub short : s .blocks ≤ m + k
+
+-- a search that met a value out of range
+abbrev pub badSought : Sought
+badSought = record { good = false; slot = 0 }
+
+-- a search that goes on to the records ds, which i records are before
+unfoldable pub seekMore : Delivery → Sought → ℕ → List Delivery → Sought
+seekMore d s i ds = cond (s .good && every inRange ds) (record { good = true; slot = cond (ltb (s .slot) i) (s .slot) (i + firstMatch d ds) }) badSought
+
+-- a search of the records ds
+unfoldable pub seekAll : Delivery → List Delivery → Sought
+seekAll d ds = cond (every inRange ds) (record { good = true; slot = firstMatch d ds }) badSought

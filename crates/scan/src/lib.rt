@@ -8,8 +8,9 @@ ghost use Rattle.model.specs.Lists.{sumOf};
 ghost use Rattle.model.specs.Deliveries.{rows, LightTotals};
 ghost use Rattle.model.specs.Partitions.{startOf};
 ghost use Rattle.model.specs.Accesses.{blocksOf, readsOf};
-ghost use Rattle.scan.specs.Scans.{badSum, sumMore, sumAll, badScan, scanMore, scanOf, Light};
+ghost use Rattle.scan.specs.Scans.{badSum, sumMore, sumAll, badScan, scanMore, scanOf, Light, badSought, seekMore, seekAll};
 use model::Counts;
+use model::Delivery;
 use model::STRIDE;
 use model::Totals;
 
@@ -161,4 +162,60 @@ pub fn scan_parts(
         i += 1;
     }
     s
+}
+
+// Are all values in range, and then the first record that is a delivery, or how many records there are.
+pub struct Sought {
+    pub good: bool,
+    pub slot: usize,
+}
+
+fn bad_sought() -> Sought
+    ensures { λ r. ⌜ r ≡ badSought ⌝ }
+{
+    Sought {
+        good: false,
+        slot: 0,
+    }
+}
+
+// A search goes on to more records, which i records are before. They are judged while they are at hand, those after the match too.
+fn seek_more(s: Sought, g: &[u32], w: &[u32], y: &[u32], i: usize, d: Delivery) -> Sought
+    requires { ⌜ (length (now g) ≤ mostSlots) × Even (now g) (now w) (now y) × (i ≤ mostSlots) ⌝ }
+    ensures { λ r. ⌜ r ≡ seekMore d s i (rows (now (g .entry)) (now (w .entry)) (now (y .entry))) ⌝ }
+{
+    if !s.good {
+        return bad_sought();
+    }
+    if !checks::values_ok(w, y) {
+        return bad_sought();
+    }
+    let found = s.slot;
+    if found < i {
+        return Sought {
+            good: true,
+            slot: found,
+        };
+    }
+    let slot = i + slices::first_in_stride(g, w, y, d);
+    Sought { good: true, slot }
+}
+
+// The records of three slices, a stride at a time.
+pub fn seek_all(g: &[u32], w: &[u32], y: &[u32], d: Delivery) -> Sought
+    requires { ⌜ (length (now g) ≤ mostSlots) × Even (now g) (now w) (now y) ⌝ }
+    ensures { λ r. ⌜ r ≡ seekAll d (rows (now (g .entry)) (now (w .entry)) (now (y .entry))) ⌝ }
+{
+    let mut s = Sought {
+        good: true,
+        slot: 0,
+    };
+    let mut i = 0;
+    while STRIDE <= g.len() - i {
+        let e = i + STRIDE;
+        s = seek_more(s, &g[i..e], &w[i..e], &y[i..e], i, d);
+        i = e;
+    }
+    let e = g.len();
+    seek_more(s, &g[i..e], &w[i..e], &y[i..e], i, d)
 }

@@ -1,75 +1,76 @@
--- `column::search_part` meets its contract. Assumes nothing.
-use mathlib.Core.Path.{sym, ap, _∙_}
+-- `column::search_part`: what `seek_all` finds decides 8 and 13, and the scan is counted by the partition's blocks. Assumes nothing.
+use mathlib.Core.Path.{_≡_, sym, ap, _∙_}
+use mathlib.Core.Bool.{Bool, true, false}
+use mathlib.Core.List.{List}
+use native.Mathlib.Omega.{arith}
 use borrow.Author.Needs.{needs}
 use borrow.Author.Tests.{not-true, not-false}
 use lib.ListN.{length}
-use Rattle.model.specs.Accesses.{readsOf}
+use Rattle.model.specs.declared.Delivery.{Delivery}
+use Rattle.model.specs.Lists.{every}
+use Rattle.model.specs.Deliveries.{rows, inRange}
+use Rattle.model.specs.Accesses.{blocksOf, readsOf}
+use Rattle.model.proofs.Deliveries.{length-rows}
 use Rattle.scan.proofs.Blocks.{blocks-least}
+use Rattle.scan.proofs.Seeking.{seek-says, seek-slot}
 use Rattle.column.proofs.Searching.{search-bad, search-found, search-missing}
 use Rattle.column.proofs.search_part.Statement.{statement}
 use Rattle.column.proofs.search_part.Tie as tie
 
-values-ok-requires : tie.Need-values-ok-requires
-values-ok-requires c κs = search needs
+abbrev start : tie.After-seek-all → tie.Start
+start c = c .before .before .before .before
 
-not-located-requires : tie.Need-not-located-requires
-not-located-requires c κs = search needs
+abbrev records : tie.After-seek-all → List Delivery
+records c = let a = start c .args in rows (a .g .now) (a .w .now) (a .y .now)
+
+size : (c : tie.After-seek-all) → length (records c) ≡ length (start c .args .g .now)
+size c = let a = start c .args in length-rows (a .g .now) (a .w .now) (a .y .now) (start c .pre .1 .weights) (start c .pre .1 .yields)
+
+in-range : (c : tie.After-seek-all) (b : Bool) → c .seek-all .result .good ≡ b → every inRange (records c) ≡ b
+in-range c = seek-says (start c .args .d) (records c) (c .seek-all .result) (c .seek-all .ensures)
+
+abbrev sought : tie.After-reads-of → tie.After-seek-all
+sought c = c .before .before .before .before
+
+scanned : (c : tie.After-reads-of) → c .reads-of .result ≡ readsOf (blocksOf (start (sought c) .args .block) (length (records (sought c))))
+scanned c = c .reads-of .ensures ∙ ap readsOf (c .before .blocks-of .ensures ∙ ap (blocksOf (start (sought c) .args .block)) (sym (size (sought c))))
 
 returns : tie.Need-returns
 returns c =
-    let b = c .before .before .before .before .before .before in
-    let g = b .args in
-    let p = b .pre in
-    c .not-located .ensures ∙ search-bad (g .block) (g .partition) (g .start) (g .d) (g .g .now) (g .w .now) (g .y .now) (p .1 .weights) (p .1 .yields)
-    (sym (c .before .before .values-ok .ensures) ∙ not-true _ (c .before .if1 .taken))
-
-first-match-requires : tie.Need-first-match-requires
-first-match-requires c κs = search needs
-
-blocks-of-requires : tie.Need-blocks-of-requires
-blocks-of-requires c κs = search needs
+    let f = c .before .before .before in
+    let a = start f .args in
+    c .not-located .ensures ∙ search-bad (a .block) (a .partition) (a .start) (a .d) (records f) (in-range f false (not-true _ (c .before .if1 .taken)))
 
 reads-of-requires : tie.Need-reads-of-requires
-reads-of-requires c κs =
-    let b = c .before .before .before .before .before .before .before in
-    let g = b .args in
-    rw (c .blocks-of .ensures) (blocks-least (g .block) (length (g .g .now)))
+reads-of-requires c κs = let a = start (c .before .before .before) .args in rw (c .blocks-of .ensures) (blocks-least (a .block) (length (a .g .now)))
 
 returns-2 : tie.Need-returns-2
 returns-2 c =
-    let b₁ = c .before .before .before .before in
-    let b₂ = b₁ .before in
-    let b₃ = b₂ .before .before .before .before in
-    let g = b₃ .args in
-    let p = b₃ .pre in
-    search-found (g .block) (g .partition) (g .start) (g .d) (g .g .now) (g .w .now) (g .y .now) (p .1 .weights) (p .1 .yields) (sym (b₂ .values-ok .ensures) ∙ not-false _ (b₁ .if1 .left)) _ _
-    (c .before .before .before .first-match .ensures) (c .before .reads-of .ensures ∙ ap readsOf (c .before .before .blocks-of .ensures)) (c .if2 .taken)
-
-not-located-after-requires : tie.Need-not-located-after-requires
-not-located-after-requires c κs = search needs
+    let f = sought (c .before) in
+    let a = start f .args in
+    let good = not-false _ (c .before .before .before .if1 .left) in
+    search-found (a .block) (a .partition) (a .start) (a .d) (records f) (in-range f true good) _ _ (seek-slot (a .d) (records f) _ (f .seek-all .ensures) good) (scanned (c .before))
+    (omega (arith, size f, c .if2 .taken))
 
 returns-3 : tie.Need-returns-3
 returns-3 c =
-    let b₁ = c .before .before .before .before in
-    let b₂ = b₁ .before in
-    let b₃ = b₂ .before in
-    let b₄ = b₃ .before .before .before .before in
-    let g = b₄ .args in
-    let p = b₄ .pre in
-    c .not-located-after .ensures ∙ search-missing (g .block) (g .partition) (g .start) (g .d) (g .g .now) (g .w .now) (g .y .now) (p .1 .weights) (p .1 .yields)
-    (sym (b₃ .values-ok .ensures) ∙ not-false _ (b₂ .if1 .left)) _ _ (b₁ .first-match .ensures)
-    (c .before .before .reads-of .ensures ∙ ap readsOf (c .before .before .before .blocks-of .ensures)) (c .before .if2 .left)
+    let r = c .before .before in
+    let f = sought r in
+    let a = start f .args in
+    let good = not-false _ (r .before .before .if1 .left) in
+    c .not-located-after .ensures
+    ∙ search-missing (a .block) (a .partition) (a .start) (a .d) (records f) (in-range f true good) _ _ (seek-slot (a .d) (records f) _ (f .seek-all .ensures) good) (scanned r)
+    (omega (arith, size f, c .before .if2 .left))
 
 pub search-part-spec : {M : Type 1} → statement M
 search-part-spec =
     tie.close
     (tie.spec
-    values-ok-requires
-    not-located-requires
+    (λ c κs. search needs)
+    (λ c κs. search needs)
     returns
-    first-match-requires
-    blocks-of-requires
+    (λ c κs. search needs)
     reads-of-requires
     returns-2
-    not-located-after-requires
+    (λ c κs. search needs)
     returns-3)

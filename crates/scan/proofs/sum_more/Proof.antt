@@ -7,11 +7,10 @@ use borrow.Author.Tests.{not-true, not-false}
 use Rattle.model.specs.declared.Totals.{Totals}
 use Rattle.model.specs.Lists.{every}
 use Rattle.model.specs.Deliveries.{inRange, plusTotals, rows}
-use Rattle.model.proofs.Deliveries.{values-rows}
 use Rattle.slices.specs.Slices.{Measured}
 use Rattle.slices.proofs.Sums.{measured-light}
 use Rattle.scan.specs.Scans.{badSum, sumMore}
-use Rattle.scan.proofs.Judging.{good-on}
+use Rattle.scan.proofs.Judging.{values-say, good-on}
 use Rattle.scan.proofs.Summing.{measured}
 use Rattle.scan.proofs.sum_more.Statement.{statement}
 use Rattle.scan.proofs.sum_more.Tie as tie
@@ -21,10 +20,7 @@ start c = c .before .before .before .before .before .before
 
 -- whether the new records are in range
 in-range : (c : tie.After-values-ok) (b : Bool) → c .values-ok .result ≡ b → let a = start c .args in every inRange (rows (a .g .now) (a .w .now) (a .y .now)) ≡ b
-in-range c b h =
-    let a = start c .args in
-    let p = start c .pre .1 in
-    values-rows (a .g .now) (a .w .now) (a .y .now) (p .weights) (p .yields) ∙ sym (c .values-ok .ensures) ∙ h
+in-range c = let a = start c .args in values-say (a .g .now) (a .w .now) (a .y .now) (start c .pre .1) (c .values-ok .result) (c .values-ok .ensures)
 
 fit : (c : tie.Else2) → let a = start (c .before) .args in Measured (a .g .now) (a .w .now) (a .y .now)
 fit c =
