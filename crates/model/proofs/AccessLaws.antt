@@ -7,7 +7,7 @@ use Rattle.model.specs.Accesses.{counts, readsOf}
 -- of one block or more
 pub reads-some : (n : ℕ) → 1 ≤ n → readsOf n ≡ counts 1 (n - 1) 0
 unfolding readsOf
-reads-some zero h = let z : ⊥ = omega arith in absurd z
+reads-some zero h = absurd (omega arith)
 reads-some (suc n) h = let e : n ≡ suc n - 1 = omega arith in ap (λ (m : ℕ). counts 1 m 0) e
 
 -- never more than one random read, and no write

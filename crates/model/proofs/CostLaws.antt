@@ -14,8 +14,8 @@ use Rattle.model.proofs.Integers.{is-exists, is-add, is-mul, eq-is}
 count-added : (a b : List ℕ) (i : ℕ) → length a ≡ length b → getD (addCounts a b) i 0 ≡ getD a i 0 + getD b i 0
 unfolding addCounts
 count-added [] [] i e = refl
-count-added [] (y ∷ b) i e = let z : ⊥ = omega arith in absurd z
-count-added (x ∷ a) [] i e = let z : ⊥ = omega arith in absurd z
+count-added [] (y ∷ b) i e = absurd (omega arith)
+count-added (x ∷ a) [] i e = absurd (omega arith)
 count-added (x ∷ a) (y ∷ b) zero e = refl
 count-added (x ∷ a) (y ∷ b) (suc i) e = count-added a b i (omega arith)
 

@@ -5,7 +5,7 @@ use mathlib.Core.Bool.{Bool, true, false, cond, _&&_, _||_}
 use mathlib.Core.List.{List, [], _∷_}
 use native.Mathlib.Omega.{arith}
 use borrow.Author.Tests.{lt-ltb}
-use lib.Dec.{T, leb, ltb, leb·suc-suc}
+use lib.Dec.{T, leb, ltb, eqb, eqb→eq, leb·suc-suc}
 use lib.ListN.{length, getD, take, drop, length-take, length-drop}
 use native.Mathlib.Numerals.{add-one}
 use lib.Seq.{getD-take, getD-drop, drop-cons}
@@ -13,10 +13,22 @@ use Rattle.model.specs.declared.Delivery.{Delivery}
 use Rattle.model.specs.Bounds.{mostWeight, mostYield}
 use Rattle.model.specs.Lists.{every}
 use Rattle.model.specs.Deliveries.{delivery, rows, inRange, same, among, firstMatch}
-use Rattle.model.proofs.Tests.{same-test, or-fst, or-snd}
+use Rattle.model.proofs.Tests.{and-fst, and-snd, same-test, or-fst, or-snd}
 
 abbrev pub nobody : Delivery
 nobody = delivery 0 0 0
+
+-- deliveries of the same grower, weight and yield are equal
+pub same-equal : (a b : Delivery) → T (same a b) → a ≡ b
+same-equal a b t =
+    let g = eqb (a .grower) (b .grower) in
+    let w = eqb (a .weight) (b .weight) in
+    let y = eqb (a .«oil_yield») (b .«oil_yield») in
+    let u = and-fst (g && w) y t in
+    let eg : a .grower ≡ b .grower = eqb→eq _ _ (and-fst g w u) in
+    let ew : a .weight ≡ b .weight = eqb→eq _ _ (and-snd g w u) in
+    let ey : a .«oil_yield» ≡ b .«oil_yield» = eqb→eq _ _ (and-snd (g && w) y t) in
+    λ i. delivery (eg i) (ew i) (ey i)
 
 pub record Found (d : Delivery) (l : List Delivery) : Type 0 where
   pub index : ℕ
@@ -34,7 +46,7 @@ found d (r ∷ l) h = go (same d r) refl h (found d l)
 
 found-is : (d : Delivery) (l : List Delivery) (i : ℕ) → i < length l → T (same d (getD l i nobody)) → T (among d l)
 unfolding among
-found-is d [] i h e = let z : ⊥ = omega arith in absurd z
+found-is d [] i h e = absurd (omega arith)
 found-is d (r ∷ l) zero h e = or-fst (same d r) (among d l) e
 found-is d (r ∷ l) (suc i) h e = or-snd (same d r) (among d l) (found-is d l i (omega arith) e)
 
@@ -50,14 +62,15 @@ first-among d (r ∷ l) = go (same d r) (first-among d l)
 
 pub rows-grower : (gs ws ys : List ℕ) (i : ℕ) → i < length (rows gs ws ys) → getD (rows gs ws ys) i nobody .grower ≡ getD gs i 0
 unfolding rows
-rows-grower [] ws ys i h = let z : ⊥ = omega arith in absurd z
-rows-grower (g ∷ gs) [] ys i h = let z : ⊥ = omega arith in absurd z
-rows-grower (g ∷ gs) (w ∷ ws) [] i h = let z : ⊥ = omega arith in absurd z
+rows-grower [] ws ys i h = absurd (omega arith)
+rows-grower (g ∷ gs) [] ys i h = absurd (omega arith)
+rows-grower (g ∷ gs) (w ∷ ws) [] i h = absurd (omega arith)
 rows-grower (g ∷ gs) (w ∷ ws) (y ∷ ys) zero h = refl
 rows-grower (g ∷ gs) (w ∷ ws) (y ∷ ys) (suc i) h = rows-grower gs ws ys i (omega arith)
 
 -- the part of a list that holds every match holds what the list holds
-pub among-part : (d : Delivery) (a n m : ℕ) (l : List Delivery) → a + n ≤ m → ((i : ℕ) → i < m → i < length l → T (same d (getD l i nobody)) → (a ≤ i) × (i < a + n)) → among d (take n (drop a l)) ≡ among d (take m l)
+pub among-part : (d : Delivery) (a n m : ℕ) (l : List Delivery) → a + n ≤ m
+    → ((i : ℕ) → i < m → i < length l → T (same d (getD l i nobody)) → (a ≤ i) × (i < a + n)) → among d (take n (drop a l)) ≡ among d (take m l)
 among-part d a n m l h only = same-test _ _ out back
   where
     out : T (among d (take n (drop a l))) → T (among d (take m l))
@@ -113,8 +126,8 @@ rows-part k a g w y = rows-take k (drop a g) (drop a w) (drop a y) ∙ ap (take 
 pub length-rows : (g w y : List ℕ) → length w ≡ length g → length y ≡ length g → length (rows g w y) ≡ length g
 unfolding rows
 length-rows [] w y p q = refl
-length-rows (a ∷ g) [] y p q = let z : ⊥ = omega arith in absurd z
-length-rows (a ∷ g) (b ∷ w) [] p q = let z : ⊥ = omega arith in absurd z
+length-rows (a ∷ g) [] y p q = absurd (omega arith)
+length-rows (a ∷ g) (b ∷ w) [] p q = absurd (omega arith)
 length-rows (a ∷ g) (b ∷ w) (c ∷ y) p q = ap suc (length-rows g w y (omega arith) (omega arith))
 
 -- row i, and the rows after it
@@ -138,10 +151,10 @@ pub values-rows : (g w y : List ℕ) → length w ≡ length g → length y ≡ 
     → every inRange (rows g w y) ≡ every (λ (n : ℕ). leb n mostWeight) w && every (λ (n : ℕ). leb n mostYield) y
 unfolding rows every
 values-rows [] [] [] p q = refl
-values-rows [] [] (c ∷ y) p q = let z : ⊥ = omega arith in absurd z
-values-rows [] (b ∷ w) y p q = let z : ⊥ = omega arith in absurd z
-values-rows (a ∷ g) [] y p q = let z : ⊥ = omega arith in absurd z
-values-rows (a ∷ g) (b ∷ w) [] p q = let z : ⊥ = omega arith in absurd z
+values-rows [] [] (c ∷ y) p q = absurd (omega arith)
+values-rows [] (b ∷ w) y p q = absurd (omega arith)
+values-rows (a ∷ g) [] y p q = absurd (omega arith)
+values-rows (a ∷ g) (b ∷ w) [] p q = absurd (omega arith)
 values-rows (a ∷ g) (b ∷ w) (c ∷ y) p q =
     ap (λ (t : Bool). leb b mostWeight && leb c mostYield && t) (values-rows g w y (omega arith) (omega arith))
     ∙ both-pairs (leb b mostWeight) (leb c mostYield) (every (λ (n : ℕ). leb n mostWeight) w) (every (λ (n : ℕ). leb n mostYield) y)

@@ -117,8 +117,8 @@ module _ (L : ℕ) where
     kept = record { size = size-with; count = refl; directory = directory-with; unused = unused-with }
 
   pub with-lengths : (ls ns : List ℕ) → length ns ≡ directorySize L → length ls ≡ partitionCount L ns → partitionCount L ns ≤ L → Kept ls ns
-  with-lengths ls [] h e k = let z : ⊥ = omega arith in absurd z
-  with-lengths ls (b ∷ []) h e k = let z : ⊥ = omega arith in absurd z
+  with-lengths ls [] h e k = absurd (omega arith)
+  with-lengths ls (b ∷ []) h e k = absurd (omega arith)
   with-lengths ls (b ∷ c ∷ r) h e k = kept b c ls r (omega arith) e k
 
   -- Check 6 of a directory for n slots, taken apart.

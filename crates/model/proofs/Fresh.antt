@@ -8,7 +8,7 @@ use native.Mathlib.Omega.{arith}
 use native.Mathlib.Numerals.{add-one}
 use native.Mathlib.Decide.{ℕ-discrete, decLt}
 use native.Mathlib.Nat.{mul-le-mul-right}
-use lib.Dec.{T, ltb, eqb, lt→ltb, eqb→eq, T-not}
+use lib.Dec.{T, ltb, eqb, lt→ltb, T-not}
 use lib.ListN.{length, getD, take, drop}
 use lib.Seq.{take-all}
 use Rattle.model.specs.declared.Delivery.{Delivery}
@@ -23,25 +23,34 @@ use Rattle.model.specs.Accesses.{blocksOf, blocksScanned}
 use Rattle.model.proofs.Tests.{and-fst, and-snd, and-mk, eq→eqb}
 use Rattle.model.proofs.ListLaws.{sum-span, map-take, map-drop, every-at, every-part, ceil-only, ceil-most}
 use Rattle.model.proofs.Places.{Placed}
-use Rattle.model.proofs.Deliveries.{nobody, among-part, rows-grower}
+use Rattle.model.proofs.Deliveries.{nobody, same-equal, among-part, rows-grower}
 use Rattle.model.proofs.Parts.{between-is}
 use Rattle.model.proofs.LayoutLaws.{Cut, cut-last, cut-early, Laid}
 use Rattle.model.proofs.SetLaws.{Good, spot, past-early, past-last, past-mono, growers-rise, lasts-rise, part-placed}
+
+-- The slots of a set as rows, and the lengths of its partitions.
+
+abbrev slotRows : Set → List Delivery
+slotRows s = rows (s .growers) (s .weights) (s .yields)
+
+abbrev lens : Set → List ℕ → List ℕ
+lens s ends = lengthsFrom s 0 ends
 
 -- The blocks of the partitions.
 
 sum-sizes : (f : ℕ) (ends : List ℕ) (n m : ℕ) → Cut f ends n → m < length ends → sumOf (take (suc m) (blockCounts f ends)) + f ≡ getD ends m 0 + 1
 unfolding Cut blockCounts sumOf
-sum-sizes f [] n m c h = let z : ⊥ = omega arith in absurd z
+sum-sizes f [] n m c h = absurd (omega arith)
 sum-sizes f (e ∷ es) n zero c h = omega (arith, c .0)
 sum-sizes f (e ∷ es) n (suc m) c h = omega (arith, c .0, sum-sizes (e + 1) es n m (c .2) (omega arith))
 
 -- of partitions a to q: from the first block of a to the end of q
-span-sizes : (f : ℕ) (ends : List ℕ) (n a m q : ℕ) → Cut f ends n → q ≡ a + m → q < length ends → sumOf (take (suc m) (drop a (blockCounts f ends))) + getD (f ∷ map (λ (e : ℕ). e + 1) ends) a 0 ≡ getD ends q 0 + 1
+span-sizes : (f : ℕ) (ends : List ℕ) (n a m q : ℕ) → Cut f ends n → q ≡ a + m → q < length ends
+    → sumOf (take (suc m) (drop a (blockCounts f ends))) + getD (f ∷ map (λ (e : ℕ). e + 1) ends) a 0 ≡ getD ends q 0 + 1
 unfolding Cut blockCounts
-span-sizes f [] n a m q c h k = let z : ⊥ = omega arith in absurd z
+span-sizes f [] n a m q c h k = absurd (omega arith)
 span-sizes f (e ∷ es) n zero m q c h k = let u : q ≡ m = omega arith in rw u (sum-sizes f (e ∷ es) n m c (omega arith))
-span-sizes f (e ∷ es) n (suc a) m zero c h k = let z : ⊥ = omega arith in absurd z
+span-sizes f (e ∷ es) n (suc a) m zero c h k = absurd (omega arith)
 span-sizes f (e ∷ es) n (suc a) m (suc q) c h k = span-sizes (e + 1) es n a m q (c .2) (omega arith) (omega arith)
 
 pub length-lengths : (s : Set) (a : ℕ) (ends : List ℕ) → length (lengthsFrom s a ends) ≡ length ends
@@ -71,21 +80,23 @@ module _ (L : ℕ) (s : Set) (o : Good L s) where
   -- where partitions end, in slots
   stops : (f a : ℕ) (ends : List ℕ) (q : ℕ) → a ≤ blockStop s f → Cut f ends (blocks s) → q < length ends → sumOf (take (suc q) (lengthsFrom s a ends)) + a ≡ blockStop s (getD ends q 0)
   unfolding lengthsFrom Cut sumOf
-  stops f a [] q h c k = let z : ⊥ = omega arith in absurd z
+  stops f a [] q h c k = absurd (omega arith)
   stops f a (e ∷ es) zero h c k = omega (arith, past-mono L s o f e (c .0))
   stops f a (e ∷ es) (suc q) h c k =
       let u = past-mono L s o f e (c .0) in
       omega (arith, stops (e + 1) (blockStop s e) es q (past-mono L s o e (e + 1) (omega arith)) (c .2) (omega arith))
 
   -- growers differ across an end
-  differ : (e : ℕ) → e + 1 < blocks s → T (separatesNone s e) → ((e + 1) * s .block < s .used) × (getD (s .growers) ((e + 1) * s .block - 1) 0 < getD (s .growers) ((e + 1) * s .block) 0)
+  differ : (e : ℕ) → e + 1 < blocks s → T (separatesNone s e)
+      → ((e + 1) * s .block < s .used) × (getD (s .growers) ((e + 1) * s .block - 1) 0 < getD (s .growers) ((e + 1) * s .block) 0)
   differ e h t =
       let k : (e + 2) * s .block ≤ blocks s * s .block = mul-le-mul-right (s .block) (omega arith) in
-      let w : (e + 1) * s .block < s .used = omega (arith, k, ceil-most (s .used) (s .block) (o .b-least)) in
-      let g = growers-rise L s o ((e + 1) * s .block - 1) ((e + 1) * s .block) (omega arith) w in
-      let a : Bool = ltb ((e + 1) * s .block) (s .used) in
-      let b : Bool = eqb (getD (s .growers) ((e + 1) * s .block - 1) 0) (getD (s .growers) ((e + 1) * s .block) 0) in
-      let n : getD (s .growers) ((e + 1) * s .block - 1) 0 ≢ getD (s .growers) ((e + 1) * s .block) 0 = λ q. T-not (a && b) t (and-mk a b (lt→ltb ((e + 1) * s .block) (s .used) w) (eq→eqb (getD (s .growers) ((e + 1) * s .block - 1) 0) (getD (s .growers) ((e + 1) * s .block) 0) q)) in
+      let i : ℕ = (e + 1) * s .block in
+      let w : i < s .used = omega (arith, k, ceil-most (s .used) (s .block) (o .b-least)) in
+      let g = growers-rise L s o (i - 1) i (omega arith) w in
+      let a : Bool = ltb i (s .used) in
+      let b : Bool = eqb (getD (s .growers) (i - 1) 0) (getD (s .growers) i 0) in
+      let n : getD (s .growers) (i - 1) 0 ≢ getD (s .growers) i 0 = λ q. T-not (a && b) t (and-mk a b (lt→ltb i (s .used) w) (eq→eqb _ _ q)) in
       (w, omega arith)
 
   pub fences-rise : (f : ℕ) (ends : List ℕ) → Cut f ends (blocks s) → T (every (separatesNone s) ends) → T (rising (map (lastGrower s) ends))
@@ -93,35 +104,37 @@ module _ (L : ℕ) (s : Set) (o : Good L s) where
   fences-rise f [] c t = tt
   fences-rise f (e ∷ []) c t = tt
   fences-rise f (e ∷ d ∷ es) c t =
-      let w = differ e (omega (arith, c .2 .0, c .2 .1)) (and-fst (separatesNone s e) (every (separatesNone s) (d ∷ es)) t) in
+      let rest = every (separatesNone s) (d ∷ es) in
+      let w = differ e (omega (arith, c .2 .0, c .2 .1)) (and-fst (separatesNone s e) rest t) in
       let p = past-early L s o e (omega (arith, c .2 .0, c .2 .1)) in
       let k : (e + 2) * s .block ≤ (d + 1) * s .block = mul-le-mul-right (s .block) (omega (arith, c .2 .0)) in
       let g = growers-rise L s o ((e + 1) * s .block) (blockStop s d - 1) (omega (arith, w .0, o .b-least)) (omega (arith, o .m-least)) in
       let q : lastGrower s e ≡ getD (s .growers) ((e + 1) * s .block - 1) 0 = ap (λ (n : ℕ). getD (s .growers) (n - 1) 0) p in
-      and-mk (ltb (lastGrower s e) (lastGrower s d)) (rising (map (lastGrower s) (d ∷ es))) (lt→ltb (lastGrower s e) (lastGrower s d) (omega (arith, w .1))) (fences-rise (e + 1) (d ∷ es) (c .2) (and-snd (separatesNone s e) (every (separatesNone s) (d ∷ es)) t))
+      and-mk (ltb (lastGrower s e) (lastGrower s d)) (rising (map (lastGrower s) (d ∷ es))) (lt→ltb (lastGrower s e) (lastGrower s d) (omega (arith, w .1)))
+      (fences-rise (e + 1) (d ∷ es) (c .2) (and-snd (separatesNone s e) rest t))
 
   module _ (ends : List ℕ) (l : Laid s ends) where
-    pub total-used : sumOf (lengthsFrom s 0 ends) ≡ s .used
+    pub total-used : sumOf (lens s ends) ≡ s .used
     total-used =
         let q : ℕ = length ends - 1 in
         let e : suc q ≡ length ends = omega (arith, l .some) in
         let a = stops 0 0 ends q (omega arith) (l .cut) (omega (arith, l .some)) in
         let b = past-last L s o (getD ends q 0) (cut-last 0 ends (blocks s) q (l .cut) (omega (arith, l .some))) in
-        let c : take (suc q) (lengthsFrom s 0 ends) ≡ lengthsFrom s 0 ends = take-all (suc q) (lengthsFrom s 0 ends) (omega (arith, length-lengths s 0 ends)) in
+        let c : take (suc q) (lens s ends) ≡ lens s ends = take-all (suc q) (lens s ends) (omega (arith, length-lengths s 0 ends)) in
         omega (arith, ap sumOf c)
 
     -- the slots of partitions p to q
-    stop-of : (p q : ℕ) → p ≤ q → q < length ends → startOf (lengthsFrom s 0 ends) p + sumOf (take (q + 1 - p) (drop p (lengthsFrom s 0 ends))) ≡ blockStop s (endOf ends q)
+    stop-of : (p q : ℕ) → p ≤ q → q < length ends → startOf (lens s ends) p + sumOf (take (q + 1 - p) (drop p (lens s ends))) ≡ blockStop s (endOf ends q)
     unfolding startOf
     stop-of p q h k =
-        let a : sumOf (take (q + 1) (lengthsFrom s 0 ends)) + 0 ≡ blockStop s (endOf ends q) = rw (add-one q) (stops 0 0 ends q (omega arith) (l .cut) k) in
-        omega (arith, sum-span (lengthsFrom s 0 ends) p (q + 1) (omega arith))
+        let a : sumOf (take (q + 1) (lens s ends)) + 0 ≡ blockStop s (endOf ends q) = rw (add-one q) (stops 0 0 ends q (omega arith) (l .cut) k) in
+        omega (arith, sum-span (lens s ends) p (q + 1) (omega arith))
 
-    pub start-next : (p : ℕ) → p < length ends → startOf (lengthsFrom s 0 ends) (suc p) ≡ blockStop s (endOf ends p)
+    pub start-next : (p : ℕ) → p < length ends → startOf (lens s ends) (suc p) ≡ blockStop s (endOf ends p)
     unfolding startOf
     start-next p h = omega (arith, stops 0 0 ends p (omega arith) (l .cut) h)
 
-    start-zero : startOf (lengthsFrom s 0 ends) 0 ≡ 0
+    start-zero : startOf (lens s ends) 0 ≡ 0
     unfolding startOf sumOf
     start-zero = refl
 
@@ -134,11 +147,13 @@ module _ (L : ℕ) (s : Set) (o : Good L s) where
         rw (map-take, map-drop, fresh-blocks-from 0 0 ends (omega arith) (l .cut), e) (span-sizes 0 ends (blocks s) p m q (l .cut) (omega arith) k)
 
     -- every delivery scanned is in range
-    pub all-in-range : (p q : ℕ) → p ≤ q → q < length ends → T (every inRange (between (lengthsFrom s 0 ends) p q (rows (s .growers) (s .weights) (s .yields))))
-    all-in-range p q h k = rw (between-is (lengthsFrom s 0 ends) p q (rows (s .growers) (s .weights) (s .yields))) (every-part inRange (startOf (lengthsFrom s 0 ends) p) (sumOf (take (q + 1 - p) (drop p (lengthsFrom s 0 ends)))) (s .used) (rows (s .growers) (s .weights) (s .yields)) (omega (arith, stop-of p q h k)) (o .values-ok))
+    pub all-in-range : (p q : ℕ) → p ≤ q → q < length ends → T (every inRange (between (lens s ends) p q (slotRows s)))
+    all-in-range p q h k =
+        rw (between-is (lens s ends) p q (slotRows s))
+        (every-part inRange (startOf (lens s ends) p) (sumOf (take (q + 1 - p) (drop p (lens s ends)))) (s .used) (slotRows s) (omega (arith, stop-of p q h k)) (o .values-ok))
 
     -- the slot of a grower lies in the grower's partition
-    pub lower : (g i p : ℕ) → i < s .used → getD (s .growers) i 0 ≡ g → Placed ends (blockOf s g) p → startOf (lengthsFrom s 0 ends) p ≤ i
+    pub lower : (g i p : ℕ) → i < s .used → getD (s .growers) i 0 ≡ g → Placed ends (blockOf s g) p → startOf (lens s ends) p ≤ i
     lower g i zero h e c = rw start-zero (omega arith)
     lower g i (suc p) h e c = rw (start-next p (omega (arith, c .within))) (go (decLt i (blockStop s (endOf ends p))))
       where
@@ -147,7 +162,7 @@ module _ (L : ℕ) (s : Set) (o : Good L s) where
         go (yes n) =
             let a = spot L s o g .before (endOf ends p) (c .before p (omega arith)) in
             let b = growers-rise L s o i (blockStop s (endOf ends p) - 1) (omega arith) (omega (arith, o .m-least)) in
-            let z : ⊥ = omega arith in absurd z
+            absurd (omega arith)
 
     pub upper : (g i p : ℕ) → i < s .used → getD (s .growers) i 0 ≡ g → Placed ends (blockOf s g) p → i < blockStop s (endOf ends p)
     upper g i p h e c = go (ℕ-discrete (p + 1) (length ends)) (decLt i (blockStop s (endOf ends p)))
@@ -165,11 +180,11 @@ module _ (L : ℕ) (s : Set) (o : Good L s) where
             let b = lasts-rise L s o (blockOf s g) (endOf ends p) y in
             let r : lastGrower s (endOf ends p) ≡ getD (s .growers) ((endOf ends p + 1) * s .block - 1) 0 = ap (λ (n : ℕ). getD (s .growers) (n - 1) 0) u in
             let f = growers-rise L s o ((endOf ends p + 1) * s .block) i (omega arith) h in
-            let z : ⊥ = omega (arith, x .1) in absurd z
+            absurd (omega (arith, x .1))
 
     -- a delivery is in the set just if it is in its grower's partition
-    pub among-here : (d : Delivery) → let p : ℕ = place ends (blockOf s (d .grower)) in among d (between (lengthsFrom s 0 ends) p p (rows (s .growers) (s .weights) (s .yields))) ≡ among d (held s)
-    among-here d = ap (λ (r : List Delivery). among d r) (between-is (lengthsFrom s 0 ends) p p (rows (s .growers) (s .weights) (s .yields))) ∙ among-part d _ _ (s .used) (rows (s .growers) (s .weights) (s .yields)) (omega (arith, e)) only
+    pub among-here : (d : Delivery) → let p : ℕ = place ends (blockOf s (d .grower)) in among d (between (lens s ends) p p (slotRows s)) ≡ among d (held s)
+    among-here d = ap (among d) (between-is (lens s ends) p p (slotRows s)) ∙ among-part d _ _ (s .used) (slotRows s) (omega (arith, e)) only
       where
         p : ℕ
         p = place ends (blockOf s (d .grower))
@@ -177,12 +192,11 @@ module _ (L : ℕ) (s : Set) (o : Good L s) where
         c : Placed ends (blockOf s (d .grower)) p
         c = part-placed L s o ends l (blockOf s (d .grower))
 
-        e : startOf (lengthsFrom s 0 ends) p + sumOf (take (p + 1 - p) (drop p (lengthsFrom s 0 ends))) ≡ blockStop s (endOf ends p)
+        e : startOf (lens s ends) p + sumOf (take (p + 1 - p) (drop p (lens s ends))) ≡ blockStop s (endOf ends p)
         e = stop-of p p (omega arith) (c .within)
 
-        only : (i : ℕ) → i < s .used → i < length (rows (s .growers) (s .weights) (s .yields)) → T (same d (getD (rows (s .growers) (s .weights) (s .yields)) i nobody)) → (startOf (lengthsFrom s 0 ends) p ≤ i) × (i < startOf (lengthsFrom s 0 ends) p + sumOf (take (p + 1 - p) (drop p (lengthsFrom s 0 ends))))
+        only : (i : ℕ) → i < s .used → i < length (slotRows s) → T (same d (getD (slotRows s) i nobody))
+            → (startOf (lens s ends) p ≤ i) × (i < startOf (lens s ends) p + sumOf (take (p + 1 - p) (drop p (lens s ends))))
         only i h k t =
-            let r : Delivery = getD (rows (s .growers) (s .weights) (s .yields)) i nobody in
-            let g : d .grower ≡ r .grower = eqb→eq (d .grower) (r .grower) (and-fst (eqb (d .grower) (r .grower)) (eqb (d .weight) (r .weight)) (and-fst (eqb (d .grower) (r .grower) && eqb (d .weight) (r .weight)) (eqb (d .«oil_yield») (r .«oil_yield»)) t)) in
-            let q : getD (s .growers) i 0 ≡ d .grower = sym (g ∙ rows-grower (s .growers) (s .weights) (s .yields) i k) in
+            let q : getD (s .growers) i 0 ≡ d .grower = sym (ap (λ (r : Delivery). r .grower) (same-equal d (getD (slotRows s) i nobody) t) ∙ rows-grower (s .growers) (s .weights) (s .yields) i k) in
             (lower (d .grower) i p h q c, omega (arith, e, upper (d .grower) i p h q c))

@@ -1,10 +1,8 @@
 -- ℤ as differences of naturals, so that every law is one of sums. Assumes nothing.
 use mathlib.Core.Path.{_≡_, refl, sym, ap, subst}
-use mathlib.Core.Logic.{_⊎_, inl, inr}
 use mathlib.Core.Bool.{Bool, true, false, not, cond}
 use Prim.Native.Nat.{ℕ, zero, suc, _+_, _-_, _*_, _≤_, _<_}
 use native.Mathlib.Omega.{arith}
-use native.Mathlib.Decide.{decLe}
 use lib.Dec.{T, ltb, le→leb, leb→le, ltb→lt, nltb→le}
 use lib.IntN.{ℤ, pos, negsuc, negℤ, subℕ, _+ℤ_, _*ℤ_}
 use lib.Signed.{_≤ℤ_, ltZ, ltZ-no}
@@ -53,7 +51,7 @@ is-neg (negsuc a) p m h = omega arith
 pub le-is : (y z : ℤ) (p m q n : ℕ) → Is y p m → Is z q n → p + n ≤ q + m → y ≤ℤ z
 unfolding Is
 le-is (pos a) (pos b) p m q n h k l = record { le = le→leb a b (omega arith) }
-le-is (pos a) (negsuc b) p m q n h k l = let z : ⊥ = omega arith in absurd z
+le-is (pos a) (negsuc b) p m q n h k l = absurd (omega arith)
 le-is (negsuc a) (pos b) p m q n h k l = record { le = tt }
 le-is (negsuc a) (negsuc b) p m q n h k l = record { le = le→leb b a (omega arith) }
 
@@ -68,47 +66,14 @@ is-le (negsuc a) (negsuc b) p m q n h k l = let g : b ≤ a = leb→le b a (l .l
 pub eq-is : (y z : ℤ) (p m q n : ℕ) → Is y p m → Is z q n → p + n ≡ q + m → y ≡ z
 unfolding Is
 eq-is (pos a) (pos b) p m q n h k l = ap pos (omega arith)
-eq-is (pos a) (negsuc b) p m q n h k l = let z : ⊥ = omega arith in absurd z
-eq-is (negsuc a) (pos b) p m q n h k l = let z : ⊥ = omega arith in absurd z
+eq-is (pos a) (negsuc b) p m q n h k l = absurd (omega arith)
+eq-is (negsuc a) (pos b) p m q n h k l = absurd (omega arith)
 eq-is (negsuc a) (negsuc b) p m q n h k l = ap negsuc (omega arith)
-
--- the order's laws that the library lacks, each by the pairs
-pub ≤ℤ-trans : (x y z : ℤ) → x ≤ℤ y → y ≤ℤ z → x ≤ℤ z
-≤ℤ-trans x y z h k =
-    let i = is-exists x in
-    let j = is-exists y in
-    let l = is-exists z in
-    let f = is-le x y (i .0) (i .1) (j .0) (j .1) (i .2) (j .2) h in
-    let g = is-le y z (j .0) (j .1) (l .0) (l .1) (j .2) (l .2) k in
-    le-is x z (i .0) (i .1) (l .0) (l .1) (i .2) (l .2) (omega arith)
-
-pub +ℤ-mono : (w x y z : ℤ) → w ≤ℤ x → y ≤ℤ z → (w +ℤ y) ≤ℤ (x +ℤ z)
-+ℤ-mono w x y z h k =
-    let g = is-exists w in
-    let i = is-exists x in
-    let j = is-exists y in
-    let l = is-exists z in
-    let a = is-le w x (g .0) (g .1) (i .0) (i .1) (g .2) (i .2) h in
-    let b = is-le y z (j .0) (j .1) (l .0) (l .1) (j .2) (l .2) k in
-    le-is (w +ℤ y) (x +ℤ z) _ _ _ _ (is-add w y _ _ _ _ (g .2) (j .2)) (is-add x z _ _ _ _ (i .2) (l .2)) (omega arith)
 
 pub is-mul : (z : ℤ) (p m k : ℕ) → Is z p m → Is (z *ℤ pos k) (p * k) (m * k)
 unfolding Is
 is-mul (pos a) p m k h = omega (arith, ap (λ (v : ℕ). v * k) h)
 is-mul (negsuc a) p m k h = is-shift (negℤ (pos (suc a * k))) 0 (suc a * k) (p * k) (m * k) (is-neg (pos (suc a * k)) (suc a * k) 0 (is-pos (suc a * k))) (omega (arith, ap (λ (v : ℕ). v * k) h))
-
-pub ≤ℤ-total : (x y : ℤ) → (x ≤ℤ y) ⊎ (y ≤ℤ x)
-≤ℤ-total x y = go (decLe (i .0 + j .1) (j .0 + i .1))
-  where
-    i : (p : ℕ) × (m : ℕ) × Is x p m
-    i = is-exists x
-
-    j : (p : ℕ) × (m : ℕ) × Is y p m
-    j = is-exists y
-
-    go : Dec (i .0 + j .1 ≤ j .0 + i .1) → (x ≤ℤ y) ⊎ (y ≤ℤ x)
-    go (yes h) = inl (le-is x y _ _ _ _ (i .2) (j .2) h)
-    go (no h) = inr (le-is y x _ _ _ _ (j .2) (i .2) (omega arith))
 
 -- a signed test that failed
 pub nlt-le : (x y : ℤ) → ltZ x y ≡ false → y ≤ℤ x

@@ -1,9 +1,10 @@
 -- A layout cuts the blocks, and every layout is listed once its ends rise to the last block. Assumes nothing.
 use Prim.Native.Nat.{ℕ, zero, suc, _+_, _-_, _≤_, _<_}
-use mathlib.Core.Path.{_≡_, refl, sym, ap, subst}
+use mathlib.Core.Path.{_≡_, sym, ap, subst}
 use mathlib.Core.Logic.{_⊎_, inl, inr}
 use mathlib.Core.Bool.{_&&_}
-use mathlib.Core.List.{List, [], _∷_, map, List·Memᴰ, List·Memᴰ·head, List·Memᴰ·tail, List·Memᴰ·cases-cons, List·Memᴰ·not-nil, List·Memᴰ·eq-of-singleton, List·Memᴰ·append-cases, Memᴰ·append-left, Memᴰ·append-right, Memᴰ·cast}
+use mathlib.Core.List.{List, [], _∷_, map, List·Memᴰ, List·Memᴰ·head, List·Memᴰ·eq-of-singleton}
+use mathlib.Core.List.{List·Memᴰ·append-cases, Memᴰ·append-left, Memᴰ·append-right, Memᴰ·cast, Memᴰ·map, Memᴰ·of-map}
 use native.Mathlib.Omega.{arith}
 use native.Mathlib.Decide.{ℕ-discrete}
 use lib.Dec.{T, leb, ltb, eqb, leb→le, le→leb, ltb→lt, lt→ltb, eqb→eq}
@@ -28,28 +29,28 @@ cut-of f a (b ∷ l) n h r e =
     (h, omega (arith, c .1), c)
 
 cut-layout : (ends : List ℕ) (n : ℕ) → 1 ≤ length ends → T (rising ends) → endOf ends (length ends - 1) + 1 ≡ n → Cut 0 ends n
-cut-layout [] n h r e = let z : ⊥ = omega arith in absurd z
+cut-layout [] n h r e = absurd (omega arith)
 cut-layout (a ∷ l) n h r e =
     let q : length (a ∷ l) - 1 ≡ length l = omega arith in
     cut-of 0 a l n (omega arith) r (subst (λ (m : ℕ). getD (a ∷ l) m 0 + 1 ≡ n) q e)
 
 pub cut-less : (f : ℕ) (ends : List ℕ) (n p : ℕ) → Cut f ends n → p < length ends → getD ends p 0 < n
 unfolding Cut
-cut-less f [] n p c h = let z : ⊥ = omega arith in absurd z
+cut-less f [] n p c h = absurd (omega arith)
 cut-less f (e ∷ es) n zero c h = c .1
 cut-less f (e ∷ es) n (suc p) c h = cut-less (e + 1) es n p (c .2) (omega arith)
 
 pub cut-last : (f : ℕ) (ends : List ℕ) (n p : ℕ) → Cut f ends n → p + 1 ≡ length ends → getD ends p 0 + 1 ≡ n
 unfolding Cut
-cut-last f [] n p c h = let z : ⊥ = omega arith in absurd z
+cut-last f [] n p c h = absurd (omega arith)
 cut-last f (e ∷ []) n zero c h = c .2
-cut-last f (e ∷ d ∷ es) n zero c h = let z : ⊥ = omega arith in absurd z
+cut-last f (e ∷ d ∷ es) n zero c h = absurd (omega arith)
 cut-last f (e ∷ es) n (suc p) c h = cut-last (e + 1) es n p (c .2) (omega arith)
 
 pub cut-early : (f : ℕ) (ends : List ℕ) (n p : ℕ) → Cut f ends n → p + 1 < length ends → getD ends p 0 + 1 < n
 unfolding Cut
-cut-early f [] n p c h = let z : ⊥ = omega arith in absurd z
-cut-early f (e ∷ []) n p c h = let z : ⊥ = omega arith in absurd z
+cut-early f [] n p c h = absurd (omega arith)
+cut-early f (e ∷ []) n p c h = absurd (omega arith)
 cut-early f (e ∷ d ∷ es) n zero c h = omega (arith, c .2 .0, c .2 .1)
 cut-early f (e ∷ d ∷ es) n (suc p) c h = cut-early (e + 1) (d ∷ es) n p (c .2) (omega arith)
 
@@ -62,7 +63,7 @@ cut-count f (e ∷ es) n c = omega (arith, c .0, cut-count (e + 1) es n (c .2))
 -- the first block of a partition is no later than its end
 pub cut-first : (f : ℕ) (ends : List ℕ) (n p : ℕ) → Cut f ends n → p < length ends → getD (f ∷ map (λ (e : ℕ). e + 1) ends) p 0 ≤ getD ends p 0
 unfolding Cut
-cut-first f [] n p c h = let z : ⊥ = omega arith in absurd z
+cut-first f [] n p c h = absurd (omega arith)
 cut-first f (e ∷ es) n zero c h = c .0
 cut-first f (e ∷ es) n (suc p) c h = cut-first (e + 1) es n p (c .2) (omega arith)
 
@@ -94,26 +95,10 @@ laid s ends h =
 
 -- Every layout is listed, and nothing else.
 
-map-cases : (a : ℕ) (es : List ℕ) (xs : List (List ℕ)) → List·Memᴰ es (map (λ ds. a ∷ ds) xs) → (ds : List ℕ) × (es ≡ a ∷ ds) × List·Memᴰ ds xs
-map-cases a es [] m = absurd (List·Memᴰ·not-nil m)
-map-cases a es (x ∷ xs) m = go (map-cases a es xs) (List·Memᴰ·cases-cons m)
-  where
-    go : (List·Memᴰ es (map (λ ds. a ∷ ds) xs) → (ds : List ℕ) × (es ≡ a ∷ ds) × List·Memᴰ ds xs) → (es ≡ a ∷ x) ⊎ List·Memᴰ es (map (λ ds. a ∷ ds) xs) → (ds : List ℕ) × (es ≡ a ∷ ds) × List·Memᴰ ds (x ∷ xs)
-    go ih (inl e) = (x, e, List·Memᴰ·head refl)
-    go ih (inr h) = let r = ih h in (r .0, r .1, List·Memᴰ·tail (r .2))
-
-map-mem : (a : ℕ) (es : List ℕ) (xs : List (List ℕ)) → List·Memᴰ es xs → List·Memᴰ (a ∷ es) (map (λ ds. a ∷ ds) xs)
-map-mem a es [] m = absurd (List·Memᴰ·not-nil m)
-map-mem a es (x ∷ xs) m = go (map-mem a es xs) (List·Memᴰ·cases-cons m)
-  where
-    go : (List·Memᴰ es xs → List·Memᴰ (a ∷ es) (map (λ ds. a ∷ ds) xs)) → (es ≡ x) ⊎ List·Memᴰ es xs → List·Memᴰ (a ∷ es) (map (λ ds. a ∷ ds) (x ∷ xs))
-    go ih (inl e) = List·Memᴰ·head (ap (λ (l : List ℕ). a ∷ l) e)
-    go ih (inr h) = List·Memᴰ·tail (ih h)
-
 -- the blocks a onward may begin one earlier
 cut-earlier : (a : ℕ) (es : List ℕ) (n : ℕ) → 1 ≤ length es → Cut (a + 1) es n → Cut a es n
 unfolding Cut
-cut-earlier a [] n h c = let z : ⊥ = omega arith in absurd z
+cut-earlier a [] n h c = absurd (omega arith)
 cut-earlier a (e ∷ es) n h c = (omega (arith, c .0), c .1, c .2)
 
 cut-same : (a : ℕ) (es : List ℕ) (m n : ℕ) → m ≡ n → Cut a es m → Cut a es n
@@ -125,26 +110,28 @@ listed-sound zero a es m =
     subst (λ (l : List ℕ). (1 ≤ length l) × Cut a l (a + 0 + 1)) (sym (List·Memᴰ·eq-of-singleton m)) (omega arith, (omega arith, omega arith, omega arith))
 listed-sound (suc c) a es m = go (λ ds. listed-sound c (a + 1) ds) (List·Memᴰ·append-cases (map (λ ds. a ∷ ds) (layoutsFrom (a + 1) c)) m)
   where
-    go : ((ds : List ℕ) → List·Memᴰ ds (layoutsFrom (a + 1) c) → (1 ≤ length ds) × Cut (a + 1) ds (a + 1 + c + 1)) → List·Memᴰ es (map (λ ds. a ∷ ds) (layoutsFrom (a + 1) c)) ⊎ List·Memᴰ es (layoutsFrom (a + 1) c) → (1 ≤ length es) × Cut a es (a + suc c + 1)
+    go : ((ds : List ℕ) → List·Memᴰ ds (layoutsFrom (a + 1) c) → (1 ≤ length ds) × Cut (a + 1) ds (a + 1 + c + 1))
+        → List·Memᴰ es (map (λ ds. a ∷ ds) (layoutsFrom (a + 1) c)) ⊎ List·Memᴰ es (layoutsFrom (a + 1) c) → (1 ≤ length es) × Cut a es (a + suc c + 1)
     go ih (inl h) =
-        let r = map-cases a es (layoutsFrom (a + 1) c) h in
-        let i = ih (r .0) (r .2) in
-        subst (λ (l : List ℕ). (1 ≤ length l) × Cut a l (a + suc c + 1)) (sym (r .1)) (omega arith, (omega arith, omega arith, cut-same (a + 1) (r .0) _ _ (omega arith) (i .1)))
+        let r = Memᴰ·of-map (λ ds. a ∷ ds) (layoutsFrom (a + 1) c) h in
+        let i = ih (r .0) (r .1) in
+        subst (λ (l : List ℕ). (1 ≤ length l) × Cut a l (a + suc c + 1)) (r .2) (omega arith, (omega arith, omega arith, cut-same (a + 1) (r .0) _ _ (omega arith) (i .1)))
     go ih (inr h) = let i = ih es h in (i .0, cut-earlier a es _ (i .0) (cut-same (a + 1) es _ _ (omega arith) (i .1)))
 
 listed-whole : (c a : ℕ) (es : List ℕ) → 1 ≤ length es → Cut a es (a + c + 1) → List·Memᴰ es (layoutsFrom a c)
 unfolding layoutsFrom Cut
-listed-whole zero a [] h k = let z : ⊥ = omega arith in absurd z
+listed-whole zero a [] h k = absurd (omega arith)
 listed-whole zero a (e ∷ []) h k = let x : e ≡ a = omega (arith, k .0, k .1) in List·Memᴰ·head (ap (λ (v : ℕ). v ∷ []) x)
-listed-whole zero a (e ∷ (f ∷ es)) h k = let z : ⊥ = omega (arith, k .0, k .2 .0, k .2 .1) in absurd z
-listed-whole (suc c) a [] h k = let z : ⊥ = omega arith in absurd z
+listed-whole zero a (e ∷ (f ∷ es)) h k = absurd (omega (arith, k .0, k .2 .0, k .2 .1))
+listed-whole (suc c) a [] h k = absurd (omega arith)
 listed-whole (suc c) a (e ∷ es) h k = go es (k .2) (listed-whole c (a + 1)) (ℕ-discrete a e)
   where
-    go : (es : List ℕ) → Cut (e + 1) es (a + suc c + 1) → ((ds : List ℕ) → 1 ≤ length ds → Cut (a + 1) ds (a + 1 + c + 1) → List·Memᴰ ds (layoutsFrom (a + 1) c)) → Dec (a ≡ e) → List·Memᴰ (e ∷ es) (layoutsFrom a (suc c))
-    go [] s ih (yes q) = let z : ⊥ = omega (arith, s) in absurd z
+    go : (es : List ℕ) → Cut (e + 1) es (a + suc c + 1)
+        → ((ds : List ℕ) → 1 ≤ length ds → Cut (a + 1) ds (a + 1 + c + 1) → List·Memᴰ ds (layoutsFrom (a + 1) c)) → Dec (a ≡ e) → List·Memᴰ (e ∷ es) (layoutsFrom a (suc c))
+    go [] s ih (yes q) = absurd (omega (arith, s))
     go (f ∷ es) s ih (yes q) =
         let i = ih (f ∷ es) (omega arith) (subst (λ (v : ℕ). Cut (v + 1) (f ∷ es) (a + 1 + c + 1)) (sym q) (cut-same (e + 1) (f ∷ es) _ _ (omega arith) s)) in
-        Memᴰ·append-left _ (Memᴰ·cast (ap (λ (v : ℕ). v ∷ (f ∷ es)) (sym q)) (map-mem a (f ∷ es) _ i))
+        Memᴰ·append-left _ (Memᴰ·cast (ap (λ (v : ℕ). v ∷ (f ∷ es)) (sym q)) (Memᴰ·map (λ ds. a ∷ ds) i))
     go es s ih (no q) =
         Memᴰ·append-right (map (λ ds. a ∷ ds) (layoutsFrom (a + 1) c)) (ih (e ∷ es) (omega arith) (omega (arith, k .0), omega (arith, k .1), cut-same (e + 1) es _ _ (omega arith) s))
 

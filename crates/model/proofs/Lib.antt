@@ -28,5 +28,6 @@ pub mod BookLaws
 pub mod ColumnBooks
 pub mod WriteLaws
 pub mod Laws
+pub mod Computing
 pub mod Marked
 pub mod BooksComputed

@@ -84,13 +84,13 @@ set-one t a l h = rw add-one (set-split l t a h)
 -- Lists by their elements.
 
 pub at-map : (f : ℕ → ℕ) (l : List ℕ) (i : ℕ) → i < length l → getD (map f l) i 0 ≡ f (getD l i 0)
-at-map f [] i h = let z : ⊥ = omega arith in absurd z
+at-map f [] i h = absurd (omega arith)
 at-map f (x ∷ l) zero h = refl
 at-map f (x ∷ l) (suc i) h = at-map f l i (omega arith)
 
 pub at-upFrom : (a n i : ℕ) → i < n → getD (upFrom a n) i 0 ≡ a + i
 unfolding upFrom
-at-upFrom a zero i h = let z : ⊥ = omega arith in absurd z
+at-upFrom a zero i h = absurd (omega arith)
 at-upFrom a (suc n) zero h = omega arith
 at-upFrom a (suc n) (suc i) h = omega (arith, at-upFrom (a + 1) n i (omega arith))
 
@@ -102,7 +102,7 @@ length-upFrom a (suc n) = ap suc (length-upFrom (a + 1) n)
 first-most : (a : ℕ) (l : List ℕ) (j : ℕ) → T (neverFalls (a ∷ l)) → j < length (a ∷ l) → a ≤ getD (a ∷ l) j 0
 unfolding neverFalls
 first-most a l zero h k = omega arith
-first-most a [] (suc j) h k = let z : ⊥ = omega arith in absurd z
+first-most a [] (suc j) h k = absurd (omega arith)
 first-most a (b ∷ l) (suc j) h k = omega (arith, leb→le a b (and-fst (leb a b) (neverFalls (b ∷ l)) h), first-most b l j (and-snd (leb a b) (neverFalls (b ∷ l)) h) (omega arith))
 
 tail-sorted : (a : ℕ) (l : List ℕ) → T (neverFalls (a ∷ l)) → T (neverFalls l)
@@ -111,28 +111,28 @@ tail-sorted a [] h = tt
 tail-sorted a (b ∷ l) h = and-snd (leb a b) (neverFalls (b ∷ l)) h
 
 pub sorted : (l : List ℕ) (i j : ℕ) → T (neverFalls l) → i ≤ j → j < length l → getD l i 0 ≤ getD l j 0
-sorted [] i j h k m = let z : ⊥ = omega arith in absurd z
+sorted [] i j h k m = absurd (omega arith)
 sorted (a ∷ l) zero j h k m = first-most a l j h m
-sorted (a ∷ l) (suc i) zero h k m = let z : ⊥ = omega arith in absurd z
+sorted (a ∷ l) (suc i) zero h k m = absurd (omega arith)
 sorted (a ∷ l) (suc i) (suc j) h k m = sorted l i j (tail-sorted a l h) (omega arith) (omega arith)
 
 pub every-at : (f : ℕ → Bool) (l : List ℕ) (p : ℕ) → T (every f l) → p < length l → T (f (getD l p 0))
 unfolding every
-every-at f [] p h k = let z : ⊥ = omega arith in absurd z
+every-at f [] p h k = absurd (omega arith)
 every-at f (x ∷ l) zero h k = and-fst (f x) (every f l) h
 every-at f (x ∷ l) (suc p) h k = every-at f l p (and-snd (f x) (every f l) h) (omega arith)
 
 every-take : {A : Type 0} (f : A → Bool) (n m : ℕ) (l : List A) → n ≤ m → T (every f (take m l)) → T (every f (take n l))
 unfolding every
 every-take f zero m l h t = tt
-every-take f (suc n) zero l h t = let z : ⊥ = omega arith in absurd z
+every-take f (suc n) zero l h t = absurd (omega arith)
 every-take f (suc n) (suc m) [] h t = tt
 every-take f (suc n) (suc m) (x ∷ l) h t = and-mk (f x) (every f (take n l)) (and-fst (f x) (every f (take m l)) t) (every-take f n m l (omega arith) (and-snd (f x) (every f (take m l)) t))
 
 pub every-part : {A : Type 0} (f : A → Bool) (a n m : ℕ) (l : List A) → a + n ≤ m → T (every f (take m l)) → T (every f (take n (drop a l)))
 unfolding every
 every-part f zero n m l h t = every-take f n m l (omega arith) t
-every-part f (suc a) n zero l h t = let z : ⊥ = omega arith in absurd z
+every-part f (suc a) n zero l h t = absurd (omega arith)
 every-part f (suc a) zero (suc m) [] h t = tt
 every-part f (suc a) (suc n) (suc m) [] h t = tt
 every-part f (suc a) n (suc m) (x ∷ l) h t = every-part f a n m l (omega arith) (and-snd (f x) (every f (take m l)) t)

@@ -1,7 +1,8 @@
 -- No move loses or makes a record: the rows afterwards are the rows before, with the record added, taken away or changed. Assumes nothing.
 use Prim.Native.Nat.{ℕ, _+_, _-_, _<_}
 use mathlib.Core.Path.{_≡_, refl, sym, ap, _∙_}
-use mathlib.Core.List.{List, [], _∷_, _++_, map, flatten, append-assoc, List·Permᴰ, List·Permᴰ·nil, List·Permᴰ·cons, List·Permᴰ·trans, Permᴰ·refl, Permᴰ·append-left, Permᴰ·append-right, Permᴰ·middle, Permᴰ·append-nil, Permᴰ·symm}
+use mathlib.Core.List.{List, [], _∷_, _++_, map, flatten, append-assoc, List·Permᴰ, List·Permᴰ·nil, List·Permᴰ·cons, List·Permᴰ·trans}
+use mathlib.Core.List.{Permᴰ·refl, Permᴰ·append-left, Permᴰ·append-right, Permᴰ·middle, Permᴰ·append-nil, Permᴰ·symm}
 use native.Mathlib.Omega.{arith}
 use native.Mathlib.Numerals.{add-one}
 use lib.ListN.{length, take, drop, getD, take-append-drop}

@@ -32,9 +32,9 @@ decide-intro x y r h = go (ltb x y) (ltb y x) refl refl h
   where
     go : (b c : Bool) → ltb x y ≡ b → ltb y x ≡ c → (x < y) ⊎ ((x ≡ y) × T r) → T (decide b c r)
     go true c p q h = tt
-    go false true p q (inl h) = let u : y < x = ltb→lt y x (of-true _ q) in let z : ⊥ = omega arith in absurd z
-    go false true p q (inr h) = let u : y < x = ltb→lt y x (of-true _ q) in let z : ⊥ = omega arith in absurd z
-    go false false p q (inl h) = let u : y ≤ x = nltb→le x y (subst (λ (t : Bool). T (not t)) (sym p) tt) in let z : ⊥ = omega arith in absurd z
+    go false true p q (inl h) = let u : y < x = ltb→lt y x (of-true _ q) in absurd (omega arith)
+    go false true p q (inr h) = let u : y < x = ltb→lt y x (of-true _ q) in absurd (omega arith)
+    go false false p q (inl h) = let u : y ≤ x = nltb→le x y (subst (λ (t : Bool). T (not t)) (sym p) tt) in absurd (omega arith)
     go false false p q (inr h) = h .1
 
 -- the same of two integers, by their pairs
@@ -65,9 +65,9 @@ module _ (x y : ℤ) (p m q n : ℕ) (h : Is x p m) (k : Is y q n) (r : Bool) wh
     where
       go : (b c : Bool) → ltZ x y ≡ b → ltZ y x ≡ c → (p + n < q + m) ⊎ ((p + n ≡ q + m) × T r) → T (decide b c r)
       go true c u v s = tt
-      go false true u v (inl s) = let i = lt-is y x q n p m k h v in let z : ⊥ = omega arith in absurd z
-      go false true u v (inr s) = let i = lt-is y x q n p m k h v in let z : ⊥ = omega arith in absurd z
-      go false false u v (inl s) = let i = nlt-is x y p m q n h k u in let z : ⊥ = omega arith in absurd z
+      go false true u v (inl s) = let i = lt-is y x q n p m k h v in absurd (omega arith)
+      go false true u v (inr s) = let i = lt-is y x q n p m k h v in absurd (omega arith)
+      go false false u v (inl s) = let i = nlt-is x y p m q n h k u in absurd (omega arith)
       go false false u v (inr s) = s .1
 
 -- the order is total
@@ -88,7 +88,8 @@ ends-trans (x ∷ xs) [] z h k = absurd h
 ends-trans (x ∷ xs) (y ∷ ys) [] h k = absurd k
 ends-trans (x ∷ xs) (y ∷ ys) (z ∷ zs) h k = decide-intro x z _ (go (ends-trans xs ys zs) (decide-elim x y _ h) (decide-elim y z _ k))
   where
-    go : (T (endsBefore xs ys) → T (endsBefore ys zs) → T (endsBefore xs zs)) → (x < y) ⊎ ((x ≡ y) × T (endsBefore xs ys)) → (y < z) ⊎ ((y ≡ z) × T (endsBefore ys zs)) → (x < z) ⊎ ((x ≡ z) × T (endsBefore xs zs))
+    go : (T (endsBefore xs ys) → T (endsBefore ys zs) → T (endsBefore xs zs)) → (x < y) ⊎ ((x ≡ y) × T (endsBefore xs ys))
+        → (y < z) ⊎ ((y ≡ z) × T (endsBefore ys zs)) → (x < z) ⊎ ((x ≡ z) × T (endsBefore xs zs))
     go ih (inl u) (inl v) = inl (omega arith)
     go ih (inl u) (inr v) = inl (omega arith)
     go ih (inr u) (inl v) = inl (omega arith)
@@ -101,21 +102,26 @@ ends-antisym (x ∷ xs) [] h k = absurd h
 ends-antisym (x ∷ xs) (y ∷ ys) h k = go (ends-antisym xs ys) (decide-elim x y _ h) (decide-elim y x _ k)
   where
     go : (T (endsBefore xs ys) → T (endsBefore ys xs) → xs ≡ ys) → (x < y) ⊎ ((x ≡ y) × T (endsBefore xs ys)) → (y < x) ⊎ ((y ≡ x) × T (endsBefore ys xs)) → x ∷ xs ≡ y ∷ ys
-    go ih (inl u) (inl v) = let z : ⊥ = omega arith in absurd z
-    go ih (inl u) (inr v) = let z : ⊥ = omega arith in absurd z
-    go ih (inr u) (inl v) = let z : ⊥ = omega arith in absurd z
+    go ih (inl u) (inl v) = absurd (omega arith)
+    go ih (inl u) (inr v) = absurd (omega arith)
+    go ih (inr u) (inl v) = absurd (omega arith)
     go ih (inr u) (inr v) = let e = ih (u .1) (v .1) in let f = u .0 in cc
 
 -- cost x below cost y; or equal, and fewer; or both equal, and the ends
-abbrev Said : (List ℕ → ℤ) → List ℕ → List ℕ → ℕ → ℕ → ℕ → ℕ → Type 0
-Said cost x y p m q n = (p + n < q + m) ⊎ ((p + n ≡ q + m) × ((length x < length y) ⊎ ((length x ≡ length y) × T (endsBefore x y))))
+abbrev pub Said : List ℕ → List ℕ → ℕ → ℕ → ℕ → ℕ → Type 0
+Said x y p m q n = (p + n < q + m) ⊎ ((p + n ≡ q + m) × ((length x < length y) ⊎ ((length x ≡ length y) × T (endsBefore x y))))
 
 module _ (cost : List ℕ → ℤ) (x y : List ℕ) (p m q n : ℕ) (h : Is (cost x) p m) (k : Is (cost y) q n) where
-  pub comesBefore-elim : T (comesBefore cost x y) → (p + n < q + m) ⊎ ((p + n ≡ q + m) × ((length x < length y) ⊎ ((length x ≡ length y) × T (endsBefore x y))))
-  comesBefore-elim s = ⊎-elim (λ u. inl u) (λ (u : (p + n ≡ q + m) × T (decide (ltb (length x) (length y)) (ltb (length y) (length x)) (endsBefore x y))). inr (u .0, decide-elim (length x) (length y) _ (u .1))) (decideℤ-elim (cost x) (cost y) p m q n h k _ s)
+  pub comesBefore-elim : T (comesBefore cost x y) → Said x y p m q n
+  comesBefore-elim s = go (decideℤ-elim (cost x) (cost y) p m q n h k _ s)
+    where
+      go : (p + n < q + m) ⊎ ((p + n ≡ q + m) × T (decide (ltb (length x) (length y)) (ltb (length y) (length x)) (endsBefore x y))) → Said x y p m q n
+      go (inl u) = inl u
+      go (inr u) = inr (u .0, decide-elim (length x) (length y) _ (u .1))
 
-  pub comesBefore-intro : (p + n < q + m) ⊎ ((p + n ≡ q + m) × ((length x < length y) ⊎ ((length x ≡ length y) × T (endsBefore x y)))) → T (comesBefore cost x y)
-  comesBefore-intro s = decideℤ-intro (cost x) (cost y) p m q n h k _ (⊎-elim (λ u. inl u) (λ (u : (p + n ≡ q + m) × ((length x < length y) ⊎ ((length x ≡ length y) × T (endsBefore x y)))). inr (u .0, decide-intro (length x) (length y) _ (u .1))) s)
+  pub comesBefore-intro : Said x y p m q n → T (comesBefore cost x y)
+  comesBefore-intro (inl u) = decideℤ-intro (cost x) (cost y) p m q n h k _ (inl u)
+  comesBefore-intro (inr u) = decideℤ-intro (cost x) (cost y) p m q n h k _ (inr (u .0, decide-intro (length x) (length y) _ (u .1)))
 
 pub comesBefore-total : (cost : List ℕ → ℤ) (x y : List ℕ) → T (comesBefore cost x y) ⊎ T (comesBefore cost y x)
 comesBefore-total cost x y = go (ltZ (cost x) (cost y)) (ltZ (cost y) (cost x)) (ltb (length x) (length y)) (ltb (length y) (length x)) (ends-total x y)
@@ -132,9 +138,11 @@ comesBefore-trans cost x y z h k =
     let i = is-exists (cost x) in
     let j = is-exists (cost y) in
     let l = is-exists (cost z) in
-    comesBefore-intro cost x z _ _ _ _ (i .2) (l .2) (go (i .0) (i .1) (j .0) (j .1) (l .0) (l .1) (comesBefore-elim cost x y _ _ _ _ (i .2) (j .2) h) (comesBefore-elim cost y z _ _ _ _ (j .2) (l .2) k))
+    let a = comesBefore-elim cost x y _ _ _ _ (i .2) (j .2) h in
+    let b = comesBefore-elim cost y z _ _ _ _ (j .2) (l .2) k in
+    comesBefore-intro cost x z _ _ _ _ (i .2) (l .2) (go (i .0) (i .1) (j .0) (j .1) (l .0) (l .1) a b)
   where
-    go : (p m q n r o : ℕ) → Said cost x y p m q n → Said cost y z q n r o → Said cost x z p m r o
+    go : (p m q n r o : ℕ) → Said x y p m q n → Said y z q n r o → Said x z p m r o
     go p m q n r o (inl u) (inl v) = inl (omega arith)
     go p m q n r o (inl u) (inr v) = inl (omega (arith, v .0))
     go p m q n r o (inr u) (inl v) = inl (omega (arith, u .0))
@@ -149,13 +157,13 @@ comesBefore-antisym cost x y h k =
     let j = is-exists (cost y) in
     go (i .0) (i .1) (j .0) (j .1) (comesBefore-elim cost x y _ _ _ _ (i .2) (j .2) h) (comesBefore-elim cost y x _ _ _ _ (j .2) (i .2) k)
   where
-    go : (p m q n : ℕ) → Said cost x y p m q n → Said cost y x q n p m → x ≡ y
-    go p m q n (inl u) (inl v) = let z : ⊥ = omega arith in absurd z
-    go p m q n (inl u) (inr v) = let z : ⊥ = omega (arith, v .0) in absurd z
-    go p m q n (inr u) (inl v) = let z : ⊥ = omega (arith, u .0) in absurd z
-    go p m q n (inr (u, inl a)) (inr (v, inl b)) = let z : ⊥ = omega arith in absurd z
-    go p m q n (inr (u, inl a)) (inr (v, inr b)) = let z : ⊥ = omega (arith, b .0) in absurd z
-    go p m q n (inr (u, inr a)) (inr (v, inl b)) = let z : ⊥ = omega (arith, a .0) in absurd z
+    go : (p m q n : ℕ) → Said x y p m q n → Said y x q n p m → x ≡ y
+    go p m q n (inl u) (inl v) = absurd (omega arith)
+    go p m q n (inl u) (inr v) = absurd (omega (arith, v .0))
+    go p m q n (inr u) (inl v) = absurd (omega (arith, u .0))
+    go p m q n (inr (u, inl a)) (inr (v, inl b)) = absurd (omega arith)
+    go p m q n (inr (u, inl a)) (inr (v, inr b)) = absurd (omega (arith, b .0))
+    go p m q n (inr (u, inr a)) (inr (v, inl b)) = absurd (omega (arith, a .0))
     go p m q n (inr (u, inr a)) (inr (v, inr b)) = ends-antisym x y (a .1) (b .1)
 
 comesBefore-refl : (cost : List ℕ → ℤ) (x : List ℕ) → T (comesBefore cost x x)

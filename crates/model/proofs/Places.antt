@@ -25,12 +25,12 @@ placed-next k l ks g i h r = record { within = omega (arith, r .within); before 
 
 pub placed : (keys : List ℕ) (g : ℕ) → 0 < length keys → Placed keys g (place keys g)
 unfolding place
-placed [] g h = let z : ⊥ = omega arith in absurd z
-placed (k ∷ []) g h = record { within = omega arith; before = λ j w. let z : ⊥ = omega arith in absurd z; here = λ w. let z : ⊥ = omega arith in absurd z }
+placed [] g h = absurd (omega arith)
+placed (k ∷ []) g h = record { within = omega arith; before = λ j w. absurd (omega arith); here = λ w. absurd (omega arith) }
 placed (k ∷ l ∷ ks) g h = go (leb g k) refl (placed (l ∷ ks) g (omega arith))
   where
     go : (b : Bool) → leb g k ≡ b → Placed (l ∷ ks) g (place (l ∷ ks) g) → Placed (k ∷ l ∷ ks) g (cond b 0 (place (l ∷ ks) g + 1))
-    go true e r = record { within = omega arith; before = λ j w. let z : ⊥ = omega arith in absurd z; here = λ w. leb→le g k (of-true (leb g k) e) }
+    go true e r = record { within = omega arith; before = λ j w. absurd (omega arith); here = λ w. leb→le g k (of-true (leb g k) e) }
     go false e r = placed-next k l ks g (place (l ∷ ks) g) (leb-no g k e) r
 
 -- nothing is ahead of a place
@@ -54,4 +54,4 @@ placed-mono keys g h i j l p q = go (decLt j i)
   where
     go : Dec (j < i) → i ≤ j
     go (no n) = omega arith
-    go (yes n) = let a : h ≤ getD keys j 0 = q .here (omega (arith, p .within)) in let z : ⊥ = omega (arith, p .before j n) in absurd z
+    go (yes n) = let a : h ≤ getD keys j 0 = q .here (omega (arith, p .within)) in absurd (omega (arith, p .before j n))

@@ -49,7 +49,7 @@ eq→eqb m n h = subst (λ (x : ℕ). T (eqb m x)) h (eqb-refl m)
 pub yes-first : (n : ℕ) (b : Bool) (cs : List Check) → firstFailed (ask (suc n) b ∷ cs) ≡ 0 → T b × (firstFailed cs ≡ 0)
 unfolding firstFailed
 yes-first n true cs h = (tt, h)
-yes-first n false cs h = let z : ⊥ = omega arith in absurd z
+yes-first n false cs h = absurd (omega arith)
 
 pub first-passed : (n : ℕ) (b : Bool) (cs : List Check) → T b → firstFailed (ask n b ∷ cs) ≡ firstFailed cs
 unfolding firstFailed

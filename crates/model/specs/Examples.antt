@@ -91,11 +91,14 @@ pub record OnThatColumn : Type 0 where
   -- "delete 30: rr 3 sr 1 rw 3; 10 20 40 80 50 60 70"
   pub delete-30 : columnCall blockLimit thatColumn (delete (of 30)) ≡ gives noTotals (counts 3 1 3) (columnWith (3 ∷ 4 ∷ []) (10 ∷ 20 ∷ 40 ∷ 80 ∷ 50 ∷ 60 ∷ 70 ∷ 0 ∷ 0 ∷ []) (seven 100) (seven 2000))
   -- "move 20 to 70: rr 3 sr 1 rw 3; 10 40 30 70 50 60 70 80"
-  pub move-20-70 : columnCall blockLimit thatColumn (move (of 20) 70) ≡ gives noTotals (counts 3 1 3) (columnWith (3 ∷ 5 ∷ []) (10 ∷ 40 ∷ 30 ∷ 70 ∷ 50 ∷ 60 ∷ 70 ∷ 80 ∷ 0 ∷ []) (eight 100) (eight 2000))
+  pub move-20-70 : columnCall blockLimit thatColumn (move (of 20) 70)
+      ≡ gives noTotals (counts 3 1 3) (columnWith (3 ∷ 5 ∷ []) (10 ∷ 40 ∷ 30 ∷ 70 ∷ 50 ∷ 60 ∷ 70 ∷ 80 ∷ 0 ∷ []) (eight 100) (eight 2000))
   -- "move 70 to 20: same counts; 10 20 30 40 20 60 50 80"
-  pub move-70-20 : columnCall blockLimit thatColumn (move (of 70) 20) ≡ gives noTotals (counts 3 1 3) (columnWith (5 ∷ 3 ∷ []) (10 ∷ 20 ∷ 30 ∷ 40 ∷ 20 ∷ 60 ∷ 50 ∷ 80 ∷ 0 ∷ []) (eight 100) (eight 2000))
+  pub move-70-20 : columnCall blockLimit thatColumn (move (of 70) 20)
+      ≡ gives noTotals (counts 3 1 3) (columnWith (5 ∷ 3 ∷ []) (10 ∷ 20 ∷ 30 ∷ 40 ∷ 20 ∷ 60 ∷ 50 ∷ 80 ∷ 0 ∷ []) (eight 100) (eight 2000))
   -- "move 20 to 25: rr 2 sr 1 rw 2"
-  pub move-20-25 : columnCall blockLimit thatColumn (move (of 20) 25) ≡ gives noTotals (counts 2 1 2) (columnWith (4 ∷ 4 ∷ []) (10 ∷ 40 ∷ 30 ∷ 25 ∷ 50 ∷ 60 ∷ 70 ∷ 80 ∷ 0 ∷ []) (eight 100) (eight 2000))
+  pub move-20-25 : columnCall blockLimit thatColumn (move (of 20) 25)
+      ≡ gives noTotals (counts 2 1 2) (columnWith (4 ∷ 4 ∷ []) (10 ∷ 40 ∷ 30 ∷ 25 ∷ 50 ∷ 60 ∷ 70 ∷ 80 ∷ 0 ∷ []) (eight 100) (eight 2000))
 
 -- "Three partitions also cost 35; one costs 40."
 pub record Costs : Type 0 where

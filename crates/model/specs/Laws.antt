@@ -47,7 +47,8 @@ FreshBlocks = (L : ℕ) (s : Set) (ends : List ℕ) → SetPasses L s → T (lay
 pub record KeepsRecords (A : Type 0) : Type 0 where
   pub insert : (t : ℕ) (x : A) (ps : List (List A)) → t < length ps → List·Permᴰ (flatten (insertAt t x ps)) (x ∷ flatten ps)
   pub delete : (d : A) (t i : ℕ) (ps : List (List A)) → t < length ps → i < length (part t ps) → List·Permᴰ (getD (part t ps) i d ∷ flatten (deleteAt t i ps)) (flatten ps)
-  pub move : (d : A) (t i u : ℕ) (x : A) (ps : List (List A)) → t < length ps → u < length ps → i < length (part t ps) → List·Permᴰ (getD (part t ps) i d ∷ flatten (moveAt t i u x ps)) (x ∷ flatten ps)
+  pub move : (d : A) (t i u : ℕ) (x : A) (ps : List (List A)) → t < length ps → u < length ps → i < length (part t ps)
+      → List·Permᴰ (getD (part t ps) i d ∷ flatten (moveAt t i u x ps)) (x ∷ flatten ps)
 
 -- Each move keeps every record in its partition: what passes its partition's test still does.
 pub record KeepsPartitions (A : Type 0) : Type 0 where
@@ -63,8 +64,10 @@ pub record CutAgain {A : Type 0} (ns : List ℕ) (s : List A) (ps : List (List A
 
 pub record LeavesSlots (A : Type 0) : Type 0 where
   pub insert : (ns : List ℕ) (s : List A) (t : ℕ) (x : A) → sumOf ns ≤ length s → t < length ns → CutAgain (oneMore t ns) (inserted ns t x s) (insertAt t x (parts ns s)) (drop 1 (free ns s))
-  pub delete : (ns : List ℕ) (s : List A) (t i : ℕ) (z : A) → sumOf ns ≤ length s → t < length ns → i < getD ns t 0 → CutAgain (oneFewer t ns) (deleted ns t i z s) (deleteAt t i (parts ns s)) (z ∷ free ns s)
-  pub move : (ns : List ℕ) (s : List A) (t i u : ℕ) (x : A) → sumOf ns ≤ length s → t < length ns → u < length ns → i < getD ns t 0 → CutAgain (oneMore u (oneFewer t ns)) (moved ns t i u x s) (moveAt t i u x (parts ns s)) (free ns s)
+  pub delete : (ns : List ℕ) (s : List A) (t i : ℕ) (z : A) → sumOf ns ≤ length s → t < length ns → i < getD ns t 0
+      → CutAgain (oneFewer t ns) (deleted ns t i z s) (deleteAt t i (parts ns s)) (z ∷ free ns s)
+  pub move : (ns : List ℕ) (s : List A) (t i u : ℕ) (x : A) → sumOf ns ≤ length s → t < length ns → u < length ns → i < getD ns t 0
+      → CutAgain (oneMore u (oneFewer t ns)) (moved ns t i u x s) (moveAt t i u x (parts ns s)) (free ns s)
 
 -- Each move commutes with map, so that the three slices move as one: the deliveries afterwards are the move of the deliveries.
 pub record CommutesWithMap {A B : Type 0} (f : A → B) : Type 0 where
@@ -74,8 +77,10 @@ pub record CommutesWithMap {A B : Type 0} (f : A → B) : Type 0 where
 
 pub record SlicesMoveAsOne : Type 0 where
   pub insert : (c : Column) → Even (c .growers) (c .weights) (c .yields) → (ns : List ℕ) (t : ℕ) (d : Delivery) (ms : List ℕ) → slots (moveSlices (inserted ns t) d ms c) ≡ inserted ns t d (slots c)
-  pub delete : (c : Column) → Even (c .growers) (c .weights) (c .yields) → (ns : List ℕ) (t i : ℕ) (d : Delivery) (ms : List ℕ) → slots (moveSlices (deleted ns t i) d ms c) ≡ deleted ns t i d (slots c)
-  pub move : (c : Column) → Even (c .growers) (c .weights) (c .yields) → (ns : List ℕ) (t i u : ℕ) (d : Delivery) (ms : List ℕ) → slots (moveSlices (moved ns t i u) d ms c) ≡ moved ns t i u d (slots c)
+  pub delete : (c : Column) → Even (c .growers) (c .weights) (c .yields) → (ns : List ℕ) (t i : ℕ) (d : Delivery) (ms : List ℕ)
+      → slots (moveSlices (deleted ns t i) d ms c) ≡ deleted ns t i d (slots c)
+  pub move : (c : Column) → Even (c .growers) (c .weights) (c .yields) → (ns : List ℕ) (t i u : ℕ) (d : Delivery) (ms : List ℕ)
+      → slots (moveSlices (moved ns t i u) d ms c) ≡ moved ns t i u d (slots c)
 
 -- two slices of counts, added count by count
 unfoldable pub addCounts : List ℕ → List ℕ → List ℕ
