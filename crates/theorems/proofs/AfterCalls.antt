@@ -73,7 +73,7 @@ module _ (L : ℕ) (c : Column) (v : Valid L c) (bag : List Delivery) (p : List�
 
     slot-there : slotOf L c d < getD (lengthsOf L c) (target L c (d .grower)) 0
     slot-there =
-        let k : slotOf L c d < length (part (target L c (d .grower)) (parts (lengthsOf L c) (slots c))) = subst (λ (l : List Delivery). slotOf L c d < length l) (near-is L c v (d .grower)) (in-its-slot .inside) in
+        let k = subst (λ (l : List Delivery). slotOf L c d < length l) (near-is L c v (d .grower)) (in-its-slot .inside) in
         omega (arith, length-part L c v (target L c (d .grower)))
 
     slot-holds : getD (part (target L c (d .grower)) (parts (lengthsOf L c) (slots c))) (slotOf L c d) nobody ≡ d
@@ -107,8 +107,9 @@ module _ (L : ℕ) (c : Column) (v : Valid L c) (bag : List Delivery) (p : List�
         let ms = oneMore u (oneFewer t ns) in
         let there : t < length ns = target-there L c v (d .grower) in
         let new : u < length ns = target-there L c v g in
+        let b = rw slot-holds at (moved-bag ns (slots c) (room L c v) nobody t i u x there new slot-there) in
         let q : List·Permᴰ (d ∷ flatten (parts ms (slots (columnAfter L c (move d g))))) (x ∷ bag)
-        = rw (slots-moved c (even-slices L c v) ns t i u x ms) (List·Permᴰ·trans (rw slot-holds at (moved-bag ns (slots c) (room L c v) nobody t i u x there new slot-there)) (List·Permᴰ·cons refl p)) in
+        = rw (slots-moved c (even-slices L c v) ns t i u x ms) (List·Permᴰ·trans b (List·Permᴰ·cons refl p)) in
         follows L c v (moved ns t i u) x ms
         (λ y s e. length-moved ns s t i u y there new slot-there (omega (arith, v .shape .room)) ∙ e)
         (length-set (oneFewer t ns) u _ ∙ length-set ns t _)

@@ -39,7 +39,7 @@ module _ {A : Type 0} where
       go false q = q
   bag-keep f (List·Permᴰ·swap {a} {b} {a′} {b′} {l} e g) = rw (ap f e, ap f g) (go (f b′) (f a′))
     where
-      go : (t u : Bool) → List·Permᴰ (cond t (a ∷ cond u (b ∷ keep f l) (keep f l)) (cond u (b ∷ keep f l) (keep f l))) (cond u (a′ ∷ cond t (b′ ∷ keep f l) (keep f l)) (cond t (b′ ∷ keep f l) (keep f l)))
+      go : (t u : Bool) → let k = keep f l in List·Permᴰ (cond t (a ∷ cond u (b ∷ k) k) (cond u (b ∷ k) k)) (cond u (a′ ∷ cond t (b′ ∷ k) k) (cond t (b′ ∷ k) k))
       go true true = List·Permᴰ·swap e g
       go true false = List·Permᴰ·cons e (Permᴰ·refl _)
       go false true = List·Permᴰ·cons g (Permᴰ·refl _)

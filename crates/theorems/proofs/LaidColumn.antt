@@ -67,8 +67,8 @@ start-only : (ns : List ℕ) (i p q : ℕ) → startOf ns p ≤ i → i < startO
 start-only ns i p q a b x y = go (decLt p q) (decLt q p)
   where
     go : Dec (p < q) → Dec (q < p) → q ≡ p
-    go (yes h) e = let z : ⊥ = omega (arith, start-mono ns (suc p) q h) in absurd z
-    go (no h) (yes e) = let z : ⊥ = omega (arith, start-mono ns (suc q) p e) in absurd z
+    go (yes h) e = absurd (omega (arith, start-mono ns (suc p) q h))
+    go (no h) (yes e) = absurd (omega (arith, start-mono ns (suc q) p e))
     go (no h) (no e) = omega arith
 
 module _ (L : ℕ) (s : Set) (ends : List ℕ) (o : Good L s) (l : Laid s ends) where

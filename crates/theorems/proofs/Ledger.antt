@@ -65,15 +65,18 @@ module _ (L : ℕ) (c : Column) (v : Valid L c) (bag : List Delivery) (p : List�
 
   pub step : (k : Call) → Steps L c (columnCall L c k) (ledgerCall (length (c .growers)) bag k)
   unfolding columnCall ledgerCall
-  step k = rw (ap (λ (m : ℕ). eqb m 0) (refusal-agrees L c v bag p k)) (go (eqb (firstFailed (ledgerChecks (length (c .growers)) bag k)) 0) refl)
+  step k = rw (ap (λ (m : ℕ). eqb m 0) (refusal-agrees L c v bag p k)) (go (eqb failed 0) refl)
     where
-      go : (b : Bool) → eqb (firstFailed (ledgerChecks (length (c .growers)) bag k)) 0 ≡ b
+      failed : ℕ
+      failed = firstFailed (ledgerChecks (length (c .growers)) bag k)
+
+      go : (b : Bool) → eqb failed 0 ≡ b
           → Steps L c
           (cond b
           (record { answer = record { refusal = 0; totals = callTotals L c k; counts = callCounts (directoryOf L (c .directory)) k }; column = columnAfter L c k })
           (record { answer = record { refusal = columnRefusal L c k; totals = noTotals; counts = refusedCounts L c k }; column = c }))
-          (cond b (record { refusal = 0; totals = ledgerTotals bag k; bag = bagAfter bag k }) (record { refusal = firstFailed (ledgerChecks (length (c .growers)) bag k); totals = noTotals; bag = bag }))
-      go true h = steps _ _ refl (totals-agree k) (accepted k (eqb→eq (firstFailed (ledgerChecks (length (c .growers)) bag k)) 0 (of-true _ h)))
+          (cond b (record { refusal = 0; totals = ledgerTotals bag k; bag = bagAfter bag k }) (record { refusal = failed; totals = noTotals; bag = bag }))
+      go true h = steps _ _ refl (totals-agree k) (accepted k (eqb→eq failed 0 (of-true _ h)))
       go false h = steps _ _ (refusal-agrees L c v bag p k) refl unchanged
 
 -- a list of calls, from any bag of the column's records

@@ -5,27 +5,14 @@ use mathlib.Core.Bool.{Bool, true, false, cond, _&&_, _||_}
 use mathlib.Core.List.{List, [], _∷_, List·Permᴰ, List·Permᴰ·nil, List·Permᴰ·cons, List·Permᴰ·swap, List·Permᴰ·trans, Permᴰ·refl, Permᴰ·symm}
 use native.Mathlib.Omega.{arith}
 use native.Mathlib.Numerals.{add-one}
-use lib.Dec.{T, eqb, eqb→eq, eqb-refl}
+use lib.Dec.{T, eqb, eqb-refl}
 use lib.ListN.{length, getD}
 use Rattle.model.specs.declared.Delivery.{Delivery}
 use Rattle.model.specs.Lists.{keep}
 use Rattle.model.specs.Deliveries.{delivery, same, among, firstMatch}
 use Rattle.model.specs.Ledger.{removeOne, changeOne}
-use Rattle.model.proofs.Tests.{and-fst, and-snd, and-mk, is-true, of-true}
-
--- deliveries of the same grower, weight and yield are equal
-pub same-equal : (a b : Delivery) → T (same a b) → a ≡ b
-same-equal a b t =
-    let g = eqb (a .grower) (b .grower) in
-    let w = eqb (a .weight) (b .weight) in
-    let y = eqb (a .«oil_yield») (b .«oil_yield») in
-    let u = and-fst (g && w) y t in
-    let eg : a .grower ≡ b .grower = eqb→eq (a .grower) (b .grower) (and-fst g w u) in
-    let ew : a .weight ≡ b .weight = eqb→eq (a .weight) (b .weight) (and-snd g w u) in
-    let ey : a .«oil_yield» ≡ b .«oil_yield» = eqb→eq (a .«oil_yield») (b .«oil_yield») (and-snd (g && w) y t) in
-    ap (λ (n : ℕ). delivery n (a .weight) (a .«oil_yield»)) eg
-    ∙ ap (λ (n : ℕ). delivery (b .grower) n (a .«oil_yield»)) ew
-    ∙ ap (λ (n : ℕ). delivery (b .grower) (b .weight) n) ey
+use Rattle.model.proofs.Tests.{and-mk, is-true, of-true}
+use Rattle.model.proofs.Deliveries.{same-equal}
 
 pub same-self : (d : Delivery) → same d d ≡ true
 same-self d =

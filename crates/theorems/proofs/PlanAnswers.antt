@@ -85,13 +85,13 @@ fifteen true false t f = refl
 fifteen false c t f = absurd t
 
 fifteen-only : (b c : Bool) → lastTwo b c ≡ 15 → T b × T (not c)
-fifteen-only true true e = let z : ⊥ = omega arith in absurd z
+fifteen-only true true e = absurd (omega arith)
 fifteen-only true false e = (tt, tt)
-fifteen-only false c e = let z : ⊥ = omega arith in absurd z
+fifteen-only false c e = absurd (omega arith)
 
 zero-passed : (b c : Bool) → lastTwo b c ≡ 0 → T b
 zero-passed true c e = tt
-zero-passed false c e = let z : ⊥ = omega arith in absurd z
+zero-passed false c e = absurd (omega arith)
 
 -- a planner's answer holds its refusal number
 refusal-kept : (n : ℕ) (a b : PlanResult) → a .answer .refusal ≡ 0 → b .answer .refusal ≡ n → cond (eqb n 0) a b .answer .refusal ≡ n
@@ -121,8 +121,10 @@ module _ (L : ℕ) (p : PriceCard) (l : Limits) (s : Set) (h : Admitted L p l s)
   unfolding costCall costChecks
   bill-answered x t =
       let q = prices-pass L p l s h in
+      let set = set-passes L s (q .1) in
       let e : firstFailed (costChecks L p s x hs) ≡ 0
-      = first-passed 1 _ _ (and-fst (pricesOk p) (limitsOk l) (q .0)) ∙ set-passes L s (q .1) .0 _ ∙ first-passed 6 _ _ (permitted-ok p l s x t) ∙ first-passed 8 _ _ (set-passes L s (q .1) .1) ∙ first-passed 9 _ _ c ∙ nothing-failed in
+      = first-passed 1 _ _ (and-fst (pricesOk p) (limitsOk l) (q .0)) ∙ set .0 _ ∙ first-passed 6 _ _ (permitted-ok p l s x t) ∙ first-passed 8 _ _ (set .1)
+      ∙ first-passed 9 _ _ c ∙ nothing-failed in
       rw (e, costCall)
 
   -- The layout planned.

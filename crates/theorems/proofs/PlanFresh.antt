@@ -16,7 +16,7 @@ use Rattle.model.specs.Calls.{Call, find, range, insert, delete, move}
 use Rattle.model.specs.Layouts.{layoutOk}
 use Rattle.model.specs.Directory.{Directory, directorySize, directoryOf, directoryNumbers, directoryBlockOk, directoryOk}
 use Rattle.model.specs.Partitions.{between}
-use Rattle.model.specs.Column.{lengthsOf, target, recordsOf, lengthsFrom, directoryFor, scannedOk, hasFreeSlot, hasDelivery}
+use Rattle.model.specs.Column.{Column, lengthsOf, target, recordsOf, lengthsFrom, directoryFor, scannedOk, hasFreeSlot, hasDelivery}
 use Rattle.model.specs.Accesses.{callCounts, missCounts}
 use Rattle.model.specs.Questions.{applyChecks, callChecks, columnChecks}
 use Rattle.model.specs.ColumnCalls.{applyCall, laidColumn, columnRefusal, refusedCounts, columnCall, reportAlone}
@@ -30,6 +30,16 @@ use Rattle.model.proofs.Fresh.{length-lengths, fences-rise, total-used, all-in-
 use Rattle.theorems.proofs.PlanChecks.{nothing-failed, set-passes}
 
 module _ (L : ℕ) (s : Set) (h : SetPasses L s) (ends : List ℕ) (t : T (layoutOk s ends)) where
+  -- the freshly laid column, its directory, and a grower's partition
+  abbrev column : Column
+  column = laidColumn L s ends
+
+  abbrev fresh : Directory
+  fresh = directoryFor s ends
+
+  abbrev home : ℕ → ℕ
+  home g = place ends (blockOf s g)
+
   o : Good L s
   o = good L s h
 
@@ -43,114 +53,115 @@ module _ (L : ℕ) (s : Set) (h : SetPasses L s) (ends : List ℕ) (t : T (layou
   unfolding applyCall applyChecks
   laying-accepted = set-passes L s h .0 _ ∙ first-passed 6 _ _ t ∙ first-passed 8 _ _ (set-passes L s h .1) ∙ nothing-failed
 
-  laid-numbers : laidColumn L s ends .directory ≡ directoryNumbers L (directoryFor s ends)
+  laid-numbers : column .directory ≡ directoryNumbers L fresh
   unfolding laidColumn applyCall
   laid-numbers = rw laying-accepted
 
-  fits : Fits L (directoryFor s ends)
+  fits : Fits L fresh
   unfolding directoryFor
   fits = record { even = length-map ends (lastGrower s) ∙ sym (length-lengths s 0 ends); few = omega (arith, length-lengths s 0 ends, few L s o ends l) }
 
   -- the directory that laying returned
-  laid-directory : directoryOf L (laidColumn L s ends .directory) ≡ directoryFor s ends
-  laid-directory = rw laid-numbers (directory-again L (directoryFor s ends) fits)
+  laid-directory : directoryOf L (column .directory) ≡ fresh
+  laid-directory = rw laid-numbers (directory-again L fresh fits)
 
-  lengths-laid : lengthsOf L (laidColumn L s ends) ≡ lengthsFrom s 0 ends
+  lengths-laid : lengthsOf L column ≡ lengthsFrom s 0 ends
   unfolding directoryFor
   lengths-laid = ap (λ (d : Directory). d .lengths) laid-directory
 
-  records-laid : (p q : ℕ) → recordsOf L (laidColumn L s ends) p q ≡ between (lengthsFrom s 0 ends) p q (rows (s .growers) (s .weights) (s .yields))
+  records-laid : (p q : ℕ) → recordsOf L column p q ≡ between (lengthsFrom s 0 ends) p q (rows (s .growers) (s .weights) (s .yields))
   unfolding laidColumn
   records-laid p q = ap (λ (ns : List ℕ). between ns p q (rows (s .growers) (s .weights) (s .yields))) lengths-laid
 
-  target-laid : (g : ℕ) → target L (laidColumn L s ends) g ≡ place ends (blockOf s g)
+  target-laid : (g : ℕ) → target L column g ≡ home g
   unfolding directoryFor
   target-laid g = ap (λ (d : Directory). place (d .fences) g) laid-directory ∙ same-target L s o ends l g
 
-  pub part-in : (g : ℕ) → place ends (blockOf s g) < length ends
+  pub part-in : (g : ℕ) → home g < length ends
   part-in g = part-placed L s o ends l (blockOf s g) .within
 
-  pub part-mono : (f g : ℕ) → f ≤ g → place ends (blockOf s f) ≤ place ends (blockOf s g)
+  pub part-mono : (f g : ℕ) → f ≤ g → home f ≤ home g
   part-mono f g k = placed-mono ends (blockOf s f) (blockOf s g) _ _ (block-mono L s o f g k) (part-placed L s o ends l (blockOf s f)) (part-placed L s o ends l (blockOf s g))
 
   -- The checks of a call.
 
-  block-lent : T (directoryBlockOk L (laidColumn L s ends .directory))
+  block-lent : T (directoryBlockOk L (column .directory))
   unfolding directoryBlockOk directoryNumbers directoryFor
-  block-lent = rw laid-numbers (or-snd (not (eqb (length (directoryNumbers L (directoryFor s ends))) (directorySize L))) (blockLengthOk (s .block)) (o .block-ok))
+  block-lent = rw laid-numbers (or-snd (not (eqb (length (directoryNumbers L fresh)) (directorySize L))) (blockLengthOk (s .block)) (o .block-ok))
 
-  shape-lent : T (directoryOk L (length (s .growers)) (laidColumn L s ends .directory))
+  shape-lent : T (directoryOk L (length (s .growers)) (column .directory))
   unfolding directoryFor
   shape-lent =
       rw laid-numbers
-      (shaped-passes L _ _ (numbers-shaped L (length (s .growers)) (directoryFor s ends) fits (omega (arith, length-lengths s 0 ends, l .some)) (fences-rise L s o 0 ends (l .cut) (l .parted)) (omega (arith, total-used L s o ends l, o .m-fits))))
+      (shaped-passes L _ _ (numbers-shaped L (length (s .growers)) fresh fits (omega (arith, length-lengths s 0 ends, l .some))
+      (fences-rise L s o 0 ends (l .cut) (l .parted)) (omega (arith, total-used L s o ends l, o .m-fits))))
 
   -- 2, 3 and 6 are passed
-  refusal-is : (k : Call) → columnRefusal L (laidColumn L s ends) k ≡ firstFailed (callChecks L (laidColumn L s ends) k)
+  refusal-is : (k : Call) → columnRefusal L column k ≡ firstFailed (callChecks L column k)
   unfolding columnRefusal columnChecks laidColumn
   refusal-is k = first-passed 2 _ _ block-lent ∙ first-passed 3 _ _ (o .slices-ok) ∙ first-passed 6 _ _ shape-lent
 
-  scanned-passes : (lo hi : ℕ) → lo ≤ hi → scannedOk L (laidColumn L s ends) lo hi ≡ true
+  scanned-passes : (lo hi : ℕ) → lo ≤ hi → scannedOk L column lo hi ≡ true
   unfolding scannedOk
   scanned-passes lo hi k =
-      rw (target-laid lo, target-laid hi, records-laid (place ends (blockOf s lo)) (place ends (blockOf s hi)))
-      (is-true _ (all-in-range L s o ends l (place ends (blockOf s lo)) (place ends (blockOf s hi)) (part-mono lo hi k) (part-in hi)))
+      rw (target-laid lo, target-laid hi, records-laid (home lo) (home hi))
+      (is-true _ (all-in-range L s o ends l (home lo) (home hi) (part-mono lo hi k) (part-in hi)))
 
-  slot-free : s .used < length (s .growers) → hasFreeSlot L (laidColumn L s ends) ≡ true
+  slot-free : s .used < length (s .growers) → hasFreeSlot L column ≡ true
   unfolding hasFreeSlot laidColumn
   slot-free k = rw lengths-laid (is-true _ (lt→ltb (sumOf (lengthsFrom s 0 ends)) (length (s .growers)) (omega (arith, total-used L s o ends l))))
 
-  held-laid : (d : Delivery) → hasDelivery L (laidColumn L s ends) d ≡ among d (held s)
+  held-laid : (d : Delivery) → hasDelivery L column d ≡ among d (held s)
   unfolding hasDelivery
-  held-laid d = rw (target-laid (d .grower), records-laid (place ends (blockOf s (d .grower))) (place ends (blockOf s (d .grower)))) (among-here L s o ends l d)
+  held-laid d = rw (target-laid (d .grower), records-laid (home (d .grower)) (home (d .grower))) (among-here L s o ends l d)
 
   -- How each call is answered.
 
-  find-answer : (g : ℕ) → columnRefusal L (laidColumn L s ends) (find g) ≡ 0
+  find-answer : (g : ℕ) → columnRefusal L column (find g) ≡ 0
   unfolding callChecks firstFailed
   find-answer g = refusal-is (find g) ∙ rw (scanned-passes g g (omega arith))
 
-  range-answer : (lo hi : ℕ) → lo ≤ hi → columnRefusal L (laidColumn L s ends) (range lo hi) ≡ 0
+  range-answer : (lo hi : ℕ) → lo ≤ hi → columnRefusal L column (range lo hi) ≡ 0
   unfolding callChecks firstFailed
   range-answer lo hi k = refusal-is (range lo hi) ∙ rw (is-true (leb lo hi) (le→leb lo hi k), scanned-passes lo hi k)
 
-  insert-answer : (d : Delivery) → T (inRange d) → s .used < length (s .growers) → columnRefusal L (laidColumn L s ends) (insert d) ≡ 0
+  insert-answer : (d : Delivery) → T (inRange d) → s .used < length (s .growers) → columnRefusal L column (insert d) ≡ 0
   unfolding callChecks firstFailed
   insert-answer d r k = refusal-is (insert d) ∙ rw (is-true (inRange d) r, slot-free k)
 
   -- a delete or a move of d
-  taken-answer : (k : Call) (d : Delivery) → callChecks L (laidColumn L s ends) k ≡ callChecks L (laidColumn L s ends) (delete d) → T (inRange d) → columnRefusal L (laidColumn L s ends) k ≡ cond (among d (held s)) 0 13
+  taken-answer : (k : Call) (d : Delivery) → callChecks L column k ≡ callChecks L column (delete d) → T (inRange d) → columnRefusal L column k ≡ cond (among d (held s)) 0 13
   unfolding callChecks firstFailed
   taken-answer k d e r = refusal-is k ∙ ap firstFailed e ∙ rw (is-true (inRange d) r, scanned-passes (d .grower) (d .grower) (omega arith), held-laid d)
 
   -- A report by its refusal number.
 
-  report-full : (k : Call) → columnRefusal L (laidColumn L s ends) k ≡ 0 → reportAlone L s ends k ≡ callCounts (directoryFor s ends) k
+  report-full : (k : Call) → columnRefusal L column k ≡ 0 → reportAlone L s ends k ≡ callCounts fresh k
   unfolding reportAlone columnCall
   report-full k e = rw (e, reportAlone) (ap (λ (d : Directory). callCounts d k) laid-directory)
 
-  report-missing : (k : Call) → columnRefusal L (laidColumn L s ends) k ≡ 13 → reportAlone L s ends k ≡ missCounts (directoryFor s ends) k
+  report-missing : (k : Call) → columnRefusal L column k ≡ 13 → reportAlone L s ends k ≡ missCounts fresh k
   unfolding reportAlone columnCall refusedCounts
   report-missing k e = rw (e, reportAlone) (ap (λ (d : Directory). missCounts d k) laid-directory)
 
-  report-by : (k : Call) (b : Bool) → columnRefusal L (laidColumn L s ends) k ≡ cond b 0 13 → reportAlone L s ends k ≡ cond b (callCounts (directoryFor s ends) k) (missCounts (directoryFor s ends) k)
+  report-by : (k : Call) (b : Bool) → columnRefusal L column k ≡ cond b 0 13 → reportAlone L s ends k ≡ cond b (callCounts fresh k) (missCounts fresh k)
   report-by k true e = report-full k e
   report-by k false e = report-missing k e
 
   -- What each call reports.
 
-  pub find-report : (g : ℕ) → reportAlone L s ends (find g) ≡ callCounts (directoryFor s ends) (find g)
+  pub find-report : (g : ℕ) → reportAlone L s ends (find g) ≡ callCounts fresh (find g)
   find-report g = report-full (find g) (find-answer g)
 
-  pub range-report : (lo hi : ℕ) → lo ≤ hi → reportAlone L s ends (range lo hi) ≡ callCounts (directoryFor s ends) (range lo hi)
+  pub range-report : (lo hi : ℕ) → lo ≤ hi → reportAlone L s ends (range lo hi) ≡ callCounts fresh (range lo hi)
   range-report lo hi k = report-full (range lo hi) (range-answer lo hi k)
 
-  pub insert-report : (d : Delivery) → T (inRange d) → s .used < length (s .growers) → reportAlone L s ends (insert d) ≡ callCounts (directoryFor s ends) (insert d)
+  pub insert-report : (d : Delivery) → T (inRange d) → s .used < length (s .growers) → reportAlone L s ends (insert d) ≡ callCounts fresh (insert d)
   insert-report d r k = report-full (insert d) (insert-answer d r k)
 
-  pub delete-report : (d : Delivery) → T (inRange d) → reportAlone L s ends (delete d) ≡ cond (among d (held s)) (callCounts (directoryFor s ends) (delete d)) (missCounts (directoryFor s ends) (delete d))
+  pub delete-report : (d : Delivery) → T (inRange d) → reportAlone L s ends (delete d) ≡ cond (among d (held s)) (callCounts fresh (delete d)) (missCounts fresh (delete d))
   delete-report d r = report-by (delete d) (among d (held s)) (taken-answer (delete d) d refl r)
 
-  pub move-report : (d : Delivery) (g : ℕ) → T (inRange d) → reportAlone L s ends (move d g) ≡ cond (among d (held s)) (callCounts (directoryFor s ends) (move d g)) (missCounts (directoryFor s ends) (move d g))
+  pub move-report : (d : Delivery) (g : ℕ) → T (inRange d) → reportAlone L s ends (move d g) ≡ cond (among d (held s)) (callCounts fresh (move d g)) (missCounts fresh (move d g))
   unfolding callChecks
   move-report d g r = report-by (move d g) (among d (held s)) (taken-answer (move d g) d refl r)

@@ -71,7 +71,13 @@ module _ (L : ℕ) (s : Set) (h : SetPasses L s) (ends : List ℕ) (t : T (layou
   unfolding before after
   scan-two lo hi k =
       rw (home-is lo, home-is hi)
-      (omega (arith, scanned-is L s o ends l (place ends (blockOf s lo)) (place ends (blockOf s hi)) (part-mono L s h ends t lo hi k) (within hi), part-first L s o ends l (blockOf s lo), part-end L s o ends l (blockOf s hi) (spot L s o hi .within), block-mono L s o lo hi k))
+      (omega (
+        arith,
+        scanned-is L s o ends l (place ends (blockOf s lo)) (place ends (blockOf s hi)) (part-mono L s h ends t lo hi k) (within hi),
+        part-first L s o ends l (blockOf s lo),
+        part-end L s o ends l (blockOf s hi) (spot L s o hi .within),
+        block-mono L s o lo hi k,
+      ))
 
   scan-one : (g : ℕ) → blocksScanned fresh (home g) (home g) ≡ suc (before ends (blockOf s g) + after ends (blockOf s g))
   scan-one g = scan-two g g (omega arith) ∙ omega arith
@@ -147,7 +153,8 @@ module _ (L : ℕ) (s : Set) (h : SetPasses L s) (ends : List ℕ) (t : T (layou
     unfolding trailing
     forward-parts f g k = rw (home-is f, home-is g) (omega (arith, part-mono L s h ends t f g k, within g))
 
-    moved-balanced : (f g : ℕ) → load (plus p ends) (moveRaises s f g) ≡ (pointPrice p ends (blockOf s f) + p .rr * (1 + apart (home f) (home g)) + p .«rw» * (2 + apart (home f) (home g))) + load (minus p ends) (moveRaises s f g)
+    moved-balanced : (f g : ℕ) → let a = apart (home f) (home g) in
+        load (plus p ends) (moveRaises s f g) ≡ (pointPrice p ends (blockOf s f) + p .rr * (1 + a) + p .«rw» * (2 + a)) + load (minus p ends) (moveRaises s f g)
     unfolding moveRaises plus minus sumOf ripplePrice
     moved-balanced f g = go (leb f g) refl
       where
@@ -157,9 +164,15 @@ module _ (L : ℕ) (s : Set) (h : SetPasses L s) (ends : List ℕ) (t : T (layou
         entries : Bool → List Entry
         entries v = cond v (at udf (blockOf s f) ∷ at utf (blockOf s g) ∷ []) (at udb (blockOf s f) ∷ at utb (blockOf s g) ∷ [])
 
-        go : (v : Bool) → leb f g ≡ v → load (plus p ends) (entries v) ≡ (pointPrice p ends (blockOf s f) + p .rr * (1 + a) + p .«rw» * (2 + a)) + load (minus p ends) (entries v)
-        go true e = omega (arith, moved-sum (pointPrice p ends (blockOf s f)) (p .rr) (p .«rw») (trailing ends (blockOf s f)) a (trailing ends (blockOf s g)) (forward-parts f g (leb→le f g (of-true (leb f g) e))))
-        go false e = omega (arith, moved-sum (pointPrice p ends (blockOf s f)) (p .rr) (p .«rw») (trailing ends (blockOf s g)) a (trailing ends (blockOf s f)) (omega (arith, forward-parts g f (omega (arith, leb-no f g e)))))
+        price : ℕ
+        price = pointPrice p ends (blockOf s f)
+
+        past : ℕ → ℕ
+        past x = trailing ends (blockOf s x)
+
+        go : (v : Bool) → leb f g ≡ v → load (plus p ends) (entries v) ≡ (price + p .rr * (1 + a) + p .«rw» * (2 + a)) + load (minus p ends) (entries v)
+        go true e = omega (arith, moved-sum price (p .rr) (p .«rw») (past f) a (past g) (forward-parts f g (leb→le f g (of-true (leb f g) e))))
+        go false e = omega (arith, moved-sum price (p .rr) (p .«rw») (past g) a (past f) (omega (arith, forward-parts g f (omega (arith, leb-no f g e)))))
 
     move-balanced : (d : Delivery) (g : ℕ) → T (inRange d) → Balanced (move d g)
     unfolding raises plus minus sumOf callCounts missCounts

@@ -51,7 +51,10 @@ module _ (L : ℕ) (s : Set) (h : SetPasses L s) (ends : List ℕ) (t : T (layou
       go : (b : Bool) → accepts hs c ≡ b → up (cond b (raiseAll L hs (raises s c)) hs) + down hs ≡ up hs + paid (cond b (c ∷ []) []) + down (cond b (raiseAll L hs (raises s c)) hs)
       go true e =
           let q = accepted-passed L s h hs c e in
-          omega (arith, weigh-all L (raises s c) hs (plus p ends) (blocks s) k (n-most L s o) (raised-below L s o c), weigh-all L (raises s c) hs (minus p ends) (blocks s) k (n-most L s o) (raised-below L s o c), balanced L s h ends t p free c (q .0) (q .1))
+          let low = raised-below L s o c in
+          let added = weigh-all L (raises s c) hs (plus p ends) (blocks s) k (n-most L s o) low in
+          let taken = weigh-all L (raises s c) hs (minus p ends) (blocks s) k (n-most L s o) low in
+          omega (arith, balanced L s h ends t p free c (q .0) (q .1))
       go false e = omega arith
 
   paid-append : (a b : List Call) → paid (a ++ b) ≡ paid a + paid b

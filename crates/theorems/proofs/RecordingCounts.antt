@@ -1,6 +1,7 @@
 -- Recorded counts pass 9: a call that passes 10 leaves no count above the bound. Assumes nothing.
 use Prim.Native.Nat.{ℕ, zero, suc, _+_, _*_, _≤_, _<_}
 use mathlib.Core.Path.{_≡_}
+use mathlib.Core.Bool.{Bool}
 use mathlib.Core.List.{List, [], _∷_}
 use native.Mathlib.Omega.{arith}
 use native.Mathlib.Decide.{ℕ-discrete}
@@ -48,9 +49,10 @@ module _ (L : ℕ) where
   unfolding Off roomToRaise every raise
   room-kept hs e [] d t = tt
   room-kept hs e (f ∷ es) d t =
-      let t1 = and-fst (ltb (count L hs f) mostCount) (every (λ (e : Entry). ltb (count L hs e) mostCount) es) t in
-      let t2 = and-snd (ltb (count L hs f) mostCount) (every (λ (e : Entry). ltb (count L hs e) mostCount) es) t in
-      and-mk (ltb (count L (raise L hs e) f) mostCount) (every (λ (g : Entry). ltb (count L (raise L hs e) g) mostCount) es) (rw (getD-set-other hs (slot L e) (slot L f) (count L hs e + 1) 0 (d .0)) t1) (room-kept hs e es (d .1) t2)
+      let room : List ℕ → Entry → Bool = λ hs f. ltb (count L hs f) mostCount in
+      let t1 = and-fst (room hs f) (every (room hs) es) t in
+      let t2 = and-snd (room hs f) (every (room hs) es) t in
+      and-mk (room (raise L hs e) f) (every (room (raise L hs e)) es) (rw (getD-set-other hs (slot L e) (slot L f) (count L hs e + 1) 0 (d .0)) t1) (room-kept hs e es (d .1) t2)
 
   all-capped : (es : List Entry) (hs : List ℕ) → Distinct L es → T (roomToRaise L hs es) → Capped hs → Capped (raiseAll L hs es)
   unfolding Distinct raiseAll roomToRaise every

@@ -53,7 +53,10 @@ module _ (L : ℕ) (s : Set) (o : Good L s) where
       two h k f g = (spot L s o f .within, one k g)
 
       spread : (lo hi : ℕ) → Below (blocks s) (spreadOver (blockOf s lo) (blockOf s hi))
-      spread lo hi = (spot L s o lo .within, (spot L s o hi .within, sc-below (blockOf s lo + 1) (blockOf s hi - (blockOf s lo + 1)) (blocks s) (omega (arith, spot L s o hi .within, spot L s o lo .within))))
+      spread lo hi =
+          let a = spot L s o lo .within in
+          let b = spot L s o hi .within in
+          (a, (b, sc-below (blockOf s lo + 1) (blockOf s hi - (blockOf s lo + 1)) (blocks s) (omega arith)))
 
 -- No count twice.
 

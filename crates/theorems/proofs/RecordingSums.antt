@@ -27,7 +27,7 @@ sum-same (suc n) f g h = omega (arith, sum-same n f g (λ i l. h i (omega arith)
 -- two sums that differ at one place
 sum-point : (n k x : ℕ) (f g : ℕ → ℕ) → k < n → ((i : ℕ) → i < n → i ≢ k → g i ≡ f i) → g k ≡ f k + x → sumTo n g ≡ sumTo n f + x
 unfolding sumTo
-sum-point zero k x f g l h e = let z : ⊥ = omega arith in absurd z
+sum-point zero k x f g l h e = absurd (omega arith)
 sum-point (suc n) k x f g l h e = go (ℕ-discrete n k) (λ (w : k < n). sum-point n k x f g w (λ i v. h i (omega arith)) e)
   where
     go : Dec (n ≡ k) → (k < n → sumTo n g ≡ sumTo n f + x) → sumTo n g + g n ≡ sumTo n f + f n + x
@@ -129,8 +129,8 @@ pub slot-apart : (a b i k L : ℕ) → i < L → k < L → a * L + i ≡ b * L +
 slot-apart a b i k L h l e = go (decLt a b) (decLt b a)
   where
     go : Dec (a < b) → Dec (b < a) → (a ≡ b) × (i ≡ k)
-    go (yes q) d = let m : (a + 1) * L ≤ b * L = mul-le-mul-right L (omega arith) in let z : ⊥ = omega arith in absurd z
-    go (no q) (yes r) = let m : (b + 1) * L ≤ a * L = mul-le-mul-right L (omega arith) in let z : ⊥ = omega arith in absurd z
+    go (yes q) d = let m : (a + 1) * L ≤ b * L = mul-le-mul-right L (omega arith) in absurd (omega arith)
+    go (no q) (yes r) = let m : (b + 1) * L ≤ a * L = mul-le-mul-right L (omega arith) in absurd (omega arith)
     go (no q) (no r) = let m : a ≡ b = omega arith in let n : a * L ≡ b * L = ap (λ (x : ℕ). x * L) m in (m, omega arith)
 
 slot-low : (L : ℕ) (h : Histogram) (i : ℕ) → i < L → position h * L + i < 10 * L

@@ -19,6 +19,7 @@ use Rattle.model.specs.Questions.{lentChecks}
 use Rattle.model.specs.Lent.{Even}
 use Rattle.model.proofs.Tests.{and-fst, and-snd, and-mk, is-true, yes-first, first-passed}
 use Rattle.model.proofs.ListLaws.{sum-cut, sum-take-le, every-part}
+use Rattle.model.proofs.Deliveries.{same-equal}
 use Rattle.model.proofs.SetLaws.{sliced}
 use Rattle.model.proofs.Places.{Placed, placed, placed-mono}
 use Rattle.model.proofs.Parts.{flatten-parts, between-is, length-parts, lengths-parts}
@@ -27,7 +28,7 @@ use Rattle.model.proofs.MovesMap.{map-parts}
 use Rattle.model.proofs.MovesRows.{rows-columns}
 use Rattle.model.proofs.MovesKeep.{Sound}
 use Rattle.model.proofs.SoundLaws.{everyAt-sound}
-use Rattle.theorems.proofs.OneDelivery.{same-equal, among-kept}
+use Rattle.theorems.proofs.OneDelivery.{among-kept}
 use Rattle.theorems.proofs.Scans.{sound-mapped, kept-scan}
 
 module _ (L : ℕ) where

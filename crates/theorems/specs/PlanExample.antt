@@ -28,6 +28,7 @@ abbrev pub mixed : List Call
 mixed = find 99 ∷ range 15 75 ∷ range 5 4 ∷ insert (of 90) ∷ insert (delivery 1 100001 0) ∷ delete (of 30) ∷ delete (of 31) ∷ move (of 20) 70 ∷ move (of 70) 20 ∷ move (of 71) 20 ∷ move (of 20) 25 ∷ []
 
 pub record MixedSum : Type 0 where
-  pub accepted : acceptedFromZeros blockLimit week mixed ≡ find 99 ∷ range 15 75 ∷ insert (of 90) ∷ delete (of 30) ∷ delete (of 31) ∷ move (of 20) 70 ∷ move (of 70) 20 ∷ move (of 71) 20 ∷ move (of 20) 25 ∷ []
+  pub accepted : acceptedFromZeros blockLimit week mixed
+      ≡ find 99 ∷ range 15 75 ∷ insert (of 90) ∷ delete (of 30) ∷ delete (of 31) ∷ move (of 20) 70 ∷ move (of 70) 20 ∷ move (of 71) 20 ∷ move (of 20) 25 ∷ []
   pub costs : cost mixed blockLimit factory mainLimits week halves ≡ pos 87
   pub each : map (reported blockLimit factory week halves) (acceptedFromZeros blockLimit week mixed) ≡ 4 ∷ 6 ∷ 10 ∷ 16 ∷ 4 ∷ 16 ∷ 16 ∷ 4 ∷ 11 ∷ []
