@@ -15,16 +15,6 @@ module _ (t : Tally) (n : Counts) where
   abbrev allFit : Bool
   allFit = leb (t .rr + n .rr) mostTally && leb (t .sr + n .sr) mostTally && leb (t .«rw» + n .«rw») mostTally
 
-  pub first-no : leb (t .rr + n .rr) mostTally ≡ false → false ≡ allFit
-  first-no e = rw e
-
-  module _ (e : leb (t .rr + n .rr) mostTally ≡ true) where
-    pub second-no : leb (t .sr + n .sr) mostTally ≡ false → false ≡ allFit
-    second-no f = rw (e, f)
-
-    pub third : leb (t .sr + n .sr) mostTally ≡ true → leb (t .«rw» + n .«rw») mostTally ≡ allFit
-    third f = rw (e, f)
-
   -- no sum is above the limit, so that none wraps
   pub record Room : Type 0 where
     pub reads : t .rr + n .rr ≤ mostTally

@@ -10,9 +10,6 @@ use Rattle.tally.proofs.plus.Tie as tie
 fit : (c : tie.Else1) → Room (c .before .before .args .tally) (c .before .before .args .counts)
 fit c = room _ _ (sym (c .before .all-fit .ensures) ∙ not-false _ (c .if1 .left))
 
-all-fit-requires : tie.Need-all-fit-requires
-all-fit-requires c κs = search needs
-
 returns : tie.Need-returns
 returns c = add-refused _ _ (sym (c .before .all-fit .ensures) ∙ not-true _ (c .if1 .taken))
 
@@ -27,8 +24,8 @@ add-rw c = omega (arith, fit (c .before .before .before .before .before .before)
 
 returns-2 : tie.Need-returns-2
 returns-2 c =
-    let b₁ = c .before .before .before .before .before .before in
-    let e = b₁ in add-done _ _ (sym (e .before .all-fit .ensures) ∙ not-false _ (e .if1 .left))
+    let e = c .before .before .before .before .before .before in
+    add-done _ _ (sym (e .before .all-fit .ensures) ∙ not-false _ (e .if1 .left))
 
 pub plus-spec : {M : Type 1} → statement M
-plus-spec = tie.close (tie.spec all-fit-requires returns add-rr add-sr add-rw returns-2)
+plus-spec = tie.close (tie.spec (λ c κs. search needs) returns add-rr add-sr add-rw returns-2)
