@@ -112,7 +112,7 @@ threes-again : (rs : List (List ℕ)) → Rows 3 rs → map deliveryRow (map del
 threes-again [] no-rows = refl
 threes-again (ns ∷ rs) (row r o) = ap₂ (λ (a : List ℕ) (b : List (List ℕ)). a ∷ b) (row-three ns (r .count)) (threes-again rs o)
 
-growers-again : (rs : List (List ℕ)) → map growerOf (map deliveryOf rs) ≡ map (nth 0) rs
+pub growers-again : (rs : List (List ℕ)) → map growerOf (map deliveryOf rs) ≡ map (nth 0) rs
 growers-again [] = refl
 growers-again (ns ∷ rs) = ap (λ (l : List ℕ). nth 0 ns ∷ l) (growers-again rs)
 

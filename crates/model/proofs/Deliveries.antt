@@ -13,7 +13,7 @@ use Rattle.model.specs.declared.Delivery.{Delivery}
 use Rattle.model.specs.Bounds.{mostWeight, mostYield}
 use Rattle.model.specs.Lists.{every}
 use Rattle.model.specs.Deliveries.{delivery, rows, inRange, same, among, firstMatch}
-use Rattle.model.proofs.Tests.{and-fst, and-snd, same-test, or-fst, or-snd}
+use Rattle.model.proofs.Tests.{and-fst, and-snd, same-test, pairs-swap, or-fst, or-snd}
 
 abbrev pub nobody : Delivery
 nobody = delivery 0 0 0
@@ -141,12 +141,6 @@ rows-from g w y i h p q = rw (drop-cons g i 0 h, drop-cons w i 0 (omega arith), 
 
 -- Check 8 of rows is check 8 of the two slices.
 
-both-pairs : (a b c d : Bool) → a && b && (c && d) ≡ a && c && (b && d)
-both-pairs true true c d = refl
-both-pairs true false true d = refl
-both-pairs true false false d = refl
-both-pairs false b c d = refl
-
 pub values-rows : (g w y : List ℕ) → length w ≡ length g → length y ≡ length g
     → every inRange (rows g w y) ≡ every (λ (n : ℕ). leb n mostWeight) w && every (λ (n : ℕ). leb n mostYield) y
 unfolding rows every
@@ -157,4 +151,4 @@ values-rows (a ∷ g) [] y p q = absurd (omega arith)
 values-rows (a ∷ g) (b ∷ w) [] p q = absurd (omega arith)
 values-rows (a ∷ g) (b ∷ w) (c ∷ y) p q =
     ap (λ (t : Bool). leb b mostWeight && leb c mostYield && t) (values-rows g w y (omega arith) (omega arith))
-    ∙ both-pairs (leb b mostWeight) (leb c mostYield) (every (λ (n : ℕ). leb n mostWeight) w) (every (λ (n : ℕ). leb n mostYield) y)
+    ∙ pairs-swap (leb b mostWeight) (leb c mostYield) (every (λ (n : ℕ). leb n mostWeight) w) (every (λ (n : ℕ). leb n mostYield) y)

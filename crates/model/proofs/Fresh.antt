@@ -26,7 +26,7 @@ use Rattle.model.proofs.Places.{Placed}
 use Rattle.model.proofs.Deliveries.{nobody, same-equal, among-part, rows-grower}
 use Rattle.model.proofs.Parts.{between-is}
 use Rattle.model.proofs.LayoutLaws.{Cut, cut-last, cut-early, Laid}
-use Rattle.model.proofs.SetLaws.{Good, spot, past-early, past-last, past-mono, growers-rise, lasts-rise, part-placed}
+use Rattle.model.proofs.SetLaws.{Good, spot, past-early, past-last, stop-mono, growers-rise, lasts-rise, part-placed}
 
 -- The slots of a set as rows, and the lengths of its partitions.
 
@@ -81,10 +81,10 @@ module _ (L : ℕ) (s : Set) (o : Good L s) where
   stops : (f a : ℕ) (ends : List ℕ) (q : ℕ) → a ≤ blockStop s f → Cut f ends (blocks s) → q < length ends → sumOf (take (suc q) (lengthsFrom s a ends)) + a ≡ blockStop s (getD ends q 0)
   unfolding lengthsFrom Cut sumOf
   stops f a [] q h c k = absurd (omega arith)
-  stops f a (e ∷ es) zero h c k = omega (arith, past-mono L s o f e (c .0))
+  stops f a (e ∷ es) zero h c k = omega (arith, stop-mono s f e (c .0))
   stops f a (e ∷ es) (suc q) h c k =
-      let u = past-mono L s o f e (c .0) in
-      omega (arith, stops (e + 1) (blockStop s e) es q (past-mono L s o e (e + 1) (omega arith)) (c .2) (omega arith))
+      let u = stop-mono s f e (c .0) in
+      omega (arith, stops (e + 1) (blockStop s e) es q (stop-mono s e (e + 1) (omega arith)) (c .2) (omega arith))
 
   -- growers differ across an end
   differ : (e : ℕ) → e + 1 < blocks s → T (separatesNone s e)

@@ -1,7 +1,7 @@
 -- Lists and numbers: the lemmas that every other file shares. Assumes nothing.
 use Prim.Native.Nat.{ℕ, zero, suc, _+_, _-_, _*_, _≤_, _<_}
 use mathlib.Core.Path.{_≡_, refl, sym, ap, _∙_, subst}
-use mathlib.Core.Bool.{Bool, true, false, cond, _&&_}
+use mathlib.Core.Bool.{Bool, true, false, cond, _&&_, and-assoc}
 use mathlib.Core.List.{List, [], _∷_, _++_, append-assoc, map, flatten}
 use native.Mathlib.Omega.{arith}
 use native.Mathlib.Numerals.{add-one}
@@ -9,7 +9,7 @@ use native.Mathlib.Nat.{div-add-mod', mod-lt, div-eq-of-lt-le, mul-le-mul-right}
 use native.Mathlib.Decide.{decLe}
 use lib.Dec.{T, leb, leb→le}
 use lib.ListN.{length, getD, take, drop, set, take-append-drop}
-use lib.Seq.{take-suc, take-nil, take-add, set-split}
+use lib.Seq.{take-suc, take-nil, take-add, drop-cons, set-split}
 use Rattle.model.specs.Lists.{sumOf, ceilDiv, upFrom, every, keep, neverFalls}
 use Rattle.model.proofs.Tests.{and-fst, and-snd, and-mk}
 
@@ -76,6 +76,10 @@ drop-take (suc a) b [] = rw (take-nil (suc a + b), take-nil b)
 drop-take (suc a) b (x ∷ l) =
     let e : suc a + b ≡ suc (a + b) = omega arith in
     rw e (drop-take a b l)
+
+-- what follows a place, its element first
+pub drop-next : (l : List ℕ) (i : ℕ) → i < length l → drop i l ≡ getD l i 0 ∷ drop (i + 1) l
+drop-next l i h = rw (drop-cons l i 0 h, add-one)
 
 -- a list in which one element is new
 pub set-one : {A : Type 0} (t : ℕ) (a : A) (l : List A) → t < length l → set l t a ≡ take t l ++ a ∷ drop (t + 1) l
@@ -182,11 +186,7 @@ module _ {A : Type 0} (f : A → Bool) where
   pub every-joined : (a b : List A) → every f (a ++ b) ≡ every f a && every f b
   unfolding every
   every-joined [] b = refl
-  every-joined (x ∷ a) b = rw (every-joined a b) (go (f x))
-    where
-      go : (t : Bool) → t && (every f a && every f b) ≡ t && every f a && every f b
-      go true = refl
-      go false = refl
+  every-joined (x ∷ a) b = rw (every-joined a b) (sym (and-assoc (f x) (every f a) (every f b)))
 
   pub keep-fewer : (l : List A) → length (keep f l) ≤ length l
   unfolding keep

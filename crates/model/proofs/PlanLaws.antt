@@ -46,14 +46,17 @@ passes-kept {A} p x (y ∷ l) m t = go (p y) refl (List·Memᴰ·cases-cons m) (
     go false e (inr k) ih = ih k
 
 module _ (p : PriceCard) (l : Limits) (s : Set) where
+  -- a permitted layout passes 6
+  pub permitted-ok : (ends : List ℕ) → T (permitted p l s ends) → T (layoutOk s ends)
+  unfolding permitted
+  permitted-ok ends t =
+      let a = layoutOk s ends in
+      let b = leb (length ends) (mostPartitions p l) in
+      and-fst a b (and-fst (a && b) (every (λ (n : ℕ). leb n (longestPartition p l)) (blockCounts 0 ends)) t)
+
   permitted-is-layout : (ends : List ℕ) → T (permitted p l s ends) → T (isLayout (blocks s) ends)
-  unfolding permitted layoutOk
-  permitted-is-layout ends t =
-      let a = isLayout (blocks s) ends in
-      let b = every (separatesNone s) ends in
-      let c = leb (length ends) (mostPartitions p l) in
-      let d = every (λ (n : ℕ). leb n (longestPartition p l)) (blockCounts 0 ends) in
-      and-fst a b (and-fst (a && b) c (and-fst (a && b && c) d t))
+  unfolding layoutOk
+  permitted-is-layout ends t = and-fst (isLayout (blocks s) ends) (every (separatesNone s) ends) (permitted-ok ends t)
 
   -- a layout is among the permitted ones just if it is permitted
   pub permitted-listed : 1 ≤ blocks s → (ends : List ℕ) → T (permitted p l s ends) → List·Memᴰ ends (permittedLayouts p l s)

@@ -157,9 +157,6 @@ module _ (L : ℕ) (s : Set) (o : Good L s) where
       let k : s .used ≤ (i + 1) * s .block = subst (λ (n : ℕ). s .used ≤ n * s .block) (sym h) (ceil-least (s .used) (s .block) (o .b-least)) in
       omega arith
 
-  pub past-mono : (i j : ℕ) → i ≤ j → blockStop s i ≤ blockStop s j
-  past-mono = stop-mono s
-
   -- growers never fall
   pub growers-rise : (i j : ℕ) → i ≤ j → j < s .used → getD (s .growers) i 0 ≤ getD (s .growers) j 0
   growers-rise i j h k =
@@ -167,7 +164,7 @@ module _ (L : ℕ) (s : Set) (o : Good L s) where
       rw (← getD-take (s .used) (s .growers) i 0 (omega arith), ← getD-take (s .used) (s .growers) j 0 k) r
 
   pub lasts-rise : (i j : ℕ) → i ≤ j → lastGrower s i ≤ lastGrower s j
-  lasts-rise i j h = growers-rise (blockStop s i - 1) (blockStop s j - 1) (omega (arith, past-mono i j h)) (omega (arith, o .m-least))
+  lasts-rise i j h = growers-rise (blockStop s i - 1) (blockStop s j - 1) (omega (arith, stop-mono s i j h)) (omega (arith, o .m-least))
 
   -- a grower's block
   pub spot : (g : ℕ) → Spot s g (blockOf s g)

@@ -3,7 +3,7 @@ use Prim.Native.Nat.{ℕ, suc, _<_}
 use mathlib.Core.Path.{_≡_, refl, sym, subst}
 use mathlib.Core.Logic.{_≢_}
 use mathlib.Core.Bool.{Bool, true, false, not, _&&_, _||_}
-use mathlib.Core.List.{List, _∷_}
+use mathlib.Core.List.{List, [], _∷_}
 use native.Mathlib.Omega.{arith}
 use lib.Dec.{T, leb, eqb, nleb→lt, eqb-refl}
 use Rattle.model.specs.Checks.{Check, ask, firstFailed}
@@ -46,6 +46,10 @@ pub eq→eqb : (m n : ℕ) → m ≡ n → T (eqb m n)
 eq→eqb m n h = subst (λ (x : ℕ). T (eqb m x)) h (eqb-refl m)
 
 -- a list of checks that is answered by 0
+pub nothing-failed : firstFailed [] ≡ 0
+unfolding firstFailed
+nothing-failed = refl
+
 pub yes-first : (n : ℕ) (b : Bool) (cs : List Check) → firstFailed (ask (suc n) b ∷ cs) ≡ 0 → T b × (firstFailed cs ≡ 0)
 unfolding firstFailed
 yes-first n true cs h = (tt, h)
@@ -54,6 +58,13 @@ yes-first n false cs h = absurd (omega arith)
 pub first-passed : (n : ℕ) (b : Bool) (cs : List Check) → T b → firstFailed (ask n b ∷ cs) ≡ firstFailed cs
 unfolding firstFailed
 first-passed n b cs h = rw (is-true b h)
+
+-- two pairs of tests in another order
+pub pairs-swap : (a b c d : Bool) → a && b && (c && d) ≡ a && c && (b && d)
+pairs-swap true true c d = refl
+pairs-swap true false true d = refl
+pairs-swap true false false d = refl
+pairs-swap false b c d = refl
 
 pub or-fst : (a b : Bool) → T a → T (a || b)
 or-fst true b h = tt

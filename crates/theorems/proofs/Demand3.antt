@@ -4,7 +4,8 @@ use Rattle.theorems.proofs.PlanChecks.{prices-pass}
 use Rattle.theorems.proofs.RecordingCalls.{recorded-passes}
 use Rattle.theorems.proofs.PlanFresh.{laying-accepted}
 use Rattle.theorems.proofs.PlanSums.{cost-reported}
-use Rattle.theorems.proofs.PlanAnswers.{permitted-ok, bill-answered, eleven-exactly, fifteen-exactly, room-answers, layout-is, layout-permitted, layout-billed, layout-least}
+use Rattle.model.proofs.PlanLaws.{permitted-ok}
+use Rattle.theorems.proofs.PlanAnswers.{bill-answered, eleven-exactly, fifteen-exactly, room-answers, layout-is, layout-permitted, layout-billed, layout-least}
 
 pub plan-is-best : Demand3
 plan-is-best calls L p l s h =

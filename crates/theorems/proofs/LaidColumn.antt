@@ -19,9 +19,8 @@ use Rattle.model.specs.Directory.{Directory, directorySize, directoryOf, direct
 use Rattle.model.specs.Column.{inPlace, soundGrowers, allRecords, sound, lengthsFrom, directoryFor}
 use Rattle.model.specs.Questions.{setChecks, applyChecks}
 use Rattle.model.specs.ColumnCalls.{applyCall, laidColumn}
-use Rattle.model.proofs.Parts.{flatten-parts, start-mono}
+use Rattle.model.proofs.Parts.{flatten-parts, start-le, start-mono}
 use Rattle.model.proofs.Tests.{and-mk, or-snd, yes-first, first-passed, eq→eqb}
-use Rattle.model.proofs.ListLaws.{sum-take-le}
 use Rattle.model.proofs.Places.{Placed}
 use Rattle.model.proofs.LayoutLaws.{Laid, laid}
 use Rattle.model.proofs.SetLaws.{Good, good, few, part-placed, target}
@@ -58,10 +57,6 @@ every-partition f j (n ∷ ns) gs h =
         let e : j + suc p ≡ j + 1 + p = omega arith in
         rw getD-drop (rw e at (h (suc p) (n + i) (omega arith) (omega arith) (omega arith) (omega arith)))
 
-start-most : (ns : List ℕ) (p : ℕ) → startOf ns p ≤ sumOf ns
-unfolding startOf
-start-most ns p = sum-take-le ns p
-
 -- a slot lies in one partition
 start-only : (ns : List ℕ) (i p q : ℕ) → startOf ns p ≤ i → i < startOf ns (suc p) → startOf ns q ≤ i → i < startOf ns (suc q) → q ≡ p
 start-only ns i p q a b x y = go (decLt p q) (decLt q p)
@@ -84,7 +79,7 @@ module _ (L : ℕ) (s : Set) (ends : List ℕ) (o : Good L s) (l : Laid s ends) 
           let g : ℕ = getD (s .growers) i 0 in
           let q : ℕ = place ends (blockOf s g) in
           let w : Placed ends (blockOf s g) q = part-placed L s o ends l (blockOf s g) in
-          let used : i < s .used = omega (arith, start-most ns (suc p), total-used L s o ends l) in
+          let used : i < s .used = omega (arith, start-le ns (suc p), total-used L s o ends l) in
           let x : startOf ns q ≤ i = lower L s o ends l g i q used refl w in
           let y : i < startOf ns (suc q) = omega (arith, start-next L s o ends l q (w .within), upper L s o ends l g i q used refl w) in
           eq→eqb (place (map (lastGrower s) ends) g) (0 + p) (target L s o ends l g ∙ start-only ns i p q b d x y ∙ omega arith)

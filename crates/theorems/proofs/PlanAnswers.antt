@@ -3,7 +3,7 @@
 use Prim.Native.Nat.{ℕ, suc, _≤_, _<_}
 use mathlib.Core.Path.{_≡_, refl, sym, ap, _∙_}
 use mathlib.Core.Logic.{_≢_, _↔_, ⊎-elim}
-use mathlib.Core.Bool.{Bool, true, false, not, cond, _&&_}
+use mathlib.Core.Bool.{Bool, true, false, not, cond}
 use mathlib.Core.Option.{Option, none, some}
 use mathlib.Core.List.{List, [], _∷_, _++_, List·Memᴰ, List·Memᴰ·head, List·Memᴰ·not-nil}
 use native.Mathlib.Omega.{arith}
@@ -14,24 +14,24 @@ use lib.IntN.{ℤ}
 use lib.Signed.{_≤ℤ_}
 use Rattle.model.specs.declared.PriceCard.{PriceCard}
 use Rattle.model.specs.declared.Limits.{Limits}
-use Rattle.model.specs.Lists.{every, valueOr}
+use Rattle.model.specs.Lists.{valueOr}
 use Rattle.model.specs.Checks.{ask, firstFailed}
 use Rattle.model.specs.Blocks.{Set, blocks}
 use Rattle.model.specs.Histograms.{countsOk}
 use Rattle.model.specs.Prices.{pricesOk, limitsOk}
-use Rattle.model.specs.Layouts.{layoutOk, blockCounts, mostPartitions, longestPartition, permitted}
+use Rattle.model.specs.Layouts.{permitted}
 use Rattle.model.specs.Cost.{costOf}
 use Rattle.model.specs.Plan.{comesBefore, permittedLayouts, cheapest}
 use Rattle.model.specs.Questions.{costChecks, plannerChecks}
 use Rattle.model.specs.Planner.{PlanResult, costCall, plannedEnds, plannerRefusal, planCall}
 use Rattle.model.specs.Laws.{IsCheapest}
-use Rattle.model.proofs.Tests.{and-fst, is-true, of-true, first-passed}
+use Rattle.model.proofs.Tests.{and-fst, is-true, of-true, first-passed, nothing-failed}
 use Rattle.model.proofs.Integers.{is-exists, le-is}
 use Rattle.model.proofs.Order.{comesBefore-elim}
 use Rattle.model.proofs.SetLaws.{good, n-least}
-use Rattle.model.proofs.PlanLaws.{permitted-listed, listed-permitted, cheapest-chosen, none-permitted}
+use Rattle.model.proofs.PlanLaws.{permitted-ok, permitted-listed, listed-permitted, cheapest-chosen, none-permitted}
 use Rattle.theorems.specs.Plan.{Admitted, layoutOf}
-use Rattle.theorems.proofs.PlanChecks.{nothing-failed, prices-pass, set-passes}
+use Rattle.theorems.proofs.PlanChecks.{prices-pass, set-passes}
 
 -- what comes before another costs no more
 before-costs : (cost : List ℕ → ℤ) (x y : List ℕ) → T (comesBefore cost x y) → cost x ≤ℤ cost y
@@ -42,14 +42,6 @@ before-costs cost x y h =
     (λ u. le-is (cost x) (cost y) (i .0) (i .1) (j .0) (j .1) (i .2) (j .2) (omega arith))
     (λ u. le-is (cost x) (cost y) (i .0) (i .1) (j .0) (j .1) (i .2) (j .2) (omega (arith, u .0)))
     (comesBefore-elim cost x y (i .0) (i .1) (j .0) (j .1) (i .2) (j .2) h)
-
--- a permitted layout passes 6
-pub permitted-ok : (p : PriceCard) (l : Limits) (s : Set) (ends : List ℕ) → T (permitted p l s ends) → T (layoutOk s ends)
-unfolding permitted
-permitted-ok p l s ends t =
-    let a = layoutOk s ends in
-    let b = leb (length ends) (mostPartitions p l) in
-    and-fst a b (and-fst (a && b) (every (λ (n : ℕ). leb n (longestPartition p l)) (blockCounts 0 ends)) t)
 
 -- a list that is not empty has an element, and one with an element is not empty
 any-listed : (xs : List (List ℕ)) → T (not (eqb (length xs) 0)) → (x : List ℕ) × List·Memᴰ x xs

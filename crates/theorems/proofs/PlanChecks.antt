@@ -1,8 +1,8 @@
 -- The checks that the set passes, ahead of those that a call adds. Assumes nothing.
 use Prim.Native.Nat.{ℕ}
-use mathlib.Core.Path.{_≡_, refl, _∙_}
+use mathlib.Core.Path.{_≡_, _∙_}
 use mathlib.Core.Bool.{_&&_}
-use mathlib.Core.List.{List, [], _++_}
+use mathlib.Core.List.{List, _++_}
 use lib.Dec.{T}
 use Rattle.model.specs.declared.PriceCard.{PriceCard}
 use Rattle.model.specs.declared.Limits.{Limits}
@@ -13,10 +13,6 @@ use Rattle.model.specs.Questions.{setChecks}
 use Rattle.model.specs.Laws.{SetPasses}
 use Rattle.model.proofs.Tests.{yes-first, first-passed}
 use Rattle.theorems.specs.Plan.{Admitted}
-
-pub nothing-failed : firstFailed [] ≡ 0
-unfolding firstFailed
-nothing-failed = refl
 
 module _ (L : ℕ) where
   pub prices-pass : (p : PriceCard) (l : Limits) (s : Set) → Admitted L p l s → T (pricesOk p && limitsOk l) × SetPasses L s

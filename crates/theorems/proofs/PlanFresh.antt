@@ -21,13 +21,13 @@ use Rattle.model.specs.Accesses.{callCounts, missCounts}
 use Rattle.model.specs.Questions.{applyChecks, callChecks, columnChecks}
 use Rattle.model.specs.ColumnCalls.{applyCall, laidColumn, columnRefusal, refusedCounts, columnCall, reportAlone}
 use Rattle.model.specs.Laws.{SetPasses}
-use Rattle.model.proofs.Tests.{is-true, first-passed, or-snd}
+use Rattle.model.proofs.Tests.{is-true, first-passed, or-snd, nothing-failed}
 use Rattle.model.proofs.Places.{placed-mono}
 use Rattle.model.proofs.LayoutLaws.{Laid, laid}
 use Rattle.model.proofs.SetLaws.{Good, good, few, block-mono, part-placed, target as same-target}
 use Rattle.model.proofs.DirectoryLaws.{Fits, directory-again, numbers-shaped, shaped-passes}
 use Rattle.model.proofs.Fresh.{length-lengths, fences-rise, total-used, all-in-range, among-here}
-use Rattle.theorems.proofs.PlanChecks.{nothing-failed, set-passes}
+use Rattle.theorems.proofs.PlanChecks.{set-passes}
 
 module _ (L : ℕ) (s : Set) (h : SetPasses L s) (ends : List ℕ) (t : T (layoutOk s ends)) where
   -- the freshly laid column, its directory, and a grower's partition

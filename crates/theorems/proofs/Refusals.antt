@@ -1,7 +1,7 @@
 -- A call on a valid column is refused by the number that the ledger gives. Assumes nothing.
 use Prim.Native.Nat.{ℕ}
-use mathlib.Core.Path.{_≡_, refl, ap, _∙_}
-use mathlib.Core.Bool.{Bool, true, false, _&&_}
+use mathlib.Core.Path.{_≡_, ap, _∙_}
+use mathlib.Core.Bool.{and-true}
 use mathlib.Core.List.{List, List·Permᴰ}
 use lib.Dec.{ltb}
 use lib.ListN.{length}
@@ -15,10 +15,6 @@ use Rattle.model.specs.ColumnCalls.{columnRefusal}
 use Rattle.theorems.proofs.Bags.{bag-length}
 use Rattle.theorems.proofs.OneDelivery.{bag-among}
 use Rattle.theorems.proofs.ValidColumn.{Valid, has-is, scanned-passes, free-slot-is, lent-pass}
-
-and-true : (b : Bool) → (b && true) ≡ b
-and-true true = refl
-and-true false = refl
 
 module _ (L : ℕ) (c : Column) (v : Valid L c) (bag : List Delivery) (p : List·Permᴰ (allRecords L c) bag) where
   pub delivery-in-bag : (d : Delivery) → hasDelivery L c d ≡ among d bag

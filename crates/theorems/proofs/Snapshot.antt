@@ -20,7 +20,7 @@ use Rattle.model.specs.Column.{Column, slots, lengthsOf, fencesOf, soundGrowers
 use Rattle.model.specs.Snapshot.{Book, bookText, bookIn, snapshotText, readBook, isBook, slotsForBook}
 use Rattle.model.specs.Questions.{readChecks}
 use Rattle.model.specs.SnapshotCalls.{WriteResult, writeCall, readCall, columnRead}
-use Rattle.model.proofs.Tests.{eq→eqb, is-true, yes-first, first-passed, or-snd}
+use Rattle.model.proofs.Tests.{eq→eqb, is-true, yes-first, first-passed, or-snd, nothing-failed}
 use Rattle.model.proofs.ListLaws.{map-take, every-front, every-back}
 use Rattle.model.proofs.MovesRows.{Columns, rows-columns}
 use Rattle.model.proofs.Parts.{flatten-parts}
@@ -32,7 +32,6 @@ use Rattle.model.proofs.SetLaws.{Sliced, sliced, slices-pass}
 use Rattle.model.proofs.WriteLaws.{Writable, writable, writes, write-accepted, write-is}
 use Rattle.theorems.specs.Snapshot.{Numbers32, written, readInto, WrittenIsRead, ReadIsWritten}
 use Rattle.theorems.proofs.ValidColumn.{Valid, even-slices, length-records}
-use Rattle.theorems.proofs.PlanChecks.{nothing-failed}
 
 same-column : {a b c d e f g h : List ℕ} → a ≡ e → b ≡ f → c ≡ g → d ≡ h
     → _≡_ {A = Column} (record { directory = a; growers = b; weights = c; yields = d }) (record { directory = e; growers = f; weights = g; yields = h })
@@ -148,49 +147,64 @@ module _ (L : ℕ) where
 
   -- a column that holds a good book can be written, as the book's text
   module _ (b : Book) (gs ws ys : List ℕ) (g : Good L b) (sl : Sliced gs ws ys) (enough : length (b .deliveries) ≤ length gs) where
+    abbrev col : Column
+    col = bookColumn b gs ws ys
+
+    abbrev ns : List ℕ
+    ns = b .directory .lengths
+
+    abbrev fs : List ℕ
+    fs = b .directory .fences
+
+    abbrev ds : List Delivery
+    ds = b .deliveries
+
+    abbrev n : ℕ
+    n = length ds
+
     directory-fits : Fits L (b .directory)
     directory-fits = record { even = g .even; few = g .few }
 
-    there : directoryOf L (directoryNumbers L (b .directory)) ≡ b .directory
+    there : directoryOf L (col .directory) ≡ b .directory
     there = directory-again L (b .directory) directory-fits
 
-    length-read : (f : Delivery → ℕ) (old : List ℕ) → length (b .deliveries) ≤ length old → length (map f (b .deliveries) ++ drop (length (b .deliveries)) old) ≡ length old
-    length-read f old h = omega (arith, length-append (map f (b .deliveries)) (drop (length (b .deliveries)) old), length-map (b .deliveries) f, length-drop (length (b .deliveries)) old)
+    length-read : (f : Delivery → ℕ) (old : List ℕ) → n ≤ length old → length (map f ds ++ drop n old) ≡ length old
+    length-read f old h = omega (arith, length-append (map f ds) (drop n old), length-map ds f, length-drop n old)
 
-    slices-in : Sliced (bookColumn b gs ws ys .growers) (bookColumn b gs ws ys .weights) (bookColumn b gs ws ys .yields)
+    slices-in : Sliced (col .growers) (col .weights) (col .yields)
     slices-in =
         let x = length-read growerOf gs enough in
         let y = length-read weightOf ws (omega (arith, sl .even .weights)) in
         let z = length-read yieldOf ys (omega (arith, sl .even .yields)) in
         record { even = record { weights = y ∙ sl .even .weights ∙ sym x; yields = z ∙ sl .even .yields ∙ sym x }; one = omega (arith, x, sl .one); most = omega (arith, x, sl .most) }
 
-    shape-in : Shaped L (length (bookColumn b gs ws ys .growers)) (directoryNumbers L (b .directory))
-    shape-in = numbers-shaped L (length (bookColumn b gs ws ys .growers)) (b .directory) directory-fits (g .some-parts) (g .rises) (omega (arith, g .total, length-read growerOf gs enough))
+    shape-in : Shaped L (length (col .growers)) (col .directory)
+    shape-in = numbers-shaped L (length (col .growers)) (b .directory) directory-fits (g .some-parts) (g .rises) (omega (arith, g .total, length-read growerOf gs enough))
 
-    records-in : allRecords L (bookColumn b gs ws ys) ≡ b .deliveries
+    records-in : allRecords L col ≡ ds
     records-in =
-        flatten-parts (lengthsOf L (bookColumn b gs ws ys)) (slots (bookColumn b gs ws ys))
-        ∙ ap (λ (d : Directory). take (sumOf (d .lengths)) (slots (bookColumn b gs ws ys))) there
-        ∙ ap (take (sumOf (b .directory .lengths))) (rows-joined (b .deliveries) (drop (length (b .deliveries)) gs) (drop (length (b .deliveries)) ws) (drop (length (b .deliveries)) ys))
-        ∙ take-at (b .deliveries) _ (sumOf (b .directory .lengths)) (sym (g .total))
+        flatten-parts (lengthsOf L col) (slots col)
+        ∙ ap (λ (d : Directory). take (sumOf (d .lengths)) (slots col)) there
+        ∙ ap (take (sumOf ns)) (rows-joined ds (drop n gs) (drop n ws) (drop n ys))
+        ∙ take-at ds _ (sumOf ns) (sym (g .total))
 
-    text-again : snapshotText L (bookColumn b gs ws ys) ≡ bookText b
+    text-again : snapshotText L col ≡ bookText b
     text-again = ap₂ (λ (d : Directory) (l : List Delivery). bookText (record { directory = d; deliveries = l })) there records-in
 
-    block-in : T (directoryBlockOk L (directoryNumbers L (b .directory)))
+    block-in : T (directoryBlockOk L (col .directory))
     unfolding directoryBlockOk directoryNumbers
-    block-in = or-snd (not (eqb (length (directoryNumbers L (b .directory))) (directorySize L))) (blockLengthOk (b .directory .block)) (g .block)
+    block-in = or-snd (not (eqb (length (col .directory)) (directorySize L))) (blockLengthOk (b .directory .block)) (g .block)
 
-    sound-in : T (sound L (bookColumn b gs ws ys))
+    sound-in : T (sound L col)
     unfolding sound
     sound-in =
-        let e : soundGrowers (lengthsOf L (bookColumn b gs ws ys)) (fencesOf L (bookColumn b gs ws ys)) (bookColumn b gs ws ys .growers) ≡ soundGrowers (b .directory .lengths)
-        (b .directory .fences) (map growerOf (b .deliveries))
-        = ap (λ (d : Directory). soundGrowers (d .lengths) (d .fences) (bookColumn b gs ws ys .growers)) there
-        ∙ sound-used (b .directory .lengths) (b .directory .fences) (map growerOf (b .deliveries)) _ (omega (arith, g .total, length-map (b .deliveries) growerOf)) in
+        let e : soundGrowers (lengthsOf L col) (fencesOf L col) (col .growers) ≡ soundGrowers ns
+        fs (map growerOf ds)
+        = ap (λ (d : Directory). soundGrowers (d .lengths) (d .fences) (col .growers)) there
+        ∙ sound-used ns fs (map growerOf ds) _ (omega (arith, g .total, length-map ds growerOf)) in
         subst T (sym e) (g .sound)
 
-    writable-in : (room : ℕ) → length (bookText b) ≤ room → Writable L (bookColumn b gs ws ys) room
+    writable-in : (room : ℕ) → length (bookText b) ≤ room → Writable L col room
     writable-in room h = record {
       block = block-in;
       slices = slices-pass _ _ _ slices-in;
@@ -201,9 +215,9 @@ module _ (L : ℕ) where
     }
 
     written-again : (out : List ℕ) → length (bookText b) ≤ length out
-        → writeCall L (bookColumn b gs ws ys) out ≡ record { answer = record { refusal = 0; bytes = length (bookText b) }; text = bookText b ++ drop (length (bookText b)) out }
+        → writeCall L col out ≡ record { answer = record { refusal = 0; bytes = length (bookText b) }; text = bookText b ++ drop (length (bookText b)) out }
     written-again out h =
-        write-is L (bookColumn b gs ws ys) out (writes L (bookColumn b gs ws ys) (length out) (writable-in (length out) h))
+        write-is L col out (writes L col (length out) (writable-in (length out) h))
         ∙ ap (λ (t : List ℕ). record { answer = record { refusal = 0; bytes = length t }; text = t ++ drop (length t) out }) text-again
 
   -- what an accepted reading found
