@@ -96,8 +96,8 @@ unfolding every
 threes-rows [] v f = no-rows
 threes-rows (d ∷ ds) v f =
     let i : T (inRange d) = and-fst (inRange d) (every inRange ds) v in
-    let w : d .weight ≤ mostWeight = leb→le (d .weight) mostWeight (and-fst (leb (d .weight) mostWeight) (leb (d .«oil_yield») mostYield) i) in
-    let y : d .«oil_yield» ≤ mostYield = leb→le (d .«oil_yield») mostYield (and-snd (leb (d .weight) mostWeight) (leb (d .«oil_yield») mostYield) i) in
+    let w : d .weight ≤ mostWeight = leb→le _ _ (and-fst (leb (d .weight) mostWeight) (leb (d .«oil_yield») mostYield) i) in
+    let y : d .«oil_yield» ≤ mostYield = leb→le _ _ (and-snd (leb (d .weight) mostWeight) (leb (d .«oil_yield») mostYield) i) in
     row (record { count = refl; fit = fit-three (d .grower) (d .weight) (d .«oil_yield») (fit-first (d .grower) (map growerOf ds) f) (omega arith) (omega arith) })
     (threes-rows ds (and-snd (inRange d) (every inRange ds) v) (fit-rest (d .grower) (map growerOf ds) f))
 
@@ -144,14 +144,14 @@ header-good L h t =
     let t1 = and-fst (a && b) c t2 in
     record {
       block = and-fst a b t1;
-      used = leb→le (h .used) mostSlots (and-snd a b t1);
-      one = leb→le 1 (h .count) (and-snd (a && b) c t2);
-      few = leb→le (h .count) L (and-snd (a && b && c) d t);
+      used = leb→le _ _ (and-snd a b t1);
+      one = leb→le _ _ (and-snd (a && b) c t2);
+      few = leb→le _ _ (and-snd (a && b && c) d t);
     }
 
 block-small : (b : ℕ) → T (blockLengthOk b) → b ≤ mostBlockLength
 unfolding blockLengthOk
-block-small b t = leb→le b mostBlockLength (and-snd (leb 1 b) (leb b mostBlockLength) t)
+block-small b t = leb→le _ _ (and-snd (leb 1 b) (leb b mostBlockLength) t)
 
 take-header : (L b m k : ℕ) (t : List ℕ) → T (blockLengthOk b) → m ≤ mostSlots → 1 ≤ k → k ≤ L → k ≤ mostNumber
     → takeHeader L (line (b ∷ m ∷ k ∷ []) ++ t) ≡ some (taken (record { block = b; used = m; count = k }) t)
@@ -175,28 +175,34 @@ book-passes L b h g e =
     and-mk (s && r && v) o (and-mk (s && r) v (and-mk s r (eq→eqb _ _ e) (g .rises)) (g .values)) (g .sound)
 
 module _ (L : ℕ) (b : Book) (g : Good L b) where
+  abbrev pub ns : List ℕ
+  ns = b .directory .lengths
+
+  abbrev pub fs : List ℕ
+  fs = b .directory .fences
+
   pub ps : List (List ℕ)
-  ps = partitionRows (b .directory .lengths) (b .directory .fences)
+  ps = partitionRows ns fs
 
   pub ds : List (List ℕ)
   ds = map deliveryRow (b .deliveries)
 
   pub head : Header
-  head = record { block = b .directory .block; used = sumOf (b .directory .lengths); count = length (b .directory .lengths) }
+  head = record { block = b .directory .block; used = sumOf ns; count = length ns }
 
-  text-is : bookText b ≡ line (b .directory .block ∷ sumOf (b .directory .lengths) ∷ length (b .directory .lengths) ∷ []) ++ (lines ps ++ (lines ds ++ []))
+  text-is : bookText b ≡ line (b .directory .block ∷ sumOf ns ∷ length ns ∷ []) ++ (lines ps ++ (lines ds ++ []))
   unfolding bookText ps ds
   text-is =
-      let h : List ℕ = line (b .directory .block ∷ sumOf (b .directory .lengths) ∷ length (b .directory .lengths) ∷ []) in
+      let h : List ℕ = line (b .directory .block ∷ sumOf ns ∷ length ns ∷ []) in
       append-assoc h (lines ps) (lines ds) ∙ ap (λ (q : List ℕ). h ++ (lines ps ++ q)) (sym (append-nil (lines ds)))
 
-  parts-read : takeLines (length (b .directory .lengths)) 2 (lines ps ++ (lines ds ++ [])) ≡ some (taken ps (lines ds ++ []))
+  parts-read : takeLines (length ns) 2 (lines ps ++ (lines ds ++ [])) ≡ some (taken ps (lines ds ++ []))
   unfolding ps
   parts-read =
-      ap (λ (n : ℕ). takeLines n 2 (lines ps ++ (lines ds ++ []))) (sym (pairs-count (b .directory .lengths) (b .directory .fences) (g .even)))
-      ∙ take-lines 2 ps (lines ds ++ []) (pairs-rows (b .directory .lengths) (b .directory .fences) (omega (arith, g .total, g .slots)) (g .fences-fit))
+      ap (λ (n : ℕ). takeLines n 2 (lines ps ++ (lines ds ++ []))) (sym (pairs-count ns fs (g .even)))
+      ∙ take-lines 2 ps (lines ds ++ []) (pairs-rows ns fs (omega (arith, g .total, g .slots)) (g .fences-fit))
 
-  deliveries-read : takeLines (sumOf (b .directory .lengths)) 3 (lines ds ++ []) ≡ some (taken ds [])
+  deliveries-read : takeLines (sumOf ns) 3 (lines ds ++ []) ≡ some (taken ds [])
   unfolding ds
   deliveries-read =
       ap (λ (n : ℕ). takeLines n 3 (lines ds ++ [])) (g .total ∙ sym (length-map (b .deliveries) deliveryRow))
@@ -206,16 +212,16 @@ module _ (L : ℕ) (b : Book) (g : Good L b) where
   unfolding head ps ds
   book-again =
       ap (λ (l : List ℕ). record { directory = record { block = b .directory .block; lengths = l; fences = map (nth 1) ps }; deliveries = map deliveryOf ds })
-      (pairs-lengths (b .directory .lengths) (b .directory .fences) (g .even))
-      ∙ ap (λ (l : List ℕ). record { directory = record { block = b .directory .block; lengths = b .directory .lengths; fences = l }; deliveries = map deliveryOf ds })
-      (pairs-fences (b .directory .lengths) (b .directory .fences) (g .even))
+      (pairs-lengths ns fs (g .even))
+      ∙ ap (λ (l : List ℕ). record { directory = record { block = b .directory .block; lengths = ns; fences = l }; deliveries = map deliveryOf ds })
+      (pairs-fences ns fs (g .even))
       ∙ ap (λ (l : List Delivery). record { directory = b .directory; deliveries = l }) (threes-deliveries (b .deliveries))
 
   header-read : takeHeader L (bookText b) ≡ some (taken head (lines ps ++ (lines ds ++ [])))
   unfolding head
   header-read =
       rw text-is
-      (take-header L (b .directory .block) (sumOf (b .directory .lengths)) (length (b .directory .lengths)) (lines ps ++ (lines ds ++ [])) (g .block)
+      (take-header L (b .directory .block) (sumOf ns) (length ns) (lines ps ++ (lines ds ++ [])) (g .block)
       (omega (arith, g .total, g .slots)) (g .some-parts) (g .few) (g .count-fits))
 
   -- the slots that the text asks for
@@ -229,6 +235,23 @@ module _ (L : ℕ) (b : Book) (g : Good L b) where
       rw (header-read, parts-read, deliveries-read, book-again, is-true (bookOk head b) (book-passes L b head g refl))
 
 -- A text that is read is the text of its book.
+
+record BookGood (h : Header) (b : Book) : Type 0 where
+  pub total : sumOf (b .directory .lengths) ≡ h .used
+  pub rises : T (rising (b .directory .fences))
+  pub values : T (every inRange (b .deliveries))
+  pub sound : T (soundGrowers (b .directory .lengths) (b .directory .fences) (map growerOf (b .deliveries)))
+
+book-good : (h : Header) (b : Book) → T (bookOk h b) → BookGood h b
+unfolding bookOk
+book-good h b o =
+    let s = eqb (sumOf (b .directory .lengths)) (h .used) in
+    let r = rising (b .directory .fences) in
+    let v = every inRange (b .deliveries) in
+    let g = soundGrowers (b .directory .lengths) (b .directory .fences) (map growerOf (b .deliveries)) in
+    let o2 = and-fst (s && r && v) g o in
+    let o1 = and-fst (s && r) v o2 in
+    record { total = eqb→eq _ _ (and-fst s r o1); rises = and-snd s r o1; values = and-snd (s && r) v o2; sound = and-snd (s && r && v) g o }
 
 pub record IsBookText (L : ℕ) (t : List ℕ) (b : Book) : Type 0 where
   pub text : bookText b ≡ t
@@ -244,24 +267,15 @@ module _ (L : ℕ) where
       (is-head : headerOf hs ≡ h) (is-rest : t1 ≡ t2) (head-ok : T (headerOk L (headerOf hs)))
       (first : TookLine 3 t (taken hs t1)) (parts : TookLines (h .count) 2 t2 (taken ps t3)) (rest : TookLines (h .used) 3 t3 (taken ds t4))
       (ok : T (eqb (length t4) 0 && bookOk h (bookOf h ps ds))) where
-    same-sum : T (eqb (sumOf (map (nth 0) ps)) (h .used))
-    unfolding bookOk
-    same-sum = let b : Book = bookOf h ps ds in let o = and-snd (eqb (length t4) 0) (bookOk h b) ok in
-        let s = eqb (sumOf (b .directory .lengths)) (h .used) in
-        let r = rising (b .directory .fences) in
-        let v = every inRange (b .deliveries) in
-        let g = soundGrowers (b .directory .lengths) (b .directory .fences) (map growerOf (b .deliveries)) in
-        and-fst s r (and-fst (s && r) v (and-fst (s && r && v) g o))
-
-    used-is : sumOf (map (nth 0) ps) ≡ h .used
-    used-is = eqb→eq (sumOf (map (nth 0) ps)) (h .used) same-sum
+    numbers : BookGood h (bookOf h ps ds)
+    numbers = book-good h (bookOf h ps ds) (and-snd (eqb (length t4) 0) (bookOk h (bookOf h ps ds)) ok)
 
     text-of : bookText (bookOf h ps ds) ≡ t
     unfolding bookText
     text-of =
         let z : t4 ≡ [] = no-rest t4 (and-fst (eqb (length t4) 0) (bookOk h (bookOf h ps ds)) ok) in
         let x : h .block ∷ sumOf (map (nth 0) ps) ∷ length (map (nth 0) ps) ∷ [] ≡ hs
-        = ap₂ (λ (m k : ℕ). h .block ∷ m ∷ k ∷ []) used-is (length-map ps (nth 0) ∙ parts .count) ∙ ap (λ (y : Header). y .block ∷ y .used ∷ y .count ∷ []) (sym is-head)
+        = ap₂ (λ (m k : ℕ). h .block ∷ m ∷ k ∷ []) (numbers .total) (length-map ps (nth 0) ∙ parts .count) ∙ ap (λ (y : Header). y .block ∷ y .used ∷ y .count ∷ []) (sym is-head)
         ∙ row-three hs (first .count) in
         let ls : List (List ℕ) = partitionRows (map (nth 0) ps) (map (nth 1) ps) in
         let rs : List (List ℕ) = map deliveryRow (map deliveryOf ds) in
@@ -275,16 +289,8 @@ module _ (L : ℕ) where
         ∙ first .text
 
     good-of : Good L (bookOf h ps ds)
-    unfolding bookOk
     good-of =
-        let b : Book = bookOf h ps ds in
         let hg = header-good L h (subst (λ (x : Header). T (headerOk L x)) is-head head-ok) in
-        let o = and-snd (eqb (length t4) 0) (bookOk h b) ok in
-        let s = eqb (sumOf (b .directory .lengths)) (h .used) in
-        let r = rising (b .directory .fences) in
-        let v = every inRange (b .deliveries) in
-        let g = soundGrowers (b .directory .lengths) (b .directory .fences) (map growerOf (b .deliveries)) in
-        let o2 = and-fst (s && r && v) g o in
         let n : length (map (nth 0) ps) ≡ h .count = length-map ps (nth 0) ∙ parts .count in
         let m : length (map deliveryOf ds) ≡ h .used = length-map ds deliveryOf ∙ rest .count in
         record {
@@ -295,11 +301,11 @@ module _ (L : ℕ) where
           count-fits =
               let f = fit-nth 3 2 (hs ∷ []) (row (record { count = first .count; fit = first .fit }) no-rows) in
               omega (arith, n, fit-first (nth 2 hs) [] f, ap (λ (x : Header). x .count) is-head);
-          total = used-is ∙ sym m;
+          total = numbers .total ∙ sym m;
           slots = omega (arith, m, hg .used);
-          rises = and-snd s r (and-fst (s && r) v o2);
-          values = and-snd (s && r) v o2;
-          sound = and-snd (s && r && v) g o;
+          rises = numbers .rises;
+          values = numbers .values;
+          sound = numbers .sound;
           fences-fit = fit-nth 2 1 ps (parts .rows);
           growers-fit = subst Fit (sym (growers-again ds)) (fit-nth 3 0 ds (rest .rows));
         }

@@ -145,12 +145,12 @@ module _ (L : ℕ) where
       let t3 = and-fst (a && b && c) d t4 in
       let t2 = and-fst (a && b) c t3 in
       record {
-        size = eqb→eq (length ns) (directorySize L) (and-fst a b t2);
-        some = leb→le 1 (partitionCount L ns) (and-snd a b t2);
-        few = leb→le (partitionCount L ns) L (and-snd (a && b) c t3);
+        size = eqb→eq _ _ (and-fst a b t2);
+        some = leb→le _ _ (and-snd a b t2);
+        few = leb→le _ _ (and-snd (a && b) c t3);
         unused = and-snd (a && b && c) d t4;
         rises = and-snd (a && b && c && d) e t5;
-        room = leb→le (sumOf (directoryOf L ns .lengths)) n (and-snd (a && b && c && d && e) f t);
+        room = leb→le _ _ (and-snd (a && b && c && d && e) f t);
       }
 
   pub shaped-passes : (n : ℕ) (ns : List ℕ) → Shaped n ns → T (directoryOk L n ns)

@@ -24,7 +24,7 @@ cut-of : (f a : ℕ) (l : List ℕ) (n : ℕ) → f ≤ a → T (rising (a ∷ l
 unfolding Cut rising
 cut-of f a [] n h r e = (h, omega arith, e)
 cut-of f a (b ∷ l) n h r e =
-    let w : a < b = ltb→lt a b (and-fst (ltb a b) (rising (b ∷ l)) r) in
+    let w : a < b = ltb→lt _ _ (and-fst (ltb a b) (rising (b ∷ l)) r) in
     let c : Cut (a + 1) (b ∷ l) n = cut-of (a + 1) b l n (omega arith) (and-snd (ltb a b) (rising (b ∷ l)) r) e in
     (h, omega (arith, c .1), c)
 
@@ -76,7 +76,7 @@ layout-cut n ends h =
     let c = rising ends in
     let d = eqb (endOf ends (length ends - 1) + 1) n in
     let k = and-fst (a && c) d h in
-    let one : 1 ≤ length ends = leb→le 1 (length ends) (and-fst a c k) in
+    let one : 1 ≤ length ends = leb→le _ _ (and-fst a c k) in
     (one, cut-layout ends n one (and-snd a c k) (eqb→eq (endOf ends (length ends - 1) + 1) n (and-snd (a && c) d h)))
 
 -- check 6 of a layout, taken apart

@@ -39,9 +39,9 @@ sliced gs ws ys t =
     let u = and-fst (a && b) c t in
     let v = and-snd (a && b) c t in
     record {
-      even = record { weights = eqb→eq (length ws) (length gs) (and-fst a b u); yields = eqb→eq (length ys) (length gs) (and-snd a b u) };
-      one = leb→le 1 (length gs) (and-fst (leb 1 (length gs)) (leb (length gs) mostSlots) v);
-      most = leb→le (length gs) mostSlots (and-snd (leb 1 (length gs)) (leb (length gs) mostSlots) v);
+      even = record { weights = eqb→eq _ _ (and-fst a b u); yields = eqb→eq _ _ (and-snd a b u) };
+      one = leb→le _ _ (and-fst (leb 1 (length gs)) (leb (length gs) mostSlots) v);
+      most = leb→le _ _ (and-snd (leb 1 (length gs)) (leb (length gs) mostSlots) v);
     }
 
 pub slices-pass : (gs ws ys : List ℕ) → Sliced gs ws ys → T (slicesOk gs ws ys)
@@ -79,10 +79,10 @@ module _ (L : ℕ) where
         slices-ok = c3 .0;
         values-ok = c8 .0;
         falls-not = c5 .0;
-        b-least = leb→le 1 (s .block) (and-fst (leb 1 (s .block)) (leb (s .block) mostBlockLength) (c2 .0));
-        m-least = leb→le 1 (s .used) (and-fst (leb 1 (s .used)) (leb (s .used) c) u);
-        m-fits = leb→le (s .used) c (and-snd (leb 1 (s .used)) (leb (s .used) c) u);
-        m-most = leb→le (s .used) (L * s .block) (and-snd (leb 1 (s .used) && leb (s .used) c) (leb (s .used) (L * s .block)) (c4 .0));
+        b-least = leb→le _ _ (and-fst (leb 1 (s .block)) (leb (s .block) mostBlockLength) (c2 .0));
+        m-least = leb→le _ _ (and-fst (leb 1 (s .used)) (leb (s .used) c) u);
+        m-fits = leb→le _ _ (and-snd (leb 1 (s .used)) (leb (s .used) c) u);
+        m-most = leb→le _ _ (and-snd (leb 1 (s .used) && leb (s .used) c) (leb (s .used) (L * s .block)) (c4 .0));
       }
 
 -- The blocks of any set.

@@ -54,7 +54,7 @@ module _ (L : ℕ) (c : Column) (v : Valid L c) (bag : List Delivery) (p : List�
       let ns = lengthsOf L c in
       let t = target L c (d .grower) in
       let there : t < length ns = target-there L c v (d .grower) in
-      let less : sumOf ns < length (c .growers) = ltb→lt (sumOf ns) (length (c .growers)) (subst T (sym (free-in-bag L c v bag p)) free) in
+      let less : sumOf ns < length (c .growers) = ltb→lt _ _ (subst T (sym (free-in-bag L c v bag p)) free) in
       let q : List·Permᴰ (flatten (parts (oneMore t ns) (slots (columnAfter L c (insert d))))) (d ∷ bag)
       = rw (slots-inserted c (even-slices L c v) ns t d (oneMore t ns)) (List·Permᴰ·trans (inserted-bag ns (slots c) (room L c v) t d there) (List·Permᴰ·cons refl p)) in
       follows L c v (inserted ns t) d (oneMore t ns)

@@ -33,7 +33,7 @@ module _ (d : Delivery) where
   in-slot (r ∷ l) z t = let k = go (same d r) refl t (in-slot l z) in record { inside = k .0; equal = k .1 }
     where
       go : (b : Bool) → same d r ≡ b → T (b || among d l) → (T (among d l) → InSlot l z) → (cond b 0 (firstMatch d l + 1) < suc (length l)) × (getD (r ∷ l) (cond b 0 (firstMatch d l + 1)) z ≡ d)
-      go true e t ih = (omega arith, sym (same-equal d r (of-true (same d r) e)))
+      go true e t ih = (omega arith, sym (same-equal d r (of-true _ e)))
       go false e t ih = let k = ih t in (omega arith, rw add-one (k .equal))
 
   -- what else a test keeps does not matter, if it keeps every delivery equal to d
@@ -44,7 +44,7 @@ module _ (d : Delivery) where
     where
       go : (b : Bool) → f r ≡ b → (s : Bool) → same d r ≡ s → among d (keep f l) ≡ among d l → among d (cond b (r ∷ keep f l) (keep f l)) ≡ (s || among d l)
       go true e s q ih = rw (q, ih)
-      go false e true q ih = absurd (subst T e (h r (of-true (same d r) q)))
+      go false e true q ih = absurd (subst T e (h r (of-true _ q)))
       go false e false q ih = ih
 
   -- one delivery taken out of a bag, in whatever order it is listed
@@ -59,7 +59,7 @@ module _ (d : Delivery) where
   bag-remove (List·Permᴰ·swap {a} {b} {a′} {b′} {l} e g) = rw (ap (same d) e, ap (same d) g) (go (same d b′) refl (same d a′) refl)
     where
       go : (t : Bool) → same d b′ ≡ t → (u : Bool) → same d a′ ≡ u → List·Permᴰ (cond t (b ∷ l) (a ∷ cond u l (b ∷ removeOne d l))) (cond u (b′ ∷ l) (a′ ∷ cond t l (b′ ∷ removeOne d l)))
-      go true p true q = List·Permᴰ·cons (g ∙ sym (same-equal d a′ (of-true (same d a′) q)) ∙ same-equal d b′ (of-true (same d b′) p)) (Permᴰ·refl l)
+      go true p true q = List·Permᴰ·cons (g ∙ sym (same-equal d a′ (of-true _ q)) ∙ same-equal d b′ (of-true _ p)) (Permᴰ·refl l)
       go true p false q = List·Permᴰ·cons g (Permᴰ·refl l)
       go false p true q = List·Permᴰ·cons e (Permᴰ·refl l)
       go false p false q = List·Permᴰ·swap e g
@@ -81,7 +81,7 @@ module _ (d : Delivery) where
     where
       go : (b : Bool) → same d r ≡ b → T (b || among d l) → (T (among d l) → List·Permᴰ (d ∷ changeOne d g l) (delivery g (d .weight) (d .«oil_yield») ∷ l))
           → List·Permᴰ (d ∷ cond b (delivery g (d .weight) (d .«oil_yield») ∷ l) (r ∷ changeOne d g l)) (delivery g (d .weight) (d .«oil_yield») ∷ r ∷ l)
-      go true e t ih = List·Permᴰ·swap (same-equal d r (of-true (same d r) e)) refl
+      go true e t ih = List·Permᴰ·swap (same-equal d r (of-true _ e)) refl
       go false e t ih = List·Permᴰ·trans (List·Permᴰ·swap refl refl) (List·Permᴰ·trans (List·Permᴰ·cons refl (ih t)) (List·Permᴰ·swap refl refl))
 
   pub bag-changed : (g : ℕ) {a b : List Delivery} → T (among d b) → List·Permᴰ (d ∷ a) (delivery g (d .weight) (d .«oil_yield») ∷ b) → List·Permᴰ a (changeOne d g b)

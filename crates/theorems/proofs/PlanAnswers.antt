@@ -90,7 +90,7 @@ refusal-kept : (n : ℕ) (a b : PlanResult) → a .answer .refusal ≡ 0 → b .
 refusal-kept n a b e f = go (eqb n 0) refl
   where
     go : (t : Bool) → eqb n 0 ≡ t → cond t a b .answer .refusal ≡ n
-    go true q = e ∙ sym (eqb→eq n 0 (of-true (eqb n 0) q))
+    go true q = e ∙ sym (eqb→eq n 0 (of-true _ q))
     go false q = f
 
 module _ (L : ℕ) (p : PriceCard) (l : Limits) (s : Set) (h : Admitted L p l s) (hs : List ℕ) (c : T (countsOk L hs)) where

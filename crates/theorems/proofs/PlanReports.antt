@@ -125,7 +125,7 @@ module _ (L : ℕ) (s : Set) (h : SetPasses L s) (ends : List ℕ) (t : T (layou
 
         go : (v : Bool) → eqb (blockOf s lo) (blockOf s hi) ≡ v → load (plus p ends) (entries v) ≡ p .rr * 1 + p .sr * x + p .«rw» * 0 + load (minus p ends) (entries v)
         go true e =
-            let q : a ≡ b = eqb→eq a b (of-true (eqb a b) e) in
+            let q : a ≡ b = eqb→eq _ _ (of-true _ e) in
             let w : x ≡ before ends a + after ends a = rw (← q) (omega arith) in
             rw w (omega arith)
         go false e =
@@ -171,7 +171,7 @@ module _ (L : ℕ) (s : Set) (h : SetPasses L s) (ends : List ℕ) (t : T (layou
         past x = trailing ends (blockOf s x)
 
         go : (v : Bool) → leb f g ≡ v → load (plus p ends) (entries v) ≡ (price + p .rr * (1 + a) + p .«rw» * (2 + a)) + load (minus p ends) (entries v)
-        go true e = omega (arith, moved-sum price (p .rr) (p .«rw») (past f) a (past g) (forward-parts f g (leb→le f g (of-true (leb f g) e))))
+        go true e = omega (arith, moved-sum price (p .rr) (p .«rw») (past f) a (past g) (forward-parts f g (leb→le f g (of-true _ e))))
         go false e = omega (arith, moved-sum price (p .rr) (p .«rw») (past g) a (past f) (omega (arith, forward-parts g f (omega (arith, leb-no f g e)))))
 
     move-balanced : (d : Delivery) (g : ℕ) → T (inRange d) → Balanced (move d g)

@@ -22,7 +22,7 @@ module _ (L : ℕ) (s : Set) (h : SetPasses L s) where
   pub accepted-passed : (hs : List ℕ) (c : Call) → eqb (recorderRefusal L s hs c) 0 ≡ true → T (ordered c) × T (offeredOk c) × T (roomToRaise L hs (raises s c))
   unfolding recorderRefusal recorderChecks
   accepted-passed hs c e =
-      let n : recorderRefusal L s hs c ≡ 0 = eqb→eq (recorderRefusal L s hs c) 0 (of-true (eqb (recorderRefusal L s hs c) 0) e) in
+      let n : recorderRefusal L s hs c ≡ 0 = eqb→eq _ _ (of-true _ e) in
       let c7 = yes-first 6 (ordered c) _ (sym (set-passes L s h .0 _) ∙ n) in
       let c8 = yes-first 7 (valuesOk s && offeredOk c) _ (c7 .1) in
       let c9 = yes-first 8 (countsOk L hs) _ (c8 .1) in

@@ -94,9 +94,9 @@ module _ (L : ℕ) where
       where
         only : (j : ℕ) (d : Delivery) → T (inPlace (fencesOf L c) j (d .grower)) → T (matches lo hi d) → (target L c lo ≤ j) × (j ≤ target L c hi)
         only j d h t =
-            let e : target L c (d .grower) ≡ j = eqb→eq (target L c (d .grower)) j h in
-            let a : lo ≤ d .grower = leb→le lo (d .grower) (and-fst (leb lo (d .grower)) (leb (d .grower) hi) t) in
-            let b : d .grower ≤ hi = leb→le (d .grower) hi (and-snd (leb lo (d .grower)) (leb (d .grower) hi) t) in
+            let e : target L c (d .grower) ≡ j = eqb→eq _ _ h in
+            let a : lo ≤ d .grower = leb→le _ _ (and-fst (leb lo (d .grower)) (leb (d .grower) hi) t) in
+            let b : d .grower ≤ hi = leb→le _ _ (and-snd (leb lo (d .grower)) (leb (d .grower) hi) t) in
             let x = placed-mono (fencesOf L c) lo (d .grower) _ _ a (place-of lo) (place-of (d .grower)) in
             let y = placed-mono (fencesOf L c) (d .grower) hi _ _ b (place-of (d .grower)) (place-of hi) in
             (omega arith, omega arith)
