@@ -3,7 +3,7 @@
 use Prim.Native.Nat.{ℕ, zero, suc, _+_, _-_, _*_, _/_, _%_, _^_, _≤_, _<_}
 use mathlib.Core.Path.{_≡_, refl, sym, ap, ap₂, _∙_, subst}
 use mathlib.Core.Logic.{_≢_}
-use mathlib.Core.Bool.{Bool, true, false, cond, _&&_, _||_}
+use mathlib.Core.Bool.{Bool, true, false, cond, _&&_, _||_, and-false}
 use mathlib.Core.Option.{Option, none, some}
 use mathlib.Core.List.{List, [], _∷_, _++_}
 use native.Mathlib.Omega.{arith}
@@ -53,7 +53,7 @@ leading-front w n = go (eqb n 0) refl
   where
     go : (b : Bool) → eqb n 0 ≡ b → take w (cond b (replicate w blank ++ blank ∷ []) (leading blank w (n / 10) ++ lastDigit n ∷ [])) ≡ leading blank w (n / 10)
     go true e =
-        let z : n ≡ 0 = eqb→eq n 0 (subst T (sym e) tt) in
+        let z : n ≡ 0 = eqb→eq _ _ (subst T (sym e) tt) in
         take-at (replicate w blank) (blank ∷ []) w (length-replicate w blank) ∙ sym (leading-none w) ∙ ap (leading blank w) (omega arith)
     go false e = take-at (leading blank w (n / 10)) (lastDigit n ∷ []) w (length-leading blank w (n / 10))
 
@@ -121,16 +121,16 @@ follows zero b e = go (eqb b 32) refl (of-true _ e)
   where
     go : (t : Bool) → eqb b 32 ≡ t → T (t || leb 49 b && leb b 57) → Follows 0 b
     go true q h =
-        let z : b ≡ 32 = eqb→eq b 32 (of-true _ q) in
+        let z : b ≡ 32 = eqb→eq _ _ (of-true _ q) in
         record { digit = λ k. absurd (omega arith); gap = λ k. z }
     go false q h =
-        let l : 49 ≤ b = leb→le 49 b (and-fst (leb 49 b) (leb b 57) h) in
-        let m : b ≤ 57 = leb→le b 57 (and-snd (leb 49 b) (leb b 57) h) in
+        let l : 49 ≤ b = leb→le _ _ (and-fst (leb 49 b) (leb b 57) h) in
+        let m : b ≤ 57 = leb→le _ _ (and-snd (leb 49 b) (leb b 57) h) in
         record { digit = λ k. (omega arith, m); gap = λ k. absurd (omega arith) }
 follows (suc v) b e =
     let h : T (leb 48 b && leb b 57) = of-true _ (rw (ne-eqb (suc v) 0 (λ e. omega (arith, e))) at e) in
-    let l : 48 ≤ b = leb→le 48 b (and-fst (leb 48 b) (leb b 57) h) in
-    let m : b ≤ 57 = leb→le b 57 (and-snd (leb 48 b) (leb b 57) h) in
+    let l : 48 ≤ b = leb→le _ _ (and-fst (leb 48 b) (leb b 57) h) in
+    let m : b ≤ 57 = leb→le _ _ (and-snd (leb 48 b) (leb b 57) h) in
     record { digit = λ k. (l, m); gap = λ k. absurd (omega arith) }
 
 -- v is what the first i columns of f spell, and they are its leading columns
@@ -245,10 +245,6 @@ module _ (text : List ℕ) (at : ℕ) where
   pub none-there : length text < at + 11 → none ≡ readAt text at
   none-there h = at-none (short (omega (arith, length-take 11 (drop at text), length-drop at text)))
 
-pub and-never : (t : Bool) → t && false ≡ false
-and-never true = refl
-and-never false = refl
-
 -- Blanks.
 
 pub record Passed (text : List ℕ) (at i : ℕ) : Type 0 where
@@ -312,9 +308,9 @@ digits-start {text} {at} {first} f b e = record {
 pub zero-fails : {text : List ℕ} {at first : ℕ} → at + 11 ≤ length text → Blanks text at first → ltb first 10 && eqb (getD text (at + first) 0) 48 ≡ true → none ≡ readAt text at
 unfolding canLead
 zero-fails {text} {at} {first} f b e =
-    let t = of-true (ltb first 10 && eqb (getD text (at + first) 0) 48) e in
-    let h : first < 10 = ltb→lt first 10 (and-fst (ltb first 10) (eqb (getD text (at + first) 0) 48) t) in
-    let z : getD text (at + first) 0 ≡ 48 = eqb→eq (getD text (at + first) 0) 48 (and-snd (ltb first 10) (eqb (getD text (at + first) 0) 48) t) in
+    let t = of-true _ e in
+    let h : first < 10 = ltb→lt _ _ (and-fst (ltb first 10) (eqb (getD text (at + first) 0) 48) t) in
+    let z : getD text (at + first) 0 ≡ 48 = eqb→eq _ _ (and-snd (ltb first 10) (eqb (getD text (at + first) 0) 48) t) in
     at-none text at (lead-fails (fieldAt at text) (length-here text at f) 0 first h (blanks-lead text at first b) (rw (byte-here text at first (omega arith) ∙ z)))
 
 digit-leads : (v b : ℕ) → 48 ≤ b → b ≤ 57 → (v ≡ 0 → b ≢ 48) → canLead v b ≡ true
@@ -335,8 +331,8 @@ low-stops (suc v) b l n = rw (ne-eqb (suc v) 0 (λ e. omega (arith, e)), lt-leb 
 
 high-stops : (v b : ℕ) → 57 < b → canLead v b ≡ false
 unfolding canLead
-high-stops zero b l = rw (ne-eqb b 32 (λ e. omega (arith, e)), lt-leb b 57 l) (and-never (leb 49 b))
-high-stops (suc v) b l = rw (ne-eqb (suc v) 0 (λ e. omega (arith, e)), lt-leb b 57 l) (and-never (leb 48 b))
+high-stops zero b l = rw (ne-eqb b 32 (λ e. omega (arith, e)), lt-leb b 57 l) (and-false (leb 49 b))
+high-stops (suc v) b l = rw (ne-eqb (suc v) 0 (λ e. omega (arith, e)), lt-leb b 57 l) (and-false (leb 48 b))
 
 module _ {text : List ℕ} {at v i : ℕ} (w : Digits text at v i) where
   abbrev f : List ℕ

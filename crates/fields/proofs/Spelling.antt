@@ -93,14 +93,14 @@ module _ {text : List ℕ} {at n v i : ℕ} (w : Spelling text at n v i) where
 
     bits : T (lowBits b)
     bits =
-        let e : T (every lowBits f) = of-true (every lowBits f) (ap (every lowBits) (sym (w .known .field)) ∙ field-bits n) in
+        let e : T (every lowBits f) = of-true _ (ap (every lowBits) (sym (w .known .field)) ∙ field-bits n) in
         subst (λ (x : ℕ). T (lowBits x)) (byte-here text at i h) (every-at lowBits f i e (omega (arith, full)))
 
     pub low-bits : b % 16 ≡ b - 48
-    low-bits = eqb→eq (b % 16) (b - 48) (and-fst (eqb (b % 16) (b - 48)) (ltb (b - 48) 10) bits)
+    low-bits = eqb→eq _ _ (and-fst (eqb (b % 16) (b - 48)) (ltb (b - 48) 10) bits)
 
     pub digit : b - 48 < 10
-    digit = ltb→lt (b - 48) 10 (and-snd (eqb (b % 16) (b - 48)) (ltb (b - 48) 10) bits)
+    digit = ltb→lt _ _ (and-snd (eqb (b % 16) (b - 48)) (ltb (b - 48) 10) bits)
 
     pub spell-next : (d : ℕ) → d ≡ b % 16 → Spelling text at n (v * 10 + d) (i + 1)
     unfolding spelled

@@ -1,4 +1,5 @@
--- `fields::digits` meets its contract. The loop's invariant: the columns passed are the leading columns of v, all eleven its field. Assumes nothing.
+-- `fields::digits` meets its contract. The loop's invariant: the columns passed are the leading columns of v, all eleven its field. A digit keeps it, since no
+-- leading 0 stands there; another byte may not follow them in a field. Assumes nothing.
 use Prim.Native.Nat.{_-_}
 use native.Mathlib.Omega.{arith}
 use borrow.Author.Needs.{needs}
@@ -15,12 +16,6 @@ abbrev μ-loop : tie.MeasureT-loop
 loop-holds : tie.Need-loop-holds Inv-loop μ-loop
 loop-holds c = digits-start (c .before .pre .0) (c .before .pre .1) (c .before .pre .2)
 
-add-b : tie.Need-add-b Inv-loop μ-loop
-add-b c = omega (arith, c .before .loop .inv .fits)
-
-shared-slice-read-b : tie.Need-shared-slice-read-b Inv-loop μ-loop
-shared-slice-read-b c = omega (arith, c .before .before .loop .inv .fits)
-
 returns : tie.Need-returns Inv-loop μ-loop
 returns c = low (c .before .before .before .loop .inv) (omega arith) (c .if1 .taken)
 
@@ -30,29 +25,14 @@ returns-2 c = high (c .before .before .before .before .loop .inv) (omega arith) 
 mul-v : tie.Need-mul-v Inv-loop μ-loop
 mul-v c = omega (arith, most-digits (c .before .before .before .before .loop .inv) (omega arith))
 
-wide-requires : tie.Need-wide-requires Inv-loop μ-loop
-wide-requires c κs = search needs
-
 add-v : tie.Need-add-v Inv-loop μ-loop
 add-v c = omega (arith, most-digits (c .before .before .before .before .before .loop .inv) (omega arith), c .wide .ensures)
-
-add-i : tie.Need-add-i Inv-loop μ-loop
-add-i c = omega arith
-
-loop-less : tie.Need-loop-less Inv-loop μ-loop
-loop-less c = omega arith
 
 loop-again : tie.Need-loop-again Inv-loop μ-loop
 loop-again c = digits-next (c .before .before .before .before .before .loop .inv) (omega arith) (c .before .before .if1 .left) (c .before .if2 .left) (c .wide .ensures)
 
 returns-3 : tie.Need-returns-3 Inv-loop μ-loop
 returns-3 c = large (c .before .before .loop .inv) (omega arith) (c .if3 .taken)
-
-cast-t14 : tie.Need-cast-t14 Inv-loop μ-loop
-cast-t14 c = search needs
-
-add-t15 : tie.Need-add-t15 Inv-loop μ-loop
-add-t15 c = omega (arith, c .before .before .loop .inv .fits)
 
 returns-4 : tie.Need-returns-4 Inv-loop μ-loop
 returns-4 c = done (c .before .before .loop .inv) (omega arith) (c .if3 .left)
@@ -61,20 +41,5 @@ pub digits-spec : {M : Type 1} → statement M
 digits-spec =
     tie.close
     (tie.spec
-    Inv-loop
-    μ-loop
-    loop-holds
-    add-b
-    shared-slice-read-b
-    returns
-    returns-2
-    mul-v
-    wide-requires
-    add-v
-    add-i
-    loop-less
-    loop-again
-    returns-3
-    cast-t14
-    add-t15
-    returns-4)
+    Inv-loop μ-loop loop-holds (λ c. omega arith) (λ c. omega arith) returns returns-2 mul-v (λ c κs. search needs) add-v (λ c. omega arith)
+    (λ c. omega arith) loop-again returns-3 (λ c. search needs) (λ c. omega arith) returns-4)

@@ -8,17 +8,8 @@ use Rattle.fields.proofs.number_at.Tie as tie
 returns : tie.Need-returns
 returns c = none-there _ _ (omega arith)
 
-sub-if2 : tie.Need-sub-if2
-sub-if2 c = omega arith
-
 returns-2 : tie.Need-returns-2
 returns-2 c = none-there _ _ (omega arith)
-
-blanks-requires : tie.Need-blanks-requires
-blanks-requires c κs = omega arith
-
-zero-leads-requires : tie.Need-zero-leads-requires
-zero-leads-requires c κs = omega arith
 
 returns-3 : tie.Need-returns-3
 returns-3 c = zero-fails (omega arith) (c .before .before .blanks .ensures) (sym (c .before .zero-leads .ensures) ∙ c .if3 .taken)
@@ -31,13 +22,4 @@ returns-4 c = c .digits .ensures
 
 pub number-at-spec : {M : Type 1} → statement M
 number-at-spec =
-    tie.close
-    (tie.spec
-    returns
-    sub-if2
-    returns-2
-    blanks-requires
-    zero-leads-requires
-    returns-3
-    digits-requires
-    returns-4)
+    tie.close (tie.spec returns (λ c. omega arith) returns-2 (λ c κs. omega arith) (λ c κs. omega arith) returns-3 digits-requires returns-4)

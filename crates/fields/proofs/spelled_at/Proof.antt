@@ -1,4 +1,5 @@
--- `fields::spelled_at` meets its contract. The loop's invariant: v is what the columns passed spell. Assumes nothing.
+-- `fields::spelled_at` meets its contract. The loop's invariant: v is what the columns passed spell. Each column of a field is a blank or a digit, so that its low four
+-- bits are what it adds. Assumes nothing.
 use Prim.Native.Nat.{_-_}
 use native.Mathlib.Omega.{arith}
 use borrow.Author.Needs.{needs}
@@ -16,26 +17,11 @@ abbrev μ-loop : tie.MeasureT-loop
 loop-holds : tie.Need-loop-holds Inv-loop μ-loop
 loop-holds c = spell-start _ _ (c .before .pre)
 
-add-b : tie.Need-add-b Inv-loop μ-loop
-add-b c = omega (arith, c .before .loop .inv .known .fits)
-
-shared-slice-read-b : tie.Need-shared-slice-read-b Inv-loop μ-loop
-shared-slice-read-b c = omega (arith, c .before .before .loop .inv .known .fits)
-
 mul-v : tie.Need-mul-v Inv-loop μ-loop
 mul-v c = omega (arith, most-spelled (c .before .before .loop .inv) (c .before .loop-test .taken))
 
-wide-requires : tie.Need-wide-requires Inv-loop μ-loop
-wide-requires c κs = search needs
-
 add-v : tie.Need-add-v Inv-loop μ-loop
 add-v c = let w = c .before .before .before .loop .inv in let h = c .before .before .loop-test .taken in omega (arith, most-spelled w h, low-bits w h, digit w h, c .wide .ensures)
-
-add-k : tie.Need-add-k Inv-loop μ-loop
-add-k c = omega arith
-
-loop-less : tie.Need-loop-less Inv-loop μ-loop
-loop-less c = omega arith
 
 loop-again : tie.Need-loop-again Inv-loop μ-loop
 loop-again c = spell-next (c .before .before .before .loop .inv) (c .before .before .loop-test .taken) _ (c .wide .ensures)
@@ -50,16 +36,5 @@ pub spelled-at-spec : {M : Type 1} → statement M
 spelled-at-spec =
     tie.close
     (tie.spec
-    Inv-loop
-    μ-loop
-    loop-holds
-    add-b
-    shared-slice-read-b
-    mul-v
-    wide-requires
-    add-v
-    add-k
-    loop-less
-    loop-again
-    cast-result
-    returns)
+    Inv-loop μ-loop loop-holds (λ c. omega arith) (λ c. omega arith) mul-v (λ c κs. search needs) add-v (λ c. omega arith)
+    (λ c. omega arith) loop-again cast-result returns)

@@ -4,12 +4,6 @@ use borrow.Author.Tests.{lt-ltb, le-ltb}
 use Rattle.fields.proofs.zero_leads.Statement.{statement}
 use Rattle.fields.proofs.zero_leads.Tie as tie
 
-add-result : tie.Need-add-result
-add-result c = search needs
-
-shared-slice-read-result : tie.Need-shared-slice-read-result
-shared-slice-read-result c = search needs
-
 returns : tie.Need-returns
 returns c = rw (lt-ltb _ 10 (c .before .if1 .taken))
 
@@ -18,9 +12,4 @@ returns-2 c = rw (le-ltb _ 10 (c .if1 .left))
 
 pub zero-leads-spec : {M : Type 1} → statement M
 zero-leads-spec =
-    tie.close
-    (tie.spec
-    add-result
-    shared-slice-read-result
-    returns
-    returns-2)
+    tie.close (tie.spec (λ c. search needs) (λ c. search needs) returns returns-2)
