@@ -1,7 +1,7 @@
 -- Taking lines at a byte, in one form: the numbers that stand there, if the lines are good. Assumes nothing.
-use Prim.Native.Nat.{ℕ, zero, suc, _+_, _-_, _*_, _≤_, _<_}
+use Prim.Native.Nat.{ℕ, zero, suc, _+_, _*_, _≤_, _<_}
 use mathlib.Core.Path.{_≡_, refl, sym, ap, ap₂, _∙_}
-use mathlib.Core.Bool.{Bool, true, false, _&&_}
+use mathlib.Core.Bool.{Bool, true, false, _&&_, and-assoc}
 use mathlib.Core.Option.{Option, none, some}
 use mathlib.Core.List.{List, [], _∷_, _++_, map}
 use native.Mathlib.Omega.{arith}
@@ -21,17 +21,6 @@ use Rattle.lines.specs.Lines.{columnAt, lineLength, lineOk, linesOk, row
 whole : {A : Type 0} (o : Option A) (d : A) → o ≡ onlyIf (isSome o) (valueOr d o)
 whole none d = refl
 whole (some a) d = refl
-
-pub assoc : (a b c : Bool) → a && (b && c) ≡ a && b && c
-assoc true b c = refl
-assoc false b c = refl
-
--- two pairs of tests in another order
-pub pairs-swap : (a b c d : Bool) → a && b && (c && d) ≡ a && c && (b && d)
-pairs-swap true true c d = refl
-pairs-swap true false true d = refl
-pairs-swap true false false d = refl
-pairs-swap false b c d = refl
 
 -- two tests, one after the other
 pub both : {A B : Type 0} (b c : Bool) (a : A) (f : A → Option B) (w : B) → f a ≡ onlyIf c w → andThen (onlyIf b a) f ≡ onlyIf (b && c) w
@@ -59,31 +48,38 @@ module _ (t : List ℕ) where
       go [] p = refl
       go (b ∷ l) p = deep (eqb b lineEnd) l (drop (e + 1) t) (ap (drop 1) (sym p) ∙ drop-drop 1 e t)
 
+  -- a number ahead of others, and LF behind them
+  abbrev ahead : ℕ → Taken (List ℕ) → Option (Taken (List ℕ))
+  ahead v r = some (taken (v ∷ r .value) (r .rest))
+
+  abbrev ending : Taken (List ℕ) → Option (Taken (List ℕ))
+  ending r = andThen (afterLineEnd (r .rest)) (λ w. some (taken (r .value) w))
+
   -- a line of n numbers, as one chain
   abbrev numbersThen : ℕ → List ℕ → Option (Taken (List ℕ))
-  numbersThen n u = andThen (takeNumbers n u) (λ (r : Taken (List ℕ)). andThen (afterLineEnd (r .rest)) (λ v. some (taken (r .value) v)))
+  numbersThen n u = andThen (takeNumbers n u) ending
 
   line-more : (n v : ℕ) (u : List ℕ)
-      → andThen (andThen (takeNumbers n u) (λ (r : Taken (List ℕ)). some (taken (v ∷ r .value) (r .rest)))) (λ (r : Taken (List ℕ)). andThen (afterLineEnd (r .rest)) (λ w. some (taken (r .value) w)))
-      ≡ andThen (numbersThen n u) (λ (r : Taken (List ℕ)). some (taken (v ∷ r .value) (r .rest)))
+      → andThen (andThen (takeNumbers n u) (ahead v)) ending
+      ≡ andThen (numbersThen n u) (ahead v)
   line-more n v u = go (takeNumbers n u)
     where
-      deep : (l : List ℕ) (o : Option (List ℕ)) → andThen o (λ w. some (taken (v ∷ l) w)) ≡ andThen (andThen o (λ w. some (taken l w))) (λ (r : Taken (List ℕ)). some (taken (v ∷ r .value) (r .rest)))
+      deep : (l : List ℕ) (o : Option (List ℕ)) → andThen o (λ w. some (taken (v ∷ l) w)) ≡ andThen (andThen o (λ w. some (taken l w))) (ahead v)
       deep l none = refl
       deep l (some w) = refl
 
       go : (o : Option (Taken (List ℕ)))
-          → andThen (andThen o (λ (r : Taken (List ℕ)). some (taken (v ∷ r .value) (r .rest)))) (λ (r : Taken (List ℕ)). andThen (afterLineEnd (r .rest)) (λ w. some (taken (r .value) w)))
-          ≡ andThen (andThen o (λ (r : Taken (List ℕ)). andThen (afterLineEnd (r .rest)) (λ w. some (taken (r .value) w)))) (λ (r : Taken (List ℕ)). some (taken (v ∷ r .value) (r .rest)))
+          → andThen (andThen o (ahead v)) ending
+          ≡ andThen (andThen o ending) (ahead v)
       go none = refl
       go (some r) = deep (r .value) (afterLineEnd (r .rest))
 
   then-line : (b c : Bool) (v : ℕ) (f : ℕ → Option (Taken (List ℕ))) (l u u' : List ℕ) → u ≡ u'
-      → f v ≡ andThen (onlyIf c (taken l u)) (λ (r : Taken (List ℕ)). some (taken (v ∷ r .value) (r .rest)))
+      → f v ≡ andThen (onlyIf c (taken l u)) (ahead v)
       → andThen (onlyIf b v) f ≡ onlyIf (b && c) (taken (v ∷ l) u')
   then-line b c v f l u u' q e = both b c v f (taken (v ∷ l) u') (e ∙ go c)
     where
-      go : (c : Bool) → andThen (onlyIf c (taken l u)) (λ (r : Taken (List ℕ)). some (taken (v ∷ r .value) (r .rest))) ≡ onlyIf c (taken (v ∷ l) u')
+      go : (c : Bool) → andThen (onlyIf c (taken l u)) (ahead v) ≡ onlyIf c (taken (v ∷ l) u')
       go true = ap (λ (w : List ℕ). some (taken (v ∷ l) w)) q
       go false = refl
 
@@ -99,17 +95,17 @@ module _ (t : List ℕ) where
       rw (field-at at)
       (outer (fieldOk at t)
       ∙ then-line (fieldOk at t) (lineOk n (at + 11) t) (valueAt at t)
-      (λ (v : ℕ). andThen (numbersThen n (drop (at + 11) t)) (λ (r : Taken (List ℕ)). some (taken (v ∷ r .value) (r .rest))))
+      (λ (v : ℕ). andThen (numbersThen n (drop (at + 11) t)) (ahead v))
       (columnAt 11 (at + 11) n t) (drop (at + 11 + lineLength n) t) (drop (at + lineLength (suc n)) t) (ap (λ (k : ℕ). drop k t) z)
-      (ap (λ (o : Option (Taken (List ℕ))). andThen o (λ (r : Taken (List ℕ)). some (taken (valueAt at t ∷ r .value) (r .rest)))) (line-form n (at + 11))))
+      (ap (λ (o : Option (Taken (List ℕ))). andThen o (ahead (valueAt at t))) (line-form n (at + 11))))
     where
       outer : (b : Bool)
-          → andThen (andThen (onlyIf b (valueAt at t)) (λ (v : ℕ). andThen (takeNumbers n (drop 11 (drop at t))) (λ (r : Taken (List ℕ)). some (taken (v ∷ r .value) (r .rest)))))
-          (λ (r : Taken (List ℕ)). andThen (afterLineEnd (r .rest)) (λ w. some (taken (r .value) w)))
-          ≡ andThen (onlyIf b (valueAt at t)) (λ (v : ℕ). andThen (numbersThen n (drop (at + 11) t)) (λ (r : Taken (List ℕ)). some (taken (v ∷ r .value) (r .rest))))
+          → andThen (andThen (onlyIf b (valueAt at t)) (λ (v : ℕ). andThen (takeNumbers n (drop 11 (drop at t))) (ahead v)))
+          ending
+          ≡ andThen (onlyIf b (valueAt at t)) (λ (v : ℕ). andThen (numbersThen n (drop (at + 11) t)) (ahead v))
       outer true =
           line-more n (valueAt at t) (drop 11 (drop at t))
-          ∙ ap (λ (u : List ℕ). andThen (numbersThen n u) (λ (r : Taken (List ℕ)). some (taken (valueAt at t ∷ r .value) (r .rest)))) (drop-drop 11 at t)
+          ∙ ap (λ (u : List ℕ). andThen (numbersThen n u) (ahead (valueAt at t))) (drop-drop 11 at t)
       outer false = refl
 
   pub line-at : (n at : ℕ) → takeLine n (drop at t) ≡ onlyIf (lineOk n at t) (taken (columnAt 11 at n t) (drop (at + lineLength n) t))
@@ -151,27 +147,29 @@ module _ (t : List ℕ) where
 
   -- Lines in two parts.
 
+  past-none : (n at : ℕ) → at + lineLength n * 0 ≡ at
+  past-none n at = omega arith
+
+  past-next : (n at a : ℕ) → at + lineLength n + lineLength n * a ≡ at + lineLength n * suc a
+  past-next n at a = omega arith
+
   pub lines-cut : (n a b at : ℕ) → linesOk n (a + b) at t ≡ linesOk n a at t && linesOk n b (at + lineLength n * a) t
   unfolding linesOk
   lines-cut n zero b at =
       let y : 0 + b ≡ b = omega arith in
-      let z : at + lineLength n * 0 ≡ at = omega arith in
-      rw (y, z)
+      rw (y, past-none n at)
   lines-cut n (suc a) b at =
       let y : suc a + b ≡ suc (a + b) = omega arith in
-      let z : at + lineLength n + lineLength n * a ≡ at + lineLength n * suc a = omega arith in
-      rw (y, lines-cut n a b (at + lineLength n), z) (assoc (lineOk n at t) (linesOk n a (at + lineLength n) t) (linesOk n b (at + lineLength n * suc a) t))
+      rw (y, lines-cut n a b (at + lineLength n), past-next n at a) (sym (and-assoc (lineOk n at t) (linesOk n a (at + lineLength n) t) (linesOk n b (at + lineLength n * suc a) t)))
 
   pub rows-cut : (n a b at : ℕ) → rowsAt n (a + b) at t ≡ rowsAt n a at t ++ rowsAt n b (at + lineLength n * a) t
   unfolding rowsAt
   rows-cut n zero b at =
       let y : 0 + b ≡ b = omega arith in
-      let z : at + lineLength n * 0 ≡ at = omega arith in
-      rw (y, z)
+      rw (y, past-none n at)
   rows-cut n (suc a) b at =
       let y : suc a + b ≡ suc (a + b) = omega arith in
-      let z : at + lineLength n + lineLength n * a ≡ at + lineLength n * suc a = omega arith in
-      rw (y, rows-cut n a b (at + lineLength n), z)
+      rw (y, rows-cut n a b (at + lineLength n), past-next n at a)
 
   pub length-rows-at : (n m at : ℕ) → length (rowsAt n m at t) ≡ m
   unfolding rowsAt

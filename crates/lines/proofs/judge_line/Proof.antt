@@ -1,4 +1,4 @@
--- `lines::judge_line` meets its contract. The loop's invariant: the fields that are left, judged from here on, decide. Assumes nothing.
+-- `lines::judge_line` meets its contract. The loop's invariant: the fields that are left, judged from here on, decide. A field that is a number leaves those behind it. Assumes nothing.
 use Prim.Native.Nat.{_-_}
 use mathlib.Core.Path.{sym, ap, _∙_}
 use native.Mathlib.Omega.{arith}
@@ -19,34 +19,16 @@ abbrev μ-loop : tie.MeasureT-loop
 loop-holds : tie.Need-loop-holds Inv-loop μ-loop
 loop-holds c = fields-start _ _ _
 
-number-at-requires : tie.Need-number-at-requires Inv-loop μ-loop
-number-at-requires c κs = search needs
-
-enum-known-f : tie.Need-enum-known-f Inv-loop μ-loop
-enum-known-f c = search needs
-
-enum-told : tie.Need-enum-told Inv-loop μ-loop
-enum-told c = search needs
-
 returns : tie.Need-returns Inv-loop μ-loop
 returns c =
     ap textRefusal
     (fields-stop (c .before .before .before .loop-test .taken) (c .before .before .before .before .loop .inv)
     (ap readOf (sym (c .enum-told .given .1)) ∙ c .before .before .number-at .ensures))
 
-add-i : tie.Need-add-i Inv-loop μ-loop
-add-i c = omega arith
-
-loop-less : tie.Need-loop-less Inv-loop μ-loop
-loop-less c = omega arith
-
 loop-again : tie.Need-loop-again Inv-loop μ-loop
 loop-again c =
     fields-next (c .before .before .before .before .loop-test .taken) (c .before .before .before .before .before .loop .inv) _
     (ap readOf (sym (c .before .f .given .1)) ∙ c .before .before .before .number-at .ensures)
-
-ends-requires : tie.Need-ends-requires Inv-loop μ-loop
-ends-requires c κs = search needs
 
 returns-2 : tie.Need-returns-2 Inv-loop μ-loop
 returns-2 c = ap textRefusal (sym (not-true _ (c .if1 .taken)) ∙ c .before .ends .ensures ∙ fields-end (c .before .before .loop-test .left) (c .before .before .before .loop .inv))
@@ -58,16 +40,5 @@ pub judge-line-spec : {M : Type 1} → statement M
 judge-line-spec =
     tie.close
     (tie.spec
-    Inv-loop
-    μ-loop
-    loop-holds
-    number-at-requires
-    enum-known-f
-    enum-told
-    returns
-    add-i
-    loop-less
-    loop-again
-    ends-requires
-    returns-2
-    returns-3)
+    Inv-loop μ-loop loop-holds (λ c κs. search needs) (λ c. search needs) (λ c. search needs) returns (λ c. omega arith) (λ c. omega arith)
+    loop-again (λ c κs. search needs) returns-2 returns-3)

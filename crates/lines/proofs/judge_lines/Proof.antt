@@ -1,4 +1,4 @@
--- `lines::judge_lines` meets its contract. The loop's invariant: the lines that are left, judged from here on, decide. Assumes nothing.
+-- `lines::judge_lines` meets its contract. The loop's invariant: the lines that are left, judged from here on, decide. A good line leaves those behind it. Assumes nothing.
 use Prim.Native.Nat.{_-_}
 use mathlib.Core.Path.{ap, _∙_}
 use native.Mathlib.Omega.{arith}
@@ -14,32 +14,14 @@ Inv-loop text at n m stride i₀ e₀ i e = LinesLeft text at n m i e
 abbrev μ-loop : tie.MeasureT-loop
 μ-loop text at n m stride i₀ e₀ i e = m - i
 
-mul-stride : tie.Need-mul-stride Inv-loop μ-loop
-mul-stride c = search needs
-
-add-stride : tie.Need-add-stride Inv-loop μ-loop
-add-stride c = search needs
-
 loop-holds : tie.Need-loop-holds Inv-loop μ-loop
 loop-holds c = lines-start _ _ _ _
-
-judge-line-requires : tie.Need-judge-line-requires Inv-loop μ-loop
-judge-line-requires c κs = search needs
 
 returns : tie.Need-returns Inv-loop μ-loop
 returns c =
     let q = c .before .judge-line .ensures in
     let f = failed _ q (c .if1 .taken) in
     q ∙ ap textRefusal (f ∙ lines-stop (c .before .before .loop-test .taken) (c .before .before .before .loop .inv) f)
-
-add-e : tie.Need-add-e Inv-loop μ-loop
-add-e c = let p = c .before .before .before .before .before .pre in omega (arith, c .before .before .before .loop .inv .near, p .0, p .1, p .2)
-
-add-i : tie.Need-add-i Inv-loop μ-loop
-add-i c = omega arith
-
-loop-less : tie.Need-loop-less Inv-loop μ-loop
-loop-less c = omega arith
 
 loop-again : tie.Need-loop-again Inv-loop μ-loop
 loop-again c =
@@ -53,15 +35,5 @@ pub judge-lines-spec : {M : Type 1} → statement M
 judge-lines-spec =
     tie.close
     (tie.spec
-    Inv-loop
-    μ-loop
-    mul-stride
-    add-stride
-    loop-holds
-    judge-line-requires
-    returns
-    add-e
-    add-i
-    loop-less
-    loop-again
-    returns-2)
+    Inv-loop μ-loop (λ c. search needs) (λ c. search needs) loop-holds (λ c κs. search needs) returns (λ c. omega arith) (λ c. omega arith)
+    (λ c. omega arith) loop-again returns-2)

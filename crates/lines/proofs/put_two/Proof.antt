@@ -4,18 +4,6 @@ use Rattle.lines.proofs.Putting.{more-put}
 use Rattle.lines.proofs.put_two.Statement.{statement}
 use Rattle.lines.proofs.put_two.Tie as tie
 
-put-number-requires : tie.Need-put-number-requires
-put-number-requires c κs = search needs
-
-add-put-one : tie.Need-add-put-one
-add-put-one c = search needs
-
-put-one-requires : tie.Need-put-one-requires
-put-one-requires c κs = search needs
-
-same-length : tie.Need-same-length
-same-length c = search needs
-
 returns : tie.Need-returns
 returns c =
     more-put _ _ _ _ _ _ (c .before .before .before .before .before .before .put-number .ensures) (c .before .before .put-one .ensures)
@@ -23,4 +11,4 @@ returns c =
 
 pub put-two-spec : {M : Type 1} → statement M
 put-two-spec =
-    tie.close (tie.spec put-number-requires add-put-one put-one-requires same-length returns)
+    tie.close (tie.spec (λ c κs. search needs) (λ c. search needs) (λ c κs. search needs) (λ c. search needs) returns)

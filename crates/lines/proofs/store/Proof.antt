@@ -1,4 +1,5 @@
--- `lines::store` meets its contract. The loop's invariant: the slots passed hold the numbers passed, and the fields ahead are numbers. Assumes nothing.
+-- `lines::store` meets its contract. The loop's invariant: the slots passed hold the numbers passed, and the fields ahead are numbers. The next slot takes the next
+-- field's number, a stride further. Assumes nothing.
 use Prim.Native.Nat.{_-_}
 use native.Mathlib.Omega.{arith}
 use borrow.Author.Needs.{needs}
@@ -18,21 +19,6 @@ loop-holds c = store-start _ _ _ _ (c .before .before .pre .2) (c .before .befor
 spelled-at-requires : tie.Need-spelled-at-requires Inv-loop μ-loop
 spelled-at-requires c κs = store-field (c .loop-test .taken) (c .before .loop .inv)
 
-mul-s : tie.Need-mul-s Inv-loop μ-loop
-mul-s c = search needs
-
-slice-write-s : tie.Need-slice-write-s Inv-loop μ-loop
-slice-write-s c = let w = c .before .before .loop .inv in omega (arith, w .room, w .size)
-
-add-e : tie.Need-add-e Inv-loop μ-loop
-add-e c = let w = c .before .before .loop .inv in omega (arith, w .at-line, c .before .before .before .before .before .pre .0, c .before .before .before .before .before .pre .1)
-
-add-i : tie.Need-add-i Inv-loop μ-loop
-add-i c = omega arith
-
-loop-less : tie.Need-loop-less Inv-loop μ-loop
-loop-less c = omega arith
-
 loop-again : tie.Need-loop-again Inv-loop μ-loop
 loop-again c = store-next (c .before .loop-test .taken) (c .before .before .loop .inv) (c .spelled-at .ensures)
 
@@ -46,15 +32,5 @@ pub store-spec : {M : Type 1} → statement M
 store-spec =
     tie.close
     (tie.spec
-    Inv-loop
-    μ-loop
-    loop-holds
-    spelled-at-requires
-    mul-s
-    slice-write-s
-    add-e
-    add-i
-    loop-less
-    loop-again
-    same-length
-    returns)
+    Inv-loop μ-loop loop-holds spelled-at-requires (λ c. search needs) (λ c. omega arith) (λ c. omega arith) (λ c. omega arith)
+    (λ c. omega arith) loop-again same-length returns)
