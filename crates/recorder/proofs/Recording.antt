@@ -1,6 +1,6 @@
 -- What a recorder call answers: the checks ahead of 10, and the slots of each call. Assumes nothing.
 use Prim.Native.Nat.{ℕ, _+_, _-_, _*_, _≤_, _<_}
-use mathlib.Core.Path.{_≡_, refl, sym, ap, _∙_}
+use mathlib.Core.Path.{_≡_, refl, sym, ap, ap₂, _∙_}
 use mathlib.Core.Bool.{Bool, true, false, cond, _&&_}
 use mathlib.Core.List.{List, [], _∷_, _++_, map}
 use native.Mathlib.Omega.{arith}
@@ -29,7 +29,8 @@ use Rattle.sets.proofs.Sets.{Whole, whole, set-passed, set-first, blocks-least,
 
 -- The set has the delivery.
 
-pub has-law : (d : Delivery) (m n : ℕ) (g w y : List ℕ) → m ≤ length g → Even g w y → n ≡ firstMatch d (rows (take m g) (take m w) (take m y)) → ltb n m ≡ among d (take m (rows g w y))
+pub has-law : (d : Delivery) (m n : ℕ) (g w y : List ℕ)
+    → m ≤ length g → Even g w y → n ≡ firstMatch d (rows (take m g) (take m w) (take m y)) → ltb n m ≡ among d (take m (rows g w y))
 has-law d m n g w y h v e =
     let k : length (take m (rows g w y)) ≡ m = length-take-le m (rows g w y) (omega (arith, length-rows g w y (v .weights) (v .yields))) in
     ap (λ (j : ℕ). ltb j m) (e ∙ ap (firstMatch d) (rows-part m 0 g w y))
@@ -38,64 +39,75 @@ has-law d m n g w y h v e =
 
 -- L is the block limit
 module _ (L : ℕ) where
-  -- The checks ahead of 10, answered by 0.
+  -- What holds once the checks ahead of 10 have all passed: 10 is left to the slots that the call raises.
 
-  pub record Admitted (s : Set) (hs : List ℕ) (order : Bool) : Type 0 where
+  pub record Passed (s : Set) (hs : List ℕ) (c : Call) : Type 0 where
     pub whole-set : Whole L s
     pub long : length hs ≡ histogramsSize L
-    pub in-order : T order
+    pub in-order : T (ordered c)
+    pub below : (g b : ℕ) → b ≡ blockOf s g → b < L
+    pub rising : (g h : ℕ) → g ≤ h → blockOf s g ≤ blockOf s h
+    pub answers : (ks : List ℕ) → map (slot L) (raises s c) ≡ ks → raisedAt hs ks ≡ recordCall L s hs c
 
-  module _ (s : Set) (hs : List ℕ) where
-    pub admitted : (p q : Bool) → firstFailed (countedChecks L s hs p q) ≡ 0 → Admitted s hs p
-    admitted p q h =
-        let r = set-first L s _ h in
-        let c7 = yes-first 6 p _ (r .1) in
-        let c8 = yes-first 7 (valuesOk s && q) _ (c7 .1) in
-        let c9 = yes-first 8 (countsOk L hs) _ (c8 .1) in
-        record { whole-set = whole L s (r .0); long = counts-long L hs (is-true _ (c9 .0)); in-order = c7 .0 }
+  -- What the answer n of these checks decides.
 
-    -- then 10 decides
-    then-ten : (p q : Bool) (cs : List Check) → firstFailed (countedChecks L s hs p q) ≡ 0 → firstFailed (countedChecks L s hs p q ++ cs) ≡ firstFailed cs
-    then-ten p q cs h =
-        let r = set-first L s _ h in
-        let c7 = yes-first 6 p _ (r .1) in
-        let c8 = yes-first 7 (valuesOk s && q) _ (c7 .1) in
-        let c9 = yes-first 8 (countsOk L hs) _ (c8 .1) in
-        set-passed L s _ (r .0) ∙ first-passed 7 _ _ (c7 .0) ∙ first-passed 8 _ _ (c8 .0) ∙ first-passed 9 _ _ (c9 .0)
+  pub record Decided (s : Set) (hs : List ℕ) (c : Call) (n : ℕ) : Type 0 where
+    pub refused : (n ≡ 0 → ⊥) → recorded n hs ≡ recordCall L s hs c
+    pub passed : n ≡ 0 → Passed s hs c
 
-    pub block-below : Whole L s → (g : ℕ) → blockOf s g < L
-    block-below w g = omega (arith, spot-of s (blocks-least (w .sized)) g .within, blocks-most (w .sized))
+  module _ (s : Set) (hs : List ℕ) (c : Call) where
+    abbrev ahead : List Check
+    ahead = countedChecks L s hs (ordered c) (offeredOk c)
 
-    pub blocks-rise : Whole L s → (g h : ℕ) → g ≤ h → blockOf s g ≤ blockOf s h
-    blocks-rise w = block-rises s (blocks-least (w .sized))
+    abbrev ten : Check
+    ten = ask 10 (roomToRaise L hs (raises s c))
 
-    -- The answer.
-
-    pub record-refused : (c : Call) (n : ℕ) → n ≡ firstFailed (countedChecks L s hs (ordered c) (offeredOk c)) → (n ≡ 0 → ⊥) → recorded n hs ≡ recordCall L s hs c
+    then-refused : (n : ℕ) → n ≡ firstFailed ahead → (n ≡ 0 → ⊥) → recorded n hs ≡ recordCall L s hs c
     unfolding recordCall recorderRefusal recorderChecks
-    record-refused c n e h =
-        let f : n ≡ firstFailed (countedChecks L s hs (ordered c) (offeredOk c) ++ ask 10 (roomToRaise L hs (raises s c)) ∷ []) = e ∙ failed-first (countedChecks L s hs (ordered c) (offeredOk c)) _ (λ z. h (e ∙ z)) in
+    then-refused n e h =
+        let f : n ≡ firstFailed (ahead ++ ten ∷ []) = e ∙ failed-first ahead _ (λ z. h (e ∙ z)) in
         rw (sym f, ne-eqb n 0 h)
 
-  module _ (s : Set) (hs : List ℕ) (c : Call) (n : ℕ) (ks : List ℕ) (e : n ≡ firstFailed (countedChecks L s hs (ordered c) (offeredOk c))) (z : n ≡ 0) (k : map (slot L) (raises s c) ≡ ks) where
-    ten : (b : Bool) → roomAt hs ks ≡ b → recorderRefusal L s hs c ≡ firstFailed (ask 10 b ∷ [])
+    module _ (ks : List ℕ) (k : map (slot L) (raises s c) ≡ ks) (w : recorderRefusal L s hs c ≡ firstFailed (ten ∷ [])) where
+      by-ten : (b : Bool) → roomAt hs ks ≡ b → recorderRefusal L s hs c ≡ firstFailed (ask 10 b ∷ [])
+      by-ten b f = w ∙ ap (λ (t : Bool). firstFailed (ask 10 t ∷ [])) (sym (room-slots L hs (raises s c)) ∙ ap (roomAt hs) k ∙ f)
+
+      answer : (m : ℕ) → recorderRefusal L s hs c ≡ m → recorded m (cond (eqb m 0) (raiseAll L hs (raises s c)) hs) ≡ recordCall L s hs c
+      unfolding recordCall
+      answer m f = sym (ap (λ (j : ℕ). recorded j (cond (eqb j 0) (raiseAll L hs (raises s c)) hs)) f)
+
+      by-room : (b : Bool) → roomAt hs ks ≡ b → cond b (recorded 0 (raiseSlots hs ks)) (recorded 10 hs) ≡ recordCall L s hs c
+      unfolding firstFailed
+      by-room true f = ap (recorded 0) (ap (raiseSlots hs) (sym k) ∙ raise-slots L hs (raises s c)) ∙ answer 0 (by-ten true f)
+      by-room false f = answer 10 (by-ten false f)
+
+      then-raised : raisedAt hs ks ≡ recordCall L s hs c
+      unfolding raisedAt
+      then-raised = by-room (roomAt hs ks) refl
+
+    then-passed : firstFailed ahead ≡ 0 → Passed s hs c
     unfolding recorderRefusal recorderChecks
-    ten b f =
-        then-ten s hs (ordered c) (offeredOk c) _ (sym e ∙ z)
-        ∙ ap (λ (t : Bool). firstFailed (ask 10 t ∷ [])) (sym (room-slots L hs (raises s c)) ∙ ap (roomAt hs) k ∙ f)
+    then-passed h =
+        let r = set-first L s _ h in
+        let c7 = yes-first 6 (ordered c) _ (r .1) in
+        let c8 = yes-first 7 (valuesOk s && offeredOk c) _ (c7 .1) in
+        let c9 = yes-first 8 (countsOk L hs) _ (c8 .1) in
+        let w = whole L s (r .0) in
+        record {
+          whole-set = w;
+          long = counts-long L hs (is-true _ (c9 .0));
+          in-order = c7 .0;
+          below = λ g b e. omega (arith, e, spot-of s (blocks-least (w .sized)) g .within, blocks-most (w .sized));
+          rising = block-rises s (blocks-least (w .sized));
+          answers =
+              λ ks k.
+              then-raised ks k (set-passed L s _ (r .0) ∙ first-passed 7 _ _ (c7 .0) ∙ first-passed 8 _ _ (c8 .0) ∙ first-passed 9 _ _ (c9 .0));
+        }
 
-    answer : (m : ℕ) → recorderRefusal L s hs c ≡ m → recorded m (cond (eqb m 0) (raiseAll L hs (raises s c)) hs) ≡ recordCall L s hs c
-    unfolding recordCall
-    answer m f = sym (ap (λ (j : ℕ). recorded j (cond (eqb j 0) (raiseAll L hs (raises s c)) hs)) f)
-
-    by-room : (b : Bool) → roomAt hs ks ≡ b → cond b (recorded 0 (raiseSlots hs ks)) (recorded 10 hs) ≡ recordCall L s hs c
-    unfolding firstFailed
-    by-room true f = ap (recorded 0) (ap (raiseSlots hs) (sym k) ∙ raise-slots L hs (raises s c)) ∙ answer 0 (ten true f)
-    by-room false f = answer 10 (ten false f)
-
-    pub record-raised : raisedAt hs ks ≡ recordCall L s hs c
-    unfolding raisedAt
-    record-raised = by-room (roomAt hs ks) refl
+    pub decided : (n : ℕ) (p q : Bool) → ordered c ≡ p → q ≡ offeredOk c → n ≡ firstFailed (countedChecks L s hs p q) → Decided s hs c n
+    decided n p q e f h =
+        let g : n ≡ firstFailed ahead = h ∙ ap₂ (λ (a b : Bool). firstFailed (countedChecks L s hs a b)) (sym e) f in
+        record { refused = then-refused n g; passed = λ z. then-passed (sym g ∙ z) }
 
   -- The slots of each call.
 
@@ -108,26 +120,27 @@ module _ (L : ℕ) where
     unfolding raises slot position
     insert-slots d b e = rw e
 
-    module _ (d : Delivery) (b : ℕ) (e : b ≡ blockOf s (d .grower)) where
-      pub delete-held : among d (held s) ≡ true → map (slot L) (raises s (delete d)) ≡ (4 * L + b) ∷ []
+    -- m: whether the set has the delivery
+    module _ (d : Delivery) (b : ℕ) (e : b ≡ blockOf s (d .grower)) (m : Bool) (v : m ≡ among d (held s)) where
+      pub delete-held : m ≡ true → map (slot L) (raises s (delete d)) ≡ (4 * L + b) ∷ []
       unfolding raises slot position
-      delete-held t = rw (t, e)
+      delete-held t = rw (sym v ∙ t, e)
 
-      pub delete-missing : among d (held s) ≡ false → map (slot L) (raises s (delete d)) ≡ (0 * L + b) ∷ []
+      pub delete-missing : m ≡ false → map (slot L) (raises s (delete d)) ≡ (0 * L + b) ∷ []
       unfolding raises slot position
-      delete-missing t = rw (t, e)
+      delete-missing t = rw (sym v ∙ t, e)
 
-      pub move-missing : (g : ℕ) → among d (held s) ≡ false → map (slot L) (raises s (move d g)) ≡ (0 * L + b) ∷ []
+      pub move-missing : (g : ℕ) → m ≡ false → map (slot L) (raises s (move d g)) ≡ (0 * L + b) ∷ []
       unfolding raises slot position
-      move-missing g t = rw (t, e)
+      move-missing g t = rw (sym v ∙ t, e)
 
-      pub move-forward : (g a : ℕ) → a ≡ blockOf s g → among d (held s) ≡ true → d .grower ≤ g → map (slot L) (raises s (move d g)) ≡ (6 * L + b) ∷ (7 * L + a) ∷ []
+      pub move-forward : (g a : ℕ) → a ≡ blockOf s g → m ≡ true → d .grower ≤ g → map (slot L) (raises s (move d g)) ≡ (6 * L + b) ∷ (7 * L + a) ∷ []
       unfolding raises moveRaises slot position
-      move-forward g a f t h = rw (t, le-leb (d .grower) g h, e, f)
+      move-forward g a f t h = rw (sym v ∙ t, le-leb (d .grower) g h, e, f)
 
-      pub move-backward : (g a : ℕ) → a ≡ blockOf s g → among d (held s) ≡ true → g < d .grower → map (slot L) (raises s (move d g)) ≡ (8 * L + b) ∷ (9 * L + a) ∷ []
+      pub move-backward : (g a : ℕ) → a ≡ blockOf s g → m ≡ true → g < d .grower → map (slot L) (raises s (move d g)) ≡ (8 * L + b) ∷ (9 * L + a) ∷ []
       unfolding raises moveRaises slot position
-      move-backward g a f t h = rw (t, lt-leb (d .grower) g h, e, f)
+      move-backward g a f t h = rw (sym v ∙ t, lt-leb (d .grower) g h, e, f)
 
   module _ (s : Set) (lo hi a b : ℕ) (e : a ≡ blockOf s lo) (f : b ≡ blockOf s hi) where
     pub range-one : a ≡ b → map (slot L) (raises s (range lo hi)) ≡ (0 * L + a) ∷ []

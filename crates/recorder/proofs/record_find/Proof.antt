@@ -1,58 +1,20 @@
--- `recorder::record_find` meets its contract: the checks answer ahead of 10, and then the raised slots do. Assumes nothing.
-use Prim.Native.Nat.{ℕ, _<_}
-use mathlib.Core.Path.{_≡_, sym, _∙_}
-use mathlib.Core.List.{List, map}
+-- `recorder::record_find` meets its contract. `counted_refusal` puts the checks ahead of 10; past them the grower's block is below the limit, and raising its slot of pq puts 10. Assumes nothing.
+use mathlib.Core.Path.{refl, _∙_}
 use native.Mathlib.Omega.{arith}
 use borrow.Author.Needs.{needs}
 use Rattle.model.specs.Bounds.{blockLimit}
-use Rattle.model.specs.Checks.{Check, firstFailed}
-use Rattle.model.specs.Blocks.{Set}
-use Rattle.model.specs.Calls.{Call, find, ordered, offeredOk}
-use Rattle.model.specs.Histograms.{slot, raises}
+use Rattle.model.specs.Calls.{find, ordered, offeredOk}
 use Rattle.model.specs.Lent.{setOf}
-use Rattle.model.specs.Recorder.{recordCall}
-use Rattle.sets.specs.Sized.{countedChecks}
-use Rattle.histograms.specs.Raising.{raisedAt}
-use Rattle.recorder.proofs.Recording.{Admitted, admitted, block-below, record-refused, record-raised, find-slots}
+use Rattle.recorder.proofs.Recording.{Decided, decided, find-slots}
 use Rattle.recorder.proofs.record_find.Statement.{statement}
 use Rattle.recorder.proofs.record_find.Tie as tie
 
-abbrev the-set : tie.Start → Set
-the-set c = let a = c .args in setOf (a .block) (a .used) (a .growers .now) (a .weights .now) (a .yields .now)
-
-abbrev counts : tie.Start → List ℕ
-counts c = c .args .histograms .now
-
-abbrev the-call : tie.Start → Call
-the-call c = find (c .args .grower)
-
-abbrev the-checks : tie.Start → List Check
-the-checks c = countedChecks blockLimit (the-set c) (counts c) (ordered (the-call c)) (offeredOk (the-call c))
-
-abbrev start : tie.After-counted-refusal → tie.Start
-start c = c .before .before .before .before .before .before
-
--- the checks ahead of 10
-checked : (c : tie.After-counted-refusal) → c .counted-refusal .result ≡ firstFailed (the-checks (start c))
+-- what the checks ahead of 10 decide
+decision : (c : tie.After-counted-refusal)
+    → (let a = c .before .before .before .before .before .before .args in
+    Decided blockLimit (setOf (a .block) (a .used) (a .growers .now) (a .weights .now) (a .yields .now)) (a .histograms .now) (find (a .grower)) (c .counted-refusal .result))
 unfolding ordered offeredOk
-checked c = c .counted-refusal .ensures
-
--- past them, what they say, and that the call answers as its raised slots do
-passed : (c : tie.Else1) → (let s = start (c .before) in Admitted blockLimit (the-set s) (counts s) (ordered (the-call s)))
-passed c = admitted blockLimit _ _ _ _ (sym (checked (c .before)) ∙ c .if1 .left)
-
-answers : (c : tie.Else1) (ks : List ℕ)
-    → (let s = start (c .before) in
-    map (slot blockLimit) (raises (the-set s) (the-call s)) ≡ ks → raisedAt (counts s) ks ≡ recordCall blockLimit (the-set s) (counts s) (the-call s))
-answers c ks e =
-    let s = start (c .before) in
-    record-raised blockLimit (the-set s) (counts s) (the-call s) _ ks (checked (c .before)) (c .if1 .left) e
-
-in-limit : (c : tie.After-block-of) → c .block-of .result < blockLimit
-in-limit c =
-    let s = start (c .before .before) in
-    let b = c .block-of .ensures (s .args .weights .now) (s .args .yields .now) in
-    omega (arith, b, block-below blockLimit _ (counts s) (passed (c .before) .whole-set) (s .args .grower))
+decision c = decided blockLimit _ _ _ _ _ _ refl refl (c .counted-refusal .ensures)
 
 counted-refusal-requires : tie.Need-counted-refusal-requires
 counted-refusal-requires c κs = search needs
@@ -61,24 +23,25 @@ same-length : tie.Need-same-length
 same-length c = search needs
 
 returns : tie.Need-returns
-returns c =
-    let b₁ = c .before .before .before .before .before .before .before in
-    let s = b₁ in record-refused blockLimit (the-set s) (counts s) (the-call s) _ (checked (c .before)) (c .if1 .taken)
+returns c = decision (c .before) .refused (c .if1 .taken)
 
 block-of-requires : tie.Need-block-of-requires
-block-of-requires c κs = passed c .whole-set .sized
+block-of-requires c κs = decision (c .before) .passed (c .if1 .left) .whole-set .sized
 
 raise-one-requires : tie.Need-raise-one-requires
-raise-one-requires c κs = (omega arith, in-limit (c .before), passed (c .before .before) .long)
+raise-one-requires c κs =
+    let e = c .before .before in
+    let p = decision (e .before) .passed (e .if1 .left) in
+    (omega arith, p .below _ _ (c .before .block-of .ensures _ _), p .long)
 
 same-length-2 : tie.Need-same-length-2
 same-length-2 c = search needs
 
 returns-2 : tie.Need-returns-2
 returns-2 c =
-    let b₁ = c .before .before .before .before in
-    let b₂ = b₁ .before in
-    c .before .before .raise-one .ensures ∙ answers b₂ _ (find-slots blockLimit _ _ _ (b₁ .block-of .ensures _ _))
+    let b = c .before .before .before .before in
+    let e = b .before in
+    c .before .before .raise-one .ensures ∙ decision (e .before) .passed (e .if1 .left) .answers _ (find-slots blockLimit _ _ _ (b .block-of .ensures _ _))
 
 pub record-find-spec : {M : Type 1} → statement M
 record-find-spec =

@@ -1,62 +1,36 @@
--- `recorder::record_move` meets its contract: the checks answer ahead of 10, and then the raised slots do. Assumes nothing.
-use Prim.Native.Nat.{ℕ, _<_}
-use mathlib.Core.Bool.{Bool, true}
-use mathlib.Core.List.{List, map}
-use mathlib.Core.Path.{_≡_, sym, ap, _∙_}
+-- `recorder::record_move` meets its contract. `counted_refusal` puts the checks ahead of 10; past them both growers' blocks are below the limit, and raising two slots puts 10: those of
+-- udf and utf or of udb and utb, as the growers compare; that of pq at the old block where the set has no such delivery. Assumes nothing.
+use mathlib.Core.Path.{_≡_, refl, _∙_}
 use native.Mathlib.Omega.{arith}
+use Prim.Native.Nat.{_<_}
+use lib.ListN.{length}
+use Rattle.model.specs.Histograms.{histogramsSize}
 use borrow.Author.Tests.{not-true, not-false}
 use borrow.Author.Needs.{needs}
 use Rattle.model.specs.Bounds.{blockLimit}
-use Rattle.model.specs.Checks.{Check, firstFailed}
-use Rattle.model.specs.Blocks.{Set}
-use Rattle.model.specs.Calls.{Call, move, ordered, offeredOk}
-use Rattle.model.specs.Histograms.{slot, raises}
+use Rattle.model.specs.Calls.{move, ordered, offeredOk}
 use Rattle.model.specs.Lent.{setOf}
-use Rattle.model.specs.Recorder.{recordCall}
-use Rattle.sets.specs.Sized.{countedChecks}
-use Rattle.histograms.specs.Raising.{raisedAt}
-use Rattle.recorder.proofs.Recording.{Admitted, admitted, block-below, record-refused, record-raised, move-missing, move-forward, move-backward}
+use Rattle.recorder.proofs.Recording.{Decided, decided, move-missing, move-forward, move-backward}
 use Rattle.recorder.proofs.record_move.Statement.{statement}
 use Rattle.recorder.proofs.record_move.Tie as tie
 
-abbrev the-set : tie.Start → Set
-the-set c = let a = c .args in setOf (a .block) (a .used) (a .growers .now) (a .weights .now) (a .yields .now)
-
-abbrev counts : tie.Start → List ℕ
-counts c = c .args .histograms .now
-
-abbrev the-call : tie.Start → Call
-the-call c = move (c .args .d) (c .args .new-grower)
-
-abbrev the-checks : tie.Start → List Check
-the-checks c = countedChecks blockLimit (the-set c) (counts c) (ordered (the-call c)) (offeredOk (the-call c))
-
-abbrev start : tie.After-counted-refusal → tie.Start
-start c = c .before .before .before .before .before .before .before
-
--- the checks ahead of 10
-checked : (c : tie.After-counted-refusal) → c .counted-refusal .result ≡ firstFailed (the-checks (start c))
+-- what the checks ahead of 10 decide
+decision : (c : tie.After-counted-refusal)
+    → (let a = c .before .before .before .before .before .before .before .args in
+    Decided blockLimit (setOf (a .block) (a .used) (a .growers .now) (a .weights .now) (a .yields .now)) (a .histograms .now) (move (a .d) (a .new-grower)) (c .counted-refusal .result))
 unfolding ordered offeredOk
-checked c =
-    c .counted-refusal .ensures
-    ∙ ap (λ (t : Bool). firstFailed (countedChecks blockLimit (the-set (start c)) (counts (start c)) true t)) (c .before .before .in-range .ensures)
+decision c = decided blockLimit _ _ _ _ _ _ refl (c .before .before .in-range .ensures) (c .counted-refusal .ensures)
 
--- past them, what they say, and that the call answers as its raised slots do
-passed : (c : tie.Else1) → (let s = start (c .before) in Admitted blockLimit (the-set s) (counts s) (ordered (the-call s)))
-passed c = admitted blockLimit _ _ _ _ (sym (checked (c .before)) ∙ c .if1 .left)
-
-answers : (c : tie.Else1) (ks : List ℕ)
-    → (let s = start (c .before) in
-    map (slot blockLimit) (raises (the-set s) (the-call s)) ≡ ks → raisedAt (counts s) ks ≡ recordCall blockLimit (the-set s) (counts s) (the-call s))
-answers c ks e =
-    let s = start (c .before) in
-    record-raised blockLimit (the-set s) (counts s) (the-call s) _ ks (checked (c .before)) (c .if1 .left) e
-
-in-limit : (c : tie.After-block-of) → c .block-of .result < blockLimit
-in-limit c =
-    let s = start (c .before .before) in
-    let b = c .block-of .ensures (s .args .weights .now) (s .args .yields .now) in
-    omega (arith, b, block-below blockLimit _ (counts s) (passed (c .before) .whole-set) (s .args .d .grower))
+-- past them, the two blocks are below the limit, and the histograms are as long as they should be
+blocks : (c : tie.After-block-of2)
+    → (let b = c .before .before .before in
+    (b .block-of .result < blockLimit) × (c .block-of2 .result < blockLimit)
+    × (length (b .before .before .before .before .before .before .before .before .before .args .histograms .now) ≡ histogramsSize blockLimit))
+blocks c =
+    let b = c .before .before .before in
+    let e = b .before in
+    let p = decision (e .before) .passed (e .if1 .left) in
+    (p .below _ _ (b .block-of .ensures _ _), p .below _ _ (c .block-of2 .ensures _ _), p .long)
 
 in-range-requires : tie.Need-in-range-requires
 in-range-requires c κs = search needs
@@ -68,82 +42,72 @@ same-length : tie.Need-same-length
 same-length c = search needs
 
 returns : tie.Need-returns
-returns c =
-    let b₁ = c .before .before .before .before .before .before .before .before in
-    let s = b₁ in record-refused blockLimit (the-set s) (counts s) (the-call s) _ (checked (c .before)) (c .if1 .taken)
+returns c = decision (c .before) .refused (c .if1 .taken)
 
 block-of-requires : tie.Need-block-of-requires
-block-of-requires c κs = passed c .whole-set .sized
+block-of-requires c κs = decision (c .before) .passed (c .if1 .left) .whole-set .sized
 
 has-delivery-requires : tie.Need-has-delivery-requires
-has-delivery-requires c κs = let w = passed (c .before) .whole-set in (w .sized .used-fits, w .even)
+has-delivery-requires c κs =
+    let e = c .before in
+    let w = decision (e .before) .passed (e .if1 .left) .whole-set in
+    (w .sized .used-fits, w .even)
 
 raise-one-requires : tie.Need-raise-one-requires
-raise-one-requires c κs = (omega arith, in-limit (c .before .before .before), passed (c .before .before .before .before) .long)
+raise-one-requires c κs =
+    let b = c .before .before .before in
+    let e = b .before in
+    let p = decision (e .before) .passed (e .if1 .left) in
+    (omega arith, p .below _ _ (b .block-of .ensures _ _), p .long)
 
 same-length-2 : tie.Need-same-length-2
 same-length-2 c = search needs
 
 returns-2 : tie.Need-returns-2
 returns-2 c =
-    let b₁ = c .before .before .before .before in
-    let b₂ = b₁ .before in
-    let b₃ = b₂ .before in
-    let b₄ = b₃ .before in
-    c .before .before .raise-one .ensures ∙ answers b₄ _ (move-missing blockLimit _ _ _ (b₃ .block-of .ensures _ _) _ (sym (b₂ .has-delivery .ensures) ∙ not-true _ (b₁ .if2 .taken)))
+    let t = c .before .before .before .before in
+    let h = t .before in
+    let b = h .before in
+    let e = b .before in
+    let k = move-missing blockLimit _ _ _ (b .block-of .ensures _ _) _ (h .has-delivery .ensures) _ (not-true _ (t .if2 .taken)) in
+    c .before .before .raise-one .ensures ∙ decision (e .before) .passed (e .if1 .left) .answers _ k
 
 block-of-requires-2 : tie.Need-block-of-requires-2
-block-of-requires-2 c κs = passed (c .before .before .before) .whole-set .sized
+block-of-requires-2 c κs = let e = c .before .before .before in decision (e .before) .passed (e .if1 .left) .whole-set .sized
 
 raise-two-requires : tie.Need-raise-two-requires
-raise-two-requires c κs =
-    let b₁ = c .before .before .before in
-    let b₂ = b₁ .before .before .before in
-    let b₃ = b₂ .before in
-    let b₄ = b₃ .before .before .before .before .before .before .before .before in
-    let o = passed b₃ in
-    let a = b₄ .args in
-    let p = block-below blockLimit _ (counts b₄) (o .whole-set) (a .d .grower) in
-    let q = block-below blockLimit _ (counts b₄) (o .whole-set) (a .new-grower) in
-    (omega arith, omega arith, omega (arith, p, b₂ .block-of .ensures (a .weights .now) (a .yields .now)), omega (arith, q, b₁ .block-of2 .ensures (a .weights .now) (a .yields .now)), o .long)
+raise-two-requires c κs = let b = blocks (c .before .before .before) in (omega arith, omega arith, b .0, b .1, b .2)
 
 same-length-3 : tie.Need-same-length-3
 same-length-3 c = search needs
 
 returns-3 : tie.Need-returns-3
 returns-3 c =
-    let b₁ = c .before .before .before .before in
-    let b₂ = b₁ .before .before in
-    let b₃ = b₂ .before in
-    let b₄ = b₃ .before in
-    let b₅ = b₄ .before in
-    let b₆ = b₅ .before in
-    c .before .before .raise-two .ensures ∙ answers b₆ _ (move-forward blockLimit _ _ _ (b₅ .block-of .ensures _ _) _ _ (b₂ .block-of2 .ensures _ _) (sym (b₄ .has-delivery .ensures) ∙ not-false _ (b₃ .if2 .left)) (b₁ .if3 .taken))
+    let t = c .before .before .before .before in
+    let o = t .before .before in
+    let h = o .before .before in
+    let b = h .before in
+    let e = b .before in
+    let k = move-forward blockLimit _ _ _ (b .block-of .ensures _ _) _ (h .has-delivery .ensures) _ _ (o .block-of2 .ensures _ _)
+    (not-false _ (o .before .if2 .left)) (t .if3 .taken) in
+    c .before .before .raise-two .ensures ∙ decision (e .before) .passed (e .if1 .left) .answers _ k
 
 raise-two-requires-2 : tie.Need-raise-two-requires-2
-raise-two-requires-2 c κs =
-    let b₁ = c .before .before .before in
-    let b₂ = b₁ .before .before .before in
-    let b₃ = b₂ .before in
-    let b₄ = b₃ .before .before .before .before .before .before .before .before in
-    let o = passed b₃ in
-    let a = b₄ .args in
-    let p = block-below blockLimit _ (counts b₄) (o .whole-set) (a .d .grower) in
-    let q = block-below blockLimit _ (counts b₄) (o .whole-set) (a .new-grower) in
-    (omega arith, omega arith, omega (arith, p, b₂ .block-of .ensures (a .weights .now) (a .yields .now)), omega (arith, q, b₁ .block-of2 .ensures (a .weights .now) (a .yields .now)), o .long)
+raise-two-requires-2 c κs = let b = blocks (c .before .before .before) in (omega arith, omega arith, b .0, b .1, b .2)
 
 same-length-4 : tie.Need-same-length-4
 same-length-4 c = search needs
 
 returns-4 : tie.Need-returns-4
 returns-4 c =
-    let b₁ = c .before .before .before .before in
-    let b₂ = b₁ .before .before in
-    let b₃ = b₂ .before in
-    let b₄ = b₃ .before in
-    let b₅ = b₄ .before in
-    let b₆ = b₅ .before in
-    c .before .before .raise-two2 .ensures ∙ answers b₆ _ (move-backward blockLimit _ _ _ (b₅ .block-of .ensures _ _) _ _ (b₂ .block-of2 .ensures _ _) (sym (b₄ .has-delivery .ensures) ∙ not-false _ (b₃ .if2 .left)) (b₁ .if3 .left))
+    let t = c .before .before .before .before in
+    let o = t .before .before in
+    let h = o .before .before in
+    let b = h .before in
+    let e = b .before in
+    let k = move-backward blockLimit _ _ _ (b .block-of .ensures _ _) _ (h .has-delivery .ensures) _ _ (o .block-of2 .ensures _ _)
+    (not-false _ (o .before .if2 .left)) (t .if3 .left) in
+    c .before .before .raise-two2 .ensures ∙ decision (e .before) .passed (e .if1 .left) .answers _ k
 
 pub record-move-spec : {M : Type 1} → statement M
 record-move-spec =
