@@ -1,4 +1,4 @@
--- `ripple::backward_ripple` meets its contract. Assumes nothing.
+-- `ripple::backward_ripple` meets its contract: what `insert_ripple` leaves, of the slices that `carry` left. Assumes nothing.
 use borrow.Author.Needs.{needs}
 use Rattle.ripple.proofs.backward_ripple.Statement.{statement}
 use Rattle.ripple.proofs.backward_ripple.Tie as tie

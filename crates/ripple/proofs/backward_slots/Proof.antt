@@ -1,4 +1,5 @@
--- `ripple::backward_slots` meets its contract. Assumes nothing.
+-- `ripple::backward_slots` meets its contract. The three parts from the new partition's start on are lent to `backward_ripple` with the lengths up to the old
+-- partition; `ahead` says that these end where the old one begins, and `back-law` of each slice that what comes back is the move. Assumes nothing.
 use Prim.Native.Nat.{ℕ, _≤_}
 use native.Mathlib.Omega.{arith}
 use borrow.Author.Needs.{needs}
@@ -8,45 +9,38 @@ use Rattle.ripple.proofs.Compose.{ahead, back-law}
 use Rattle.ripple.proofs.backward_slots.Statement.{statement}
 use Rattle.ripple.proofs.backward_slots.Tie as tie
 
-inside : (s : tie.Start) → (s .args .to-start ≤ length (s .args .g .now)) × (s .args .to-start ≤ length (s .args .w .now))
-    × (s .args .to-start ≤ length (s .args .y .now)) × (s .args .to-start ≤ s .args .from-start)
-inside s = omega (arith, start-le (s .args .lens .now) (s .args .from), start-mono (s .args .lens .now) (s .args .to) (s .args .from) (omega arith))
+-- each part begins in its slice; a part's start is asked for twice, by its length too
+inside : (c : tie.After-shared-slice-known)
+    → (let a = c .before .before .before .before .args in
+    (a .to-start ≤ length (a .g .now)) × (a .to-start ≤ length (a .w .now)) × (a .to-start ≤ length (a .y .now)) × (a .to-start ≤ a .from-start))
+inside c = let a = c .before .before .before .before .args in omega (arith, start-le (a .lens .now) (a .from), start-mono (a .lens .now) (a .to) (a .from) (omega arith))
 
 sub-n : tie.Need-sub-n
-sub-n c = inside (c .before .before .before .before) .3
+sub-n c = inside c .3
 
 mul-backward-ripple : tie.Need-mul-backward-ripple
-mul-backward-ripple c = omega (arith, inside (c .before .before .before .before))
+mul-backward-ripple c = omega (arith, inside c)
 
-sub-backward-ripple : tie.Need-sub-backward-ripple
-sub-backward-ripple c = inside (c .before .before .before .before) .0
-
-part-backward-ripple-start : tie.Need-part-backward-ripple-start
-part-backward-ripple-start c = inside (c .before .before .before .before) .0
+in-growers : tie.Need-sub-backward-ripple
+in-growers c = inside c .0
 
 part-backward-ripple-end : tie.Need-part-backward-ripple-end
 part-backward-ripple-end c = search needs
 
 mul-backward-ripple-2 : tie.Need-mul-backward-ripple-2
-mul-backward-ripple-2 c = omega (arith, inside (c .before .before .before .before .before))
+mul-backward-ripple-2 c = omega (arith, inside (c .before))
 
-sub-backward-ripple-2 : tie.Need-sub-backward-ripple-2
-sub-backward-ripple-2 c = inside (c .before .before .before .before .before) .1
-
-part-backward-ripple-start-2 : tie.Need-part-backward-ripple-start-2
-part-backward-ripple-start-2 c = inside (c .before .before .before .before .before) .1
+in-weights : tie.Need-sub-backward-ripple-2
+in-weights c = inside (c .before) .1
 
 part-backward-ripple-end-2 : tie.Need-part-backward-ripple-end-2
 part-backward-ripple-end-2 c = search needs
 
 mul-backward-ripple-3 : tie.Need-mul-backward-ripple-3
-mul-backward-ripple-3 c = omega (arith, inside (c .before .before .before .before .before .before))
+mul-backward-ripple-3 c = omega (arith, inside (c .before .before))
 
-sub-backward-ripple-3 : tie.Need-sub-backward-ripple-3
-sub-backward-ripple-3 c = inside (c .before .before .before .before .before .before) .2
-
-part-backward-ripple-start-3 : tie.Need-part-backward-ripple-start-3
-part-backward-ripple-start-3 c = inside (c .before .before .before .before .before .before) .2
+in-yields : tie.Need-sub-backward-ripple-3
+in-yields c = inside (c .before .before) .2
 
 part-backward-ripple-end-3 : tie.Need-part-backward-ripple-end-3
 part-backward-ripple-end-3 c = search needs
@@ -54,11 +48,8 @@ part-backward-ripple-end-3 c = search needs
 mul-backward-ripple-4 : tie.Need-mul-backward-ripple-4
 mul-backward-ripple-4 c = search needs
 
-sub-backward-ripple-4 : tie.Need-sub-backward-ripple-4
-sub-backward-ripple-4 c = search needs
-
-part-backward-ripple-start-4 : tie.Need-part-backward-ripple-start-4
-part-backward-ripple-start-4 c = search needs
+in-lengths : tie.Need-sub-backward-ripple-4
+in-lengths c = search needs
 
 part-backward-ripple-end-4 : tie.Need-part-backward-ripple-end-4
 part-backward-ripple-end-4 c = search needs
@@ -104,20 +95,20 @@ backward-slots-spec =
     (tie.spec
     sub-n
     mul-backward-ripple
-    sub-backward-ripple
-    part-backward-ripple-start
+    in-growers
+    in-growers
     part-backward-ripple-end
     mul-backward-ripple-2
-    sub-backward-ripple-2
-    part-backward-ripple-start-2
+    in-weights
+    in-weights
     part-backward-ripple-end-2
     mul-backward-ripple-3
-    sub-backward-ripple-3
-    part-backward-ripple-start-3
+    in-yields
+    in-yields
     part-backward-ripple-end-3
     mul-backward-ripple-4
-    sub-backward-ripple-4
-    part-backward-ripple-start-4
+    in-lengths
+    in-lengths
     part-backward-ripple-end-4
     backward-ripple-requires
     same-length

@@ -1,4 +1,5 @@
--- `ripple::delete_ripple` meets its contract. Assumes nothing.
+-- `ripple::delete_ripple` meets its contract. The loop's invariant: `p` is the last slot of the first `j` partitions, and what is left to do from there
+-- (`Lowered`) gives each slice what it would have given where the loop began; a turn does one partition of it. Assumes nothing.
 use Prim.Native.Nat.{_+_, _-_, _≤_}
 use mathlib.Core.Path.{_∙_}
 use native.Mathlib.Omega.{arith}

@@ -1,4 +1,5 @@
--- `ripple::delete_slots` meets its contract. Assumes nothing.
+-- `ripple::delete_slots` meets its contract. The three parts from the partition's start on are lent to `delete_ripple`, which takes the slot out of their
+-- first partition; `pull-law` says of each slice that a delete from a partition on, with the part put back, is the delete. Assumes nothing.
 use Prim.Native.Nat.{ℕ, _≤_}
 use native.Mathlib.Omega.{arith}
 use borrow.Author.Needs.{needs}
@@ -8,41 +9,35 @@ use Rattle.ripple.proofs.Compose.{tail-part, first-left, pull-law}
 use Rattle.ripple.proofs.delete_slots.Statement.{statement}
 use Rattle.ripple.proofs.delete_slots.Tie as tie
 
-inside : (s : tie.Start) → (s .args .start ≤ length (s .args .g .now)) × (s .args .start ≤ length (s .args .w .now)) × (s .args .start ≤ length (s .args .y .now))
-inside s = omega (arith, start-le (s .args .lens .now) (s .args .partition))
+-- each part begins in its slice; a part's start is asked for twice, by its length too
+inside : (c : tie.After-shared-slice-known)
+    → (let a = c .before .before .before .before .args in
+    (a .start ≤ length (a .g .now)) × (a .start ≤ length (a .w .now)) × (a .start ≤ length (a .y .now)))
+inside c = let a = c .before .before .before .before .args in omega (arith, start-le (a .lens .now) (a .partition))
 
 mul-delete-ripple : tie.Need-mul-delete-ripple
-mul-delete-ripple c = omega (arith, inside (c .before .before .before .before))
+mul-delete-ripple c = omega (arith, inside c)
 
-sub-delete-ripple : tie.Need-sub-delete-ripple
-sub-delete-ripple c = inside (c .before .before .before .before) .0
-
-part-delete-ripple-start : tie.Need-part-delete-ripple-start
-part-delete-ripple-start c = inside (c .before .before .before .before) .0
+in-growers : tie.Need-sub-delete-ripple
+in-growers c = inside c .0
 
 part-delete-ripple-end : tie.Need-part-delete-ripple-end
 part-delete-ripple-end c = search needs
 
 mul-delete-ripple-2 : tie.Need-mul-delete-ripple-2
-mul-delete-ripple-2 c = omega (arith, inside (c .before .before .before .before .before))
+mul-delete-ripple-2 c = omega (arith, inside (c .before))
 
-sub-delete-ripple-2 : tie.Need-sub-delete-ripple-2
-sub-delete-ripple-2 c = inside (c .before .before .before .before .before) .1
-
-part-delete-ripple-start-2 : tie.Need-part-delete-ripple-start-2
-part-delete-ripple-start-2 c = inside (c .before .before .before .before .before) .1
+in-weights : tie.Need-sub-delete-ripple-2
+in-weights c = inside (c .before) .1
 
 part-delete-ripple-end-2 : tie.Need-part-delete-ripple-end-2
 part-delete-ripple-end-2 c = search needs
 
 mul-delete-ripple-3 : tie.Need-mul-delete-ripple-3
-mul-delete-ripple-3 c = omega (arith, inside (c .before .before .before .before .before .before))
+mul-delete-ripple-3 c = omega (arith, inside (c .before .before))
 
-sub-delete-ripple-3 : tie.Need-sub-delete-ripple-3
-sub-delete-ripple-3 c = inside (c .before .before .before .before .before .before) .2
-
-part-delete-ripple-start-3 : tie.Need-part-delete-ripple-start-3
-part-delete-ripple-start-3 c = inside (c .before .before .before .before .before .before) .2
+in-yields : tie.Need-sub-delete-ripple-3
+in-yields c = inside (c .before .before) .2
 
 part-delete-ripple-end-3 : tie.Need-part-delete-ripple-end-3
 part-delete-ripple-end-3 c = search needs
@@ -50,11 +45,8 @@ part-delete-ripple-end-3 c = search needs
 mul-delete-ripple-4 : tie.Need-mul-delete-ripple-4
 mul-delete-ripple-4 c = search needs
 
-sub-delete-ripple-4 : tie.Need-sub-delete-ripple-4
-sub-delete-ripple-4 c = search needs
-
-part-delete-ripple-start-4 : tie.Need-part-delete-ripple-start-4
-part-delete-ripple-start-4 c = search needs
+in-lengths : tie.Need-sub-delete-ripple-4
+in-lengths c = search needs
 
 part-delete-ripple-end-4 : tie.Need-part-delete-ripple-end-4
 part-delete-ripple-end-4 c = search needs
@@ -93,20 +85,20 @@ delete-slots-spec =
     tie.close
     (tie.spec
     mul-delete-ripple
-    sub-delete-ripple
-    part-delete-ripple-start
+    in-growers
+    in-growers
     part-delete-ripple-end
     mul-delete-ripple-2
-    sub-delete-ripple-2
-    part-delete-ripple-start-2
+    in-weights
+    in-weights
     part-delete-ripple-end-2
     mul-delete-ripple-3
-    sub-delete-ripple-3
-    part-delete-ripple-start-3
+    in-yields
+    in-yields
     part-delete-ripple-end-3
     mul-delete-ripple-4
-    sub-delete-ripple-4
-    part-delete-ripple-start-4
+    in-lengths
+    in-lengths
     part-delete-ripple-end-4
     delete-ripple-requires
     same-length

@@ -1,24 +1,33 @@
--- `ripple::forward_slots` meets its contract. Assumes nothing.
-use Prim.Native.Nat.{ℕ, _+_, _<_}
+-- `ripple::forward_slots` meets its contract. Both ways are a delete in the column whose last partition is cut off at `u`, with the delivery in the freed slot:
+-- `forward-law` for a later partition, `within-law` for the same one; `ready` says that the slot is in that column. Assumes nothing.
+use Prim.Native.Nat.{ℕ, _+_, _≤_, _<_}
 use mathlib.Core.Path.{_≡_, sym, _∙_}
 use native.Mathlib.Omega.{arith}
 use borrow.Author.Needs.{needs}
-use lib.ListN.{length}
+use lib.ListN.{length, getD, take}
 use lib.Seq.{length-take-le}
+use Rattle.model.specs.Lent.{Even}
+use Rattle.model.specs.Lists.{sumOf}
+use Rattle.model.specs.Partitions.{startOf}
 use Rattle.ripple.proofs.Compose.{ready, forward-law, within-law}
 use Rattle.ripple.proofs.forward_slots.Statement.{statement}
 use Rattle.ripple.proofs.forward_slots.Tie as tie
 
+-- the slot is in the column that ends before u
+shortened : (s : tie.Start) (u : ℕ)
+    → (let a = s .args in
+    a .from < u → u ≤ length (a .lens .now)
+    → (a .from < length (take u (a .lens .now))) × (a .from-start ≡ startOf (take u (a .lens .now)) (a .from)) × (a .slot < getD (take u (a .lens .now)) (a .from) 0)
+    × (sumOf (take u (a .lens .now)) ≤ length (a .g .now)) × Even (a .g .now) (a .w .now) (a .y .now))
+shortened s u h k =
+    let p = s .pre in
+    let r = ready (s .args .lens .now) (s .args .from) _ (s .args .slot) u _ h k (p .2) (p .3) (p .4) in (r .0, r .1, r .2, r .3, p .5)
+
 slice-aggregate-delete-slots : tie.Need-slice-aggregate-delete-slots
-slice-aggregate-delete-slots c = let a = c .before .before .before .before .before .before .before .before .before .args in sym (length-take-le (a .to) (a .lens .now) (omega arith))
+slice-aggregate-delete-slots c = sym (length-take-le _ _ (omega arith))
 
 delete-slots-requires : tie.Need-delete-slots-requires
-delete-slots-requires c κs =
-    let s = c .before .before .before .before .before .before .before .before .before in
-    let a = s .args in
-    let p = s .pre in
-    let r = ready (a .lens .now) (a .from) (a .from-start) (a .slot) (a .to) (length (a .g .now)) (omega arith) (omega arith) (p .2) (p .3) (p .4) in
-    (r .0, r .1, r .2, r .3, p .5)
+delete-slots-requires c κs = let s = c .before .before .before .before .before .before .before .before .before in shortened s (s .args .to) (omega arith) (omega arith)
 
 same-length : tie.Need-same-length
 same-length c = search needs
@@ -47,15 +56,10 @@ add-v : tie.Need-add-v
 add-v c = search needs
 
 slice-aggregate-delete-slots-2 : tie.Need-slice-aggregate-delete-slots-2
-slice-aggregate-delete-slots-2 c = let a = c .before .before .before .before .before .before .before .before .before .args in sym (length-take-le (a .from + 1) (a .lens .now) (omega arith))
+slice-aggregate-delete-slots-2 c = sym (length-take-le _ _ (omega arith))
 
 delete-slots-requires-2 : tie.Need-delete-slots-requires-2
-delete-slots-requires-2 c κs =
-    let s = c .before .before .before .before .before .before .before .before .before in
-    let a = s .args in
-    let p = s .pre in
-    let r = ready (a .lens .now) (a .from) (a .from-start) (a .slot) (a .from + 1) (length (a .g .now)) (omega arith) (omega arith) (p .2) (p .3) (p .4) in
-    (r .0, r .1, r .2, r .3, p .5)
+delete-slots-requires-2 c κs = let s = c .before .before .before .before .before .before .before .before .before in shortened s (s .args .from + 1) (omega arith) (omega arith)
 
 same-length-4 : tie.Need-same-length-4
 same-length-4 c = search needs

@@ -1,5 +1,6 @@
--- `ripple::insert_ripple` meets its contract: from the last partition down, each gives its first record to the slot behind it. Assumes nothing.
-use Prim.Native.Nat.{_≤_, _<_, _-_}
+-- `ripple::insert_ripple` meets its contract. The loop's invariant: the first `j` partitions end at `p` and are as they were, and those from `j` on have moved
+-- up by one (`Lifted`); a turn gives the first record of the one before `j` to the slot behind it. Assumes nothing.
+use Prim.Native.Nat.{_≤_, _<_}
 use mathlib.Core.Path.{_∙_}
 use native.Mathlib.Omega.{arith}
 use lib.ListN.{length}

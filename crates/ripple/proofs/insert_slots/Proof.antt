@@ -1,4 +1,5 @@
--- `ripple::insert_slots` meets its contract. Assumes nothing.
+-- `ripple::insert_slots` meets its contract. The three parts from the target's start on are lent to `insert_ripple`, which puts the delivery into their
+-- first partition; `put-law` says of each slice that an insert from a partition on, with the part put back, is the insert. Assumes nothing.
 use Prim.Native.Nat.{ℕ, _≤_}
 use native.Mathlib.Omega.{arith}
 use borrow.Author.Needs.{needs}
@@ -8,44 +9,38 @@ use Rattle.ripple.proofs.Compose.{tail-part, put-law}
 use Rattle.ripple.proofs.insert_slots.Statement.{statement}
 use Rattle.ripple.proofs.insert_slots.Tie as tie
 
-inside : (s : tie.Start) → (s .args .start ≤ length (s .args .g .now)) × (s .args .start ≤ length (s .args .w .now)) × (s .args .start ≤ length (s .args .y .now)) × (s .args .start ≤ s .args .used)
-inside s = omega (arith, start-le (s .args .lens .now) (s .args .partition))
+-- each part begins in its slice; a part's start is asked for twice, by its length too
+inside : (c : tie.After-shared-slice-known)
+    → (let a = c .before .before .before .before .args in
+    (a .start ≤ length (a .g .now)) × (a .start ≤ length (a .w .now)) × (a .start ≤ length (a .y .now)) × (a .start ≤ a .used))
+inside c = let a = c .before .before .before .before .args in omega (arith, start-le (a .lens .now) (a .partition))
 
 sub-n : tie.Need-sub-n
-sub-n c = inside (c .before .before .before .before) .3
+sub-n c = inside c .3
 
 mul-insert-ripple : tie.Need-mul-insert-ripple
-mul-insert-ripple c = omega (arith, inside (c .before .before .before .before))
+mul-insert-ripple c = omega (arith, inside c)
 
-sub-insert-ripple : tie.Need-sub-insert-ripple
-sub-insert-ripple c = inside (c .before .before .before .before) .0
-
-part-insert-ripple-start : tie.Need-part-insert-ripple-start
-part-insert-ripple-start c = inside (c .before .before .before .before) .0
+in-growers : tie.Need-sub-insert-ripple
+in-growers c = inside c .0
 
 part-insert-ripple-end : tie.Need-part-insert-ripple-end
 part-insert-ripple-end c = search needs
 
 mul-insert-ripple-2 : tie.Need-mul-insert-ripple-2
-mul-insert-ripple-2 c = omega (arith, inside (c .before .before .before .before .before))
+mul-insert-ripple-2 c = omega (arith, inside (c .before))
 
-sub-insert-ripple-2 : tie.Need-sub-insert-ripple-2
-sub-insert-ripple-2 c = inside (c .before .before .before .before .before) .1
-
-part-insert-ripple-start-2 : tie.Need-part-insert-ripple-start-2
-part-insert-ripple-start-2 c = inside (c .before .before .before .before .before) .1
+in-weights : tie.Need-sub-insert-ripple-2
+in-weights c = inside (c .before) .1
 
 part-insert-ripple-end-2 : tie.Need-part-insert-ripple-end-2
 part-insert-ripple-end-2 c = search needs
 
 mul-insert-ripple-3 : tie.Need-mul-insert-ripple-3
-mul-insert-ripple-3 c = omega (arith, inside (c .before .before .before .before .before .before))
+mul-insert-ripple-3 c = omega (arith, inside (c .before .before))
 
-sub-insert-ripple-3 : tie.Need-sub-insert-ripple-3
-sub-insert-ripple-3 c = inside (c .before .before .before .before .before .before) .2
-
-part-insert-ripple-start-3 : tie.Need-part-insert-ripple-start-3
-part-insert-ripple-start-3 c = inside (c .before .before .before .before .before .before) .2
+in-yields : tie.Need-sub-insert-ripple-3
+in-yields c = inside (c .before .before) .2
 
 part-insert-ripple-end-3 : tie.Need-part-insert-ripple-end-3
 part-insert-ripple-end-3 c = search needs
@@ -53,11 +48,8 @@ part-insert-ripple-end-3 c = search needs
 mul-insert-ripple-4 : tie.Need-mul-insert-ripple-4
 mul-insert-ripple-4 c = search needs
 
-sub-insert-ripple-4 : tie.Need-sub-insert-ripple-4
-sub-insert-ripple-4 c = search needs
-
-part-insert-ripple-start-4 : tie.Need-part-insert-ripple-start-4
-part-insert-ripple-start-4 c = search needs
+in-lengths : tie.Need-sub-insert-ripple-4
+in-lengths c = search needs
 
 part-insert-ripple-end-4 : tie.Need-part-insert-ripple-end-4
 part-insert-ripple-end-4 c = search needs
@@ -97,20 +89,20 @@ insert-slots-spec =
     (tie.spec
     sub-n
     mul-insert-ripple
-    sub-insert-ripple
-    part-insert-ripple-start
+    in-growers
+    in-growers
     part-insert-ripple-end
     mul-insert-ripple-2
-    sub-insert-ripple-2
-    part-insert-ripple-start-2
+    in-weights
+    in-weights
     part-insert-ripple-end-2
     mul-insert-ripple-3
-    sub-insert-ripple-3
-    part-insert-ripple-start-3
+    in-yields
+    in-yields
     part-insert-ripple-end-3
     mul-insert-ripple-4
-    sub-insert-ripple-4
-    part-insert-ripple-start-4
+    in-lengths
+    in-lengths
     part-insert-ripple-end-4
     insert-ripple-requires
     same-length
