@@ -50,22 +50,26 @@ fn slices([growers, weights, yields, directory]: [&mut [u32]; 4]) -> ColumnSlice
 }
 
 fn ask_compiled(library: &Library, memory: &mut Memory, asked: &Asked) -> Outcome {
-    let mut column = slices(memory.lend());
-    match asked {
-        Asked::Call(call) => Outcome::Answer(library.call(&mut column, call)),
-        Asked::Partition(g) => Outcome::Partition(library.partition(&column.view(), *g)),
-    }
+    memory.lend(|lent| {
+        let mut column = slices(lent);
+        match asked {
+            Asked::Call(call) => Outcome::Answer(library.call(&mut column, call)),
+            Asked::Partition(g) => Outcome::Partition(library.partition(&column.view(), *g)),
+        }
+    })
 }
 
 fn ask_second(memory: &mut Memory, asked: &Asked) -> Outcome {
-    let mut column = slices(memory.lend());
-    match asked {
-        Asked::Call(call) => Outcome::Answer(call_second(&mut column, call)),
-        Asked::Partition(g) => {
-            let span = second::partition_span(column.growers, column.directory, *g);
-            Outcome::Partition(span.into())
+    memory.lend(|lent| {
+        let mut column = slices(lent);
+        match asked {
+            Asked::Call(call) => Outcome::Answer(call_second(&mut column, call)),
+            Asked::Partition(g) => {
+                let span = second::partition_span(column.growers, column.directory, *g);
+                Outcome::Partition(span.into())
+            }
         }
-    }
+    })
 }
 
 /// One column twice: for the compiled library and for the second
@@ -169,8 +173,9 @@ pub fn apply(
     let mut memory = Memory::new(r, &slices);
     let before = memory.clone();
     let second = Applied::from(second::apply_layout(&set.view(), ends));
-    let [growers, weights, yields, lent_ends] = memory.lend();
-    let compiled = library.apply_layout(&set.over([growers, weights, yields]), lent_ends);
+    let compiled = memory.lend(|[growers, weights, yields, ends]| {
+        library.apply_layout(&set.over([growers, weights, yields]), ends)
+    });
     seen.answer("apply_layout", second.refusal);
     if compiled == second && memory.equals(&before) {
         return Ok(second);

@@ -2,11 +2,18 @@
 //! implementation: answers, slices, directory and guard elements after every
 //! call, refused calls too.
 //!
-//! The first argument, if any, multiplies the number of random cases. From
-//! the root of the repository, after `rt staticlib c_api`:
+//! The first argument, if any, multiplies the number of random cases; below
+//! 1, the number of texts read and the share of damaged ones are not asked.
+//! From the root of the repository, after `rt staticlib c_api`:
 //!
 //! MELTUSK_LIB=target/staticlib CARGO_TARGET_DIR=target/compare cargo run
 //! --release --offline --manifest-path tests/compare/Cargo.toml
+//!
+//! Under valgrind, a test in which it sees an error fails: a read or write
+//! beside the lent slices, or a decision on what was never written. Every test
+//! is made, but no slice of ends past 32 bits is lent. With few cases:
+//!
+//! valgrind --quiet --error-exitcode=1 target/compare/release/compare 0.1
 
 mod broken;
 mod calls;
@@ -19,6 +26,7 @@ mod plan;
 mod seen;
 mod snapshots;
 mod tallies;
+mod valgrind;
 
 use meltusk::Seen;
 use second::random::{case_seed, Random};
@@ -30,6 +38,7 @@ use std::process::{Command, Stdio};
 /// How the line of a test begins.
 const PASSED: &str = "ok    ";
 const FAILED: &str = "FAIL  ";
+const LEFT_OUT: &str = "left out  ";
 /// Set in the process that makes the tests.
 const CHILD: &str = "MELTUSK_COMPARE_CHILD";
 
@@ -37,6 +46,8 @@ pub struct Run {
     scale: f64,
     pub seen: Seen,
     pub damages: Damages,
+    /// What the present test does not try here, and why.
+    pub left_out: Option<&'static str>,
 }
 
 pub type Test = fn(&mut Run) -> Result<(), String>;
@@ -79,51 +90,87 @@ fn tests() -> Vec<(&'static str, Test)> {
     tests
 }
 
+/// Makes a test; one in which valgrind sees an error has failed.
+fn made(run: &mut Run, test: Test) -> Result<(), String> {
+    let before = valgrind::errors();
+    test(run)?;
+    match valgrind::errors() - before {
+        0 => Ok(()),
+        errors => Err(format!("valgrind: {errors} errors")),
+    }
+}
+
 /// Makes all tests, each with one line.
-fn run_tests(scale: f64) {
+fn run_tests(scale: f64) -> Tally {
     let mut run = Run {
         scale,
         seen: Seen::default(),
         damages: Damages::default(),
+        left_out: None,
     };
+    let mut tally = Tally::default();
     for (name, test) in tests() {
         let before = run.seen.calls;
-        match test(&mut run) {
-            Ok(()) => match run.seen.calls - before {
-                0 => println!("{PASSED}{name}"),
-                calls => println!("{PASSED}{name}: {calls} calls"),
-            },
-            Err(why) => println!("{FAILED}{name}: {why}"),
-        }
+        let outcome = made(&mut run, test);
+        let calls = run.seen.calls - before;
+        let line = match (outcome, run.left_out.take()) {
+            (Err(why), _) => format!("{FAILED}{name}: {why}"),
+            (Ok(()), None) if calls == 0 => format!("{PASSED}{name}"),
+            (Ok(()), None) => format!("{PASSED}{name}: {calls} calls"),
+            (Ok(()), Some(what)) if calls == 0 => format!("{LEFT_OUT}{name}: {what}"),
+            (Ok(()), Some(what)) => format!("{PASSED}{name}: {calls} calls, without {what}"),
+        };
+        tally.note(&line);
+        println!("{line}");
+    }
+    tally
+}
+
+/// The lines of tests.
+#[derive(Default)]
+struct Tally {
+    passed: usize,
+    failed: usize,
+    left_out: usize,
+}
+
+impl Tally {
+    fn note(&mut self, line: &str) {
+        self.passed += usize::from(line.starts_with(PASSED));
+        self.failed += usize::from(line.starts_with(FAILED));
+        self.left_out += usize::from(line.starts_with(LEFT_OUT));
+    }
+
+    fn lines(&self) -> usize {
+        self.passed + self.failed + self.left_out
     }
 }
 
 /// Runs the tests in a process of their own, so that the totals are printed
-/// even if the library ends it. Answers how many passed and failed.
-fn supervise(scale: f64) -> std::io::Result<(usize, usize)> {
+/// even if the library ends it.
+fn supervise(scale: f64) -> std::io::Result<Tally> {
     let mut child = Command::new(std::env::current_exe()?)
         .arg(scale.to_string())
         .env(CHILD, "1")
         .stdout(Stdio::piped())
         .spawn()?;
-    let (mut passed, mut failed) = (0, 0);
+    let mut tally = Tally::default();
     if let Some(output) = child.stdout.take() {
         for line in BufReader::new(output).lines() {
             let line = line?;
-            passed += usize::from(line.starts_with(PASSED));
-            failed += usize::from(line.starts_with(FAILED));
+            tally.note(&line);
             println!("{line}");
         }
     }
     let status = child.wait()?;
-    if let Some((name, _)) = tests().get(passed + failed) {
+    if let Some((name, _)) = tests().get(tally.lines()) {
         println!("{FAILED}{name}: the run ended, {status}");
-        failed += 1;
+        tally.failed += 1;
     } else if !status.success() {
         println!("{FAILED}the run: {status}");
-        failed += 1;
+        tally.failed += 1;
     }
-    Ok((passed, failed))
+    Ok(tally)
 }
 
 fn main() {
@@ -141,12 +188,20 @@ fn main() {
         run_tests(scale);
         return;
     }
-    let (passed, failed) = supervise(scale).unwrap_or_else(|error| {
+    // Valgrind does not follow into another process.
+    let tally = match valgrind::runs() {
+        true => Ok(run_tests(scale)),
+        false => supervise(scale),
+    };
+    let tally = tally.unwrap_or_else(|error| {
         println!("{FAILED}the tests: {error}");
-        (0, 1)
+        Tally {
+            failed: 1,
+            ..Tally::default()
+        }
     });
-    println!("{passed} passed, {failed} failed");
-    if failed > 0 {
+    println!("{} passed, {} failed", tally.passed, tally.failed);
+    if tally.failed > 0 {
         std::process::exit(1);
     }
 }

@@ -1,5 +1,6 @@
 //! Slices lent to a call, in one allocation with guard elements around each.
 
+use crate::valgrind;
 use second::random::Random;
 use std::fmt::Display;
 
@@ -14,6 +15,12 @@ pub trait Cell: Copy + PartialEq + Display {
 impl Cell for u32 {
     fn any(r: &mut Random) -> u32 {
         r.next() as u32
+    }
+}
+
+impl Cell for u64 {
+    fn any(r: &mut Random) -> u64 {
+        r.next()
     }
 }
 
@@ -82,18 +89,32 @@ impl<T: Cell> Memory<T> {
         &self.cells[first..past]
     }
 
-    /// The first N slices, to be lent to one call.
-    pub fn lend<const N: usize>(&mut self) -> [&mut [T]; N] {
+    /// Lends all N slices to one call. Meanwhile a read of a guard is an error
+    /// for valgrind, if it runs this process.
+    pub fn lend<const N: usize, A>(&mut self, call: impl FnOnce([&mut [T]; N]) -> A) -> A {
+        self.guards().for_each(valgrind::close);
         let mut rest = self.cells.as_mut_slice();
         let mut at = 0;
-        std::array::from_fn(|i| {
+        let answer = call(std::array::from_fn(|i| {
             let (first, past) = self.spans[i];
             let (head, tail) = std::mem::take(&mut rest).split_at_mut(past - at);
             let slice = &mut head[first - at..];
             rest = tail;
             at = past;
             slice
-        })
+        }));
+        self.guards().for_each(valgrind::open);
+        answer
+    }
+
+    /// The cells before, between and after the slices.
+    fn guards(&self) -> impl Iterator<Item = &[T]> {
+        let pasts = self.spans.iter().map(|span| span.1);
+        let firsts = self.spans.iter().map(|span| span.0);
+        std::iter::once(0)
+            .chain(pasts)
+            .zip(firsts.chain([self.cells.len()]))
+            .map(|(past, first)| &self.cells[past..first])
     }
 
     /// Whether slices and guards are the same. The memory may have been

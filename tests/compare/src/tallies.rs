@@ -1,11 +1,10 @@
 //! Adding to a tally.
 
+use crate::memory::Memory;
 use crate::{Run, Test};
 use meltusk::{tally_add, Seen};
 use second::random::Random;
 use second::types::TALLY_LIMIT;
-
-const GUARD: u64 = 0x5A5A_5A5A_5A5A_5A5A;
 
 const KINDS: [&str; 5] = [
     "tally: 10 by rr alone",
@@ -39,19 +38,24 @@ fn more(r: &mut Random, t: u64) -> u64 {
 }
 
 fn one(run: &mut Run, old: [u64; 3], report: [u64; 3]) -> Result<u32, String> {
-    let mut theirs = second::Tally {
+    let mut tally = second::Tally {
         rr: old[0],
         sr: old[1],
         rw: old[2],
     };
     let counts = second::Counts::new(report[0], report[1], report[2]);
-    let expected = second::tally_add(&mut theirs, &counts);
-    let mut ours = [GUARD, old[0], old[1], old[2], GUARD];
-    let [_, rr, sr, rw, _] = &mut ours;
-    let answer = tally_add(rr, sr, rw, &counts.into());
-    if answer != expected || ours != [GUARD, theirs.rr, theirs.sr, theirs.rw, GUARD] {
+    let expected = second::tally_add(&mut tally, &counts);
+    // Of its own seed: the numbers of a case do not depend on its guards.
+    let guards = &mut Random::new(run.seen.calls);
+    let mut ours = Memory::new(guards, &[&old[..1], &old[1..2], &old[2..]]);
+    let mut theirs = ours.clone();
+    let answer =
+        ours.lend(|[rr, sr, rw]| tally_add(&mut rr[0], &mut sr[0], &mut rw[0], &counts.into()));
+    theirs.lend(|[rr, sr, rw]| [rr[0], sr[0], rw[0]] = [tally.rr, tally.sr, tally.rw]);
+    if answer != expected || !ours.equals(&theirs) {
+        let numbers = ours.compared(&theirs, &["rr", "sr", "rw"]);
         return Err(format!(
-            "{old:?} and {report:?}: {answer} {ours:?}, expected {expected} {theirs:?}"
+            "{old:?} and {report:?}: {answer}, expected {expected} {tally:?}; {numbers}"
         ));
     }
     note(&mut run.seen, old, report, answer);

@@ -67,12 +67,16 @@ impl Recorder {
         library: &Library,
         call: &Call,
     ) -> Result<u32, String> {
-        let [growers, weights, yields, histograms] = self.compiled.lend();
-        let set = self.set.over([growers, weights, yields]);
-        let compiled = library.record(histograms, &set, call);
-        let [growers, weights, yields, histograms] = self.second.lend();
-        let set = self.set.over([growers, weights, yields]);
-        let second = record_second(histograms, &set, call);
+        let compiled = self
+            .compiled
+            .lend(|[growers, weights, yields, histograms]| {
+                let set = self.set.over([growers, weights, yields]);
+                library.record(histograms, &set, call)
+            });
+        let second = self.second.lend(|[growers, weights, yields, histograms]| {
+            let set = self.set.over([growers, weights, yields]);
+            record_second(histograms, &set, call)
+        });
         seen.answer(seen::recorded(call), second);
         if compiled == second && self.compiled.equals(&self.second) {
             return Ok(second);
@@ -105,9 +109,10 @@ pub fn cost(
         ],
     );
     let before = memory.clone();
-    let [growers, weights, yields, histograms, ends] = memory.lend();
-    let lent = set.over([growers, weights, yields]);
-    let compiled = library.cost(&case.card, &lent, ends, histograms);
+    let compiled = memory.lend(|[growers, weights, yields, histograms, ends]| {
+        let set = set.over([growers, weights, yields]);
+        library.cost(&case.card, &set, ends, histograms)
+    });
     let answer = second::cost(&case.card, &set.view(), &case.histograms, &case.ends);
     let second = Costed::from(answer);
     seen::note_cost(seen, &second);
@@ -152,17 +157,20 @@ pub fn plan(
         ],
     );
     let mut second_memory = compiled_memory.clone();
-    let [growers, weights, yields, histograms, ends] = compiled_memory.lend();
-    let lent = set.over([growers, weights, yields]);
-    let compiled = library.plan(&case.card, &case.limits, &lent, histograms, ends);
-    let [_, _, _, histograms, ends] = second_memory.lend();
     let (card, limits) = (&case.card, &case.limits);
-    let planned = second::plan_by_table(card, limits, &set.view(), histograms, ends);
-    let second = Planned::from(planned);
+    let compiled = compiled_memory.lend(|[growers, weights, yields, histograms, ends]| {
+        let set = set.over([growers, weights, yields]);
+        library.plan(card, limits, &set, histograms, ends)
+    });
+    let second = second_memory.lend(|[growers, weights, yields, histograms, ends]| {
+        let set = set.over([growers, weights, yields]);
+        Planned::from(second::plan_by_table(card, limits, &set, histograms, ends))
+    });
+    let ends = second_memory.slice(4);
     if by == By::Listing {
         let mut listed_ends = case.room.clone();
-        let listed =
-            second::plan_by_listing(card, limits, &set.view(), histograms, &mut listed_ends);
+        let (set, counts) = (set.view(), &case.histograms);
+        let listed = second::plan_by_listing(card, limits, &set, counts, &mut listed_ends);
         if listed.map(Planned::from) != Some(second) || listed_ends != ends {
             return Err("the second implementation's two planners differ".into());
         }

@@ -83,17 +83,18 @@ pub fn write(
     let mut second_text = compiled_text.clone();
     let mut slots = Memory::new(r, &[&c.growers, &c.weights, &c.yields, &c.directory]);
     let before = slots.clone();
-    let [growers, weights, yields, directory] = slots.lend();
-    let [text] = compiled_text.lend();
-    let column = View {
-        directory,
-        growers,
-        weights,
-        yields,
-    };
-    let compiled = library.write_snapshot(&column, text);
-    let [text] = second_text.lend();
-    let answer = second::snapshot_write(&c.growers, &c.weights, &c.yields, &c.directory, text);
+    let compiled = slots.lend(|[growers, weights, yields, directory]| {
+        let column = View {
+            directory,
+            growers,
+            weights,
+            yields,
+        };
+        compiled_text.lend(|[text]| library.write_snapshot(&column, text))
+    });
+    let answer = second_text.lend(|[text]| {
+        second::snapshot_write(&c.growers, &c.weights, &c.yields, &c.directory, text)
+    });
     let second = Written::from(answer);
     seen::note_write(seen, c, room, second.refusal);
     let text = compiled_text.slice(0);
@@ -136,11 +137,13 @@ pub fn read(
     let mut compiled_slots = Memory::new(r, &[&old[0], &old[1], &old[2]]);
     let mut second_slots = compiled_slots.clone();
     let before = compiled_slots.clone();
-    let [bytes] = lent.lend();
-    let [growers, weights, yields] = compiled_slots.lend();
-    let compiled = library.read_snapshot(bytes, growers, weights, yields);
-    let [growers, weights, yields] = second_slots.lend();
-    let second = Applied::from(second::snapshot_read(text.lent(), growers, weights, yields));
+    let compiled = compiled_slots.lend(|[growers, weights, yields]| {
+        lent.lend(|[text]| library.read_snapshot(text, growers, weights, yields))
+    });
+    let second = second_slots.lend(|[growers, weights, yields]| {
+        second::snapshot_read(text.lent(), growers, weights, yields)
+    });
+    let second = Applied::from(second);
     seen::note_read(seen, &second, old[0].len());
     let same =
         compiled == second && compiled_slots.equals(&second_slots) && lent.equals(&lent_before);
