@@ -148,6 +148,7 @@ impl Pair {
         let compiled = ask_compiled(library, &mut self.compiled, &asked);
         let (growers, directory) = (self.before.slice(0), self.before.slice(3));
         seen::note(seen, &asked, second.refusal(), growers, directory);
+        seen.lent(seen::name(&asked), library, self.before.counts(&NAMES));
         if compiled == second && self.compiled.equals(&self.second) {
             return Ok(second);
         }
@@ -176,11 +177,13 @@ pub fn apply(
     let compiled = memory.lend(|[growers, weights, yields, ends]| {
         library.apply_layout(&set.over([growers, weights, yields]), ends)
     });
+    let names = ["growers", "weights", "yields", "ends"];
     seen.answer("apply_layout", second.refusal);
+    seen.lent("apply_layout", library, memory.counts(&names));
     if compiled == second && memory.equals(&before) {
         return Ok(second);
     }
-    let slices = memory.compared(&before, &["growers", "weights", "yields", "ends"]);
+    let slices = memory.compared(&before, &names);
     Err(format!(
         "apply_layout: compiled {} with {}, second {} with {}; {slices}; block {}, used {}, ends {ends:?}, {}",
         compiled.refusal,

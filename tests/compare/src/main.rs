@@ -17,6 +17,7 @@
 
 mod broken;
 mod calls;
+mod header;
 mod inputs;
 mod layouts;
 mod lists;
@@ -87,6 +88,7 @@ fn tests() -> Vec<(&'static str, Test)> {
     tests.extend(snapshots::TESTS);
     tests.extend(tallies::TESTS);
     tests.extend(plan::TESTS);
+    tests.extend(header::TESTS);
     tests
 }
 

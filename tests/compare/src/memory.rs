@@ -89,6 +89,15 @@ impl<T: Cell> Memory<T> {
         &self.cells[first..past]
     }
 
+    /// The count of each slice, by its name.
+    pub fn counts<'a>(
+        &'a self,
+        names: &'a [&'static str],
+    ) -> impl Iterator<Item = (&'static str, usize)> + 'a {
+        let counts = self.spans.iter().map(|(first, past)| past - first);
+        names.iter().copied().zip(counts)
+    }
+
     /// Lends all N slices to one call. Meanwhile a read of a guard is an error
     /// for valgrind, if it runs this process.
     pub fn lend<const N: usize, A>(&mut self, call: impl FnOnce([&mut [T]; N]) -> A) -> A {

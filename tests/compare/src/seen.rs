@@ -37,7 +37,7 @@ const SCANS: [&str; 4] = [
     "match past the last whole stride",
 ];
 
-fn name(asked: &Asked) -> &'static str {
+pub fn name(asked: &Asked) -> &'static str {
     match asked {
         Asked::Call(Call::Find(_)) => "find",
         Asked::Call(Call::Range(..)) => "range",

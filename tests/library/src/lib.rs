@@ -16,5 +16,5 @@ pub use answers::{
 pub use calls::{call_second, record_second, Call};
 pub use column::{Column, ColumnSlices, View};
 pub use library::{tally_add, Empty, Library, LIBRARIES};
-pub use seen::Seen;
+pub use seen::{Seen, EDGES};
 pub use set::{even_ends, spread_growers, Set, Slots};

@@ -1,15 +1,33 @@
 //! What has occurred in the compared calls.
 
+use crate::library::{Empty, Library};
+use second::SLOT_LIMIT;
 use std::collections::{BTreeMap, BTreeSet};
 
-/// Counts the calls and their answers, and keeps which kinds of input have
-/// occurred: a comparison that never saw one shows less than it says.
+/// A count at the edge of what a slice may have.
+#[derive(Clone, Copy, Debug, PartialEq, Eq, PartialOrd, Ord)]
+pub enum Edge {
+    /// No element, and a null pointer.
+    Null,
+    /// No element, and a pointer that is not null.
+    Empty,
+    One,
+    /// More than 262,144 elements.
+    Past,
+}
+
+pub const EDGES: [Edge; 4] = [Edge::Null, Edge::Empty, Edge::One, Edge::Past];
+
+/// Counts the calls and their answers, and keeps which kinds of input and which
+/// edges of slices have occurred: a comparison that never saw one shows less than it says.
 #[derive(Default)]
 pub struct Seen {
     /// All calls compared so far.
     pub calls: u64,
     answers: BTreeMap<(&'static str, u32), u64>,
     kinds: BTreeSet<&'static str>,
+    /// Call and slice.
+    edges: BTreeSet<(&'static str, &'static str, Edge)>,
 }
 
 impl Seen {
@@ -24,6 +42,30 @@ impl Seen {
         if there {
             self.kinds.insert(kind);
         }
+    }
+
+    /// Notes the slices that a call was lent, each by its name and its count.
+    pub fn lent(
+        &mut self,
+        call: &'static str,
+        library: &Library,
+        slices: impl Iterator<Item = (&'static str, usize)>,
+    ) {
+        for (slice, count) in slices {
+            let edge = match count {
+                0 if library.empty == Empty::Null => Edge::Null,
+                0 => Edge::Empty,
+                1 => Edge::One,
+                2..=SLOT_LIMIT => continue,
+                _ => Edge::Past,
+            };
+            self.edges.insert((call, slice, edge));
+        }
+    }
+
+    /// Whether a call was lent the slice at this edge.
+    pub fn was_lent(&self, call: &str, slice: &str, edge: Edge) -> bool {
+        self.edges.contains(&(call, slice, edge))
     }
 
     /// How often a call was made.

@@ -20,6 +20,19 @@ pub struct Case {
     pub call: Call,
 }
 
+impl Case {
+    /// The slices of a case, with one for the ends.
+    fn memory(&self, r: &mut Random, ends: &[u32]) -> Memory {
+        let Set {
+            growers,
+            weights,
+            yields,
+            ..
+        } = &self.set;
+        Memory::new(r, &[growers, weights, yields, &self.histograms, ends])
+    }
+}
+
 /// Order of the slices of a case in its memory.
 const NAMES: [&str; 5] = ["growers", "weights", "yields", "histograms", "ends"];
 
@@ -78,6 +91,7 @@ impl Recorder {
             record_second(histograms, &set, call)
         });
         seen.answer(seen::recorded(call), second);
+        seen.lent(seen::recorded(call), library, self.second.counts(&NAMES));
         if compiled == second && self.compiled.equals(&self.second) {
             return Ok(second);
         }
@@ -98,16 +112,7 @@ pub fn cost(
     case: &Case,
 ) -> Result<Costed, String> {
     let set = &case.set;
-    let mut memory = Memory::new(
-        r,
-        &[
-            &set.growers,
-            &set.weights,
-            &set.yields,
-            &case.histograms,
-            &case.ends,
-        ],
-    );
+    let mut memory = case.memory(r, &case.ends);
     let before = memory.clone();
     let compiled = memory.lend(|[growers, weights, yields, histograms, ends]| {
         let set = set.over([growers, weights, yields]);
@@ -116,6 +121,7 @@ pub fn cost(
     let answer = second::cost(&case.card, &set.view(), &case.histograms, &case.ends);
     let second = Costed::from(answer);
     seen::note_cost(seen, &second);
+    seen.lent("cost", library, memory.counts(&NAMES));
     if compiled == second && memory.equals(&before) {
         return Ok(second);
     }
@@ -146,16 +152,7 @@ pub fn plan(
     by: By,
 ) -> Result<(Planned, Vec<u32>), String> {
     let set = &case.set;
-    let mut compiled_memory = Memory::new(
-        r,
-        &[
-            &set.growers,
-            &set.weights,
-            &set.yields,
-            &case.histograms,
-            &case.room,
-        ],
-    );
+    let mut compiled_memory = case.memory(r, &case.room);
     let mut second_memory = compiled_memory.clone();
     let (card, limits) = (&case.card, &case.limits);
     let compiled = compiled_memory.lend(|[growers, weights, yields, histograms, ends]| {
@@ -177,6 +174,7 @@ pub fn plan(
     }
     let ends = ends[..second.count as usize].to_vec();
     seen::note_plan(seen, &second);
+    seen.lent("plan", library, second_memory.counts(&NAMES));
     if compiled == second && compiled_memory.equals(&second_memory) {
         return Ok((second, ends));
     }

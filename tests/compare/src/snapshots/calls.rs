@@ -8,6 +8,8 @@ use meltusk::{Applied, Column, Library, Seen, View, Written, DIRECTORY};
 use second::random::Random;
 use second::{snapshot_size, BLOCK_LIMIT, LENGTHS};
 
+const TEXT: [&str; 1] = ["text"];
+
 /// Most bytes printed of a failed case.
 const PRINTED: usize = 2_000;
 
@@ -97,6 +99,8 @@ pub fn write(
     });
     let second = Written::from(answer);
     seen::note_write(seen, c, room, second.refusal);
+    let lent = slots.counts(&NAMES).chain(second_text.counts(&TEXT));
+    seen.lent("write_snapshot", library, lent);
     let text = compiled_text.slice(0);
     let same = compiled == second && compiled_text.equals(&second_text) && slots.equals(&before);
     if same && text[answer.written..] == old[answer.written..] {
@@ -104,7 +108,7 @@ pub fn write(
     }
     Err(format!(
         "write_snapshot: compiled {compiled:?}, second {second:?}; {}; {}; text {}, room {room}, {}, {}",
-        compiled_text.compared(&second_text, &["text"]),
+        compiled_text.compared(&second_text, &TEXT),
         slots.compared(&before, &NAMES),
         shown(text),
         directory_text(&c.directory),
@@ -145,6 +149,8 @@ pub fn read(
     });
     let second = Applied::from(second);
     seen::note_read(seen, &second, old[0].len());
+    let slices = second_slots.counts(&NAMES[..3]).chain(lent.counts(&TEXT));
+    seen.lent("read_snapshot", library, slices);
     let same =
         compiled == second && compiled_slots.equals(&second_slots) && lent.equals(&lent_before);
     if same && leaves(&compiled, &before, &compiled_slots) {
@@ -163,7 +169,7 @@ pub fn read(
         second.refusal,
         directory_text(&second.directory),
         compiled_slots.compared(&second_slots, &NAMES[..3]),
-        lent.compared(&lent_before, &["text"]),
+        lent.compared(&lent_before, &TEXT),
         shown(text.lent()),
         slots_text(&old[0], &old[1], &old[2])
     ))

@@ -1,0 +1,64 @@
+//! The calls that the C header declares: each has been compared, with each of
+//! its slices at every edge.
+
+use crate::{Run, Test};
+use meltusk::EDGES;
+
+const HEADER: &str = include_str!("../../../include/meltusk.h");
+
+/// Fewer calls found mean that the header is read wrongly.
+const CALLS: usize = 17;
+
+/// The header without its comments.
+fn declarations() -> String {
+    let pieces = HEADER.split("/*").enumerate();
+    let code = pieces.map(|(i, piece)| match i {
+        0 => piece,
+        _ => piece.split_once("*/").map_or("", |(_, code)| code),
+    });
+    code.collect()
+}
+
+fn last_word(text: &str) -> &str {
+    let is_part = |c: char| c.is_ascii_alphanumeric() || c == '_';
+    text.rsplit(|c| !is_part(c)).next().unwrap_or("")
+}
+
+/// Each call without its prefix, and its slices: the names that have a count.
+fn calls(code: &str) -> Vec<(&str, Vec<&str>)> {
+    let heads = code.match_indices('(').map(|(at, _)| code.split_at(at));
+    heads
+        .filter_map(|(before, after)| {
+            let call = last_word(before).strip_prefix("meltusk_")?;
+            let parameters = after.split(')').next()?.split(',');
+            let slices = parameters.filter_map(|p| last_word(p).strip_suffix("_count"));
+            Some((call, slices.collect()))
+        })
+        .collect()
+}
+
+fn every_call(run: &mut Run) -> Result<(), String> {
+    let code = declarations();
+    let calls = calls(&code);
+    if calls.len() < CALLS {
+        return Err(format!("only {} calls in the header", calls.len()));
+    }
+    for (call, slices) in calls {
+        if run.seen.count(call) == 0 {
+            return Err(format!("{call} was never made"));
+        }
+        for slice in slices {
+            for edge in EDGES {
+                if !run.seen.was_lent(call, slice, edge) {
+                    return Err(format!("{call}: {slice} never {edge:?}"));
+                }
+            }
+        }
+    }
+    Ok(())
+}
+
+pub const TESTS: &[(&str, Test)] = &[(
+    "every call of the header, each slice null, empty, of one and past 262,144",
+    every_call,
+)];
