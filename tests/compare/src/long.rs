@@ -57,12 +57,23 @@ impl Drop for Long {
     }
 }
 
-/// Why a test is left out, whole or in part.
+const LIBRARY: Library = Library { empty: Empty::Null };
+
+/// What is left out, or why.
 const NO_ADDRESSES: &str = "so many addresses cannot be reserved";
 const LONG_ENDS: &str = "ends past 32 bits, which valgrind would take minutes to go over";
 
+fn reserve(run: &mut Run, more: usize) -> Option<Long> {
+    let long = Long::new(more);
+    if long.is_none() {
+        run.left_out = Some(NO_ADDRESSES);
+    }
+    long
+}
+
 /// The five calls.
-fn five(d: Delivery) -> [Call; 5] {
+fn five() -> [Call; 5] {
+    let d = Delivery::new(0, 0, 0);
     [
         Call::Find(0),
         Call::Range(0, 1),
@@ -74,10 +85,8 @@ fn five(d: Delivery) -> [Call; 5] {
 
 /// Each call on a column of one record and one free slot, all in partition 0.
 fn calls(run: &mut Run, column: &mut ColumnSlices, expected: u32) -> Result<(), String> {
-    let library = Library { empty: Empty::Null };
-    let d = Delivery::new(0, 0, 0);
-    for call in five(d) {
-        let answer = library.call(column, &call);
+    for call in five() {
+        let answer = LIBRARY.call(column, &call);
         run.seen.calls += 1;
         let zero = answer.counts.rr == 0 && answer.counts.rw == 0 && answer.totals.records == 0;
         if answer.refusal != expected || !zero {
@@ -85,6 +94,26 @@ fn calls(run: &mut Run, column: &mut ColumnSlices, expected: u32) -> Result<(), 
         }
     }
     Ok(())
+}
+
+/// Where the partition of grower 0 lies, refused.
+fn partition(column: &ColumnSlices, expected: u32) -> Result<(), String> {
+    let a = LIBRARY.partition(&column.view(), 0);
+    match (a.refusal, a.start, a.count) == (expected, 0, 0) {
+        true => Ok(()),
+        false => Err(format!("partition: {a:?}")),
+    }
+}
+
+/// A set of one used slot.
+fn one_slot<'a>(growers: &'a [u32], weights: &'a [u32], yields: &'a [u32]) -> UnlaidSet<'a> {
+    UnlaidSet {
+        b: 1,
+        m: 1,
+        growers,
+        weights,
+        yields,
+    }
 }
 
 /// One record in one partition.
@@ -96,85 +125,83 @@ fn one_record() -> [u32; DIRECTORY_LEN] {
     directory
 }
 
-fn long(run: &mut Run) -> Result<(), String> {
-    let proper = one_record();
-    let library = Library { empty: Empty::Null };
-    let (Some(mut long_slots), Some(mut long_directory), Some(mut ends)) =
-        (Long::new(2), Long::new(DIRECTORY_LEN), Long::new(1))
-    else {
-        run.left_out = Some(NO_ADDRESSES);
+/// The growers, the weights and the yields in turn.
+fn long_slots(run: &mut Run) -> Result<(), String> {
+    let Some(mut long) = reserve(run, 2) else {
         return Ok(());
     };
     for which in 0..3 {
         let (mut a, mut b) = ([0; 2], [0; 2]);
         let (a, b) = (&mut a[..], &mut b[..]);
         let [growers, weights, yields] = match which {
-            0 => [long_slots.slice(), a, b],
-            1 => [a, long_slots.slice(), b],
-            _ => [a, b, long_slots.slice()],
+            0 => [long.slice(), a, b],
+            1 => [a, long.slice(), b],
+            _ => [a, b, long.slice()],
         };
-        let set = UnlaidSet {
-            b: 1,
-            m: 1,
-            growers,
-            weights,
-            yields,
-        };
+        let set = one_slot(growers, weights, yields);
         let second = Applied::from(second::apply_layout(&set, &[0]));
-        let compiled = library.apply_layout(&set, &[0]);
+        let compiled = LIBRARY.apply_layout(&set, &[0]);
         run.seen.calls += 1;
         if compiled != second || compiled.refusal != 3 {
             return Err(format!("apply_layout: {}", compiled.refusal));
         }
-        let mut directory = proper;
         let mut column = ColumnSlices {
-            directory: &mut directory,
+            directory: &mut one_record(),
             growers,
             weights,
             yields,
         };
         if which == 0 {
-            let a = library.partition(&column.view(), 0);
+            partition(&column, 3)?;
             run.seen.calls += 1;
-            if (a.refusal, a.start, a.count) != (3, 0, 0) {
-                return Err(format!("partition: {a:?}"));
-            }
         }
         calls(run, &mut column, 3)?;
     }
-    long_directory.slice()[..DIRECTORY_LEN].copy_from_slice(&proper);
-    let mut slots = [[0; 2]; 3];
-    let [growers, weights, yields] = &mut slots;
+    Ok(())
+}
+
+fn long_directory(run: &mut Run) -> Result<(), String> {
+    let Some(mut long) = reserve(run, DIRECTORY_LEN) else {
+        return Ok(());
+    };
+    long.slice()[..DIRECTORY_LEN].copy_from_slice(&one_record());
+    let [growers, weights, yields] = &mut [[0; 2]; 3];
     let mut column = ColumnSlices {
-        directory: long_directory.slice(),
+        directory: long.slice(),
         growers,
         weights,
         yields,
     };
-    let a = library.partition(&column.view(), 0);
-    if (a.refusal, a.start, a.count) != (6, 0, 0) {
-        return Err(format!("partition: {a:?}"));
-    }
-    calls(run, &mut column, 6)?;
-    let set = UnlaidSet {
-        b: 1,
-        m: 2,
-        growers: &[0, 1],
-        weights,
-        yields,
-    };
+    partition(&column, 6)?;
+    calls(run, &mut column, 6)
+}
+
+fn long_ends(run: &mut Run) -> Result<(), String> {
     if valgrind::runs() {
         run.left_out = Some(LONG_ENDS);
         return Ok(());
     }
+    let Some(mut ends) = reserve(run, 1) else {
+        return Ok(());
+    };
     // Cut to 32 bits it would be the layout of one partition.
     ends.slice()[0] = 1;
-    let compiled = library.apply_layout(&set, ends.slice());
+    let set = UnlaidSet {
+        m: 2,
+        ..one_slot(&[0, 1], &[0; 2], &[0; 2])
+    };
+    let compiled = LIBRARY.apply_layout(&set, ends.slice());
     run.seen.calls += 1;
     match compiled.refusal {
         6 => Ok(()),
         number => Err(format!("apply_layout: {number}")),
     }
+}
+
+fn long(run: &mut Run) -> Result<(), String> {
+    long_slots(run)?;
+    long_directory(run)?;
+    long_ends(run)
 }
 
 /// The snapshot of one record 0, 0, 0.
@@ -195,21 +222,19 @@ fn view<'a>(directory: &'a [u32], [growers, weights, yields]: [&'a [u32]; 3]) ->
 /// A long text is no snapshot, a long room is enough, long slices are refused
 /// by 3 and a long directory by 6.
 fn snapshots(run: &mut Run) -> Result<(), String> {
-    let library = Library { empty: Empty::Null };
     let directory = one_record();
     let (Some(mut slots), Some(mut text), Some(mut room), Some(mut long_directory)) = (
-        Long::new(1),
-        Long::new(TEXT.len()),
-        Long::new(0),
-        Long::new(DIRECTORY_LEN),
+        reserve(run, 1),
+        reserve(run, TEXT.len()),
+        reserve(run, 0),
+        reserve(run, DIRECTORY_LEN),
     ) else {
-        run.left_out = Some(NO_ADDRESSES);
         return Ok(());
     };
     let (mut a, mut b, mut c) = ([0], [0], [0]);
     text.bytes()[..TEXT.len()].copy_from_slice(TEXT);
-    let read = library.read_snapshot(text.bytes(), &mut a, &mut b, &mut c);
-    let written = library.write_snapshot(&view(&directory, [&a, &b, &c]), room.bytes());
+    let read = LIBRARY.read_snapshot(text.bytes(), &mut a, &mut b, &mut c);
+    let written = LIBRARY.write_snapshot(&view(&directory, [&a, &b, &c]), room.bytes());
     // Each refusal and the one it has to be.
     let mut refusals = vec![(read.refusal, 14), (written.refusal, 0)];
     for which in 0..3 {
@@ -220,14 +245,14 @@ fn snapshots(run: &mut Run) -> Result<(), String> {
             _ => [&mut a, &mut b, long],
         };
         let mut out = [0; TEXT.len()];
-        let written = library.write_snapshot(&view(&directory, [g, w, y]), &mut out);
-        let read = library.read_snapshot(TEXT, g, w, y);
+        let written = LIBRARY.write_snapshot(&view(&directory, [g, w, y]), &mut out);
+        let read = LIBRARY.read_snapshot(TEXT, g, w, y);
         refusals.extend([(written.refusal, 3), (read.refusal, 3)]);
     }
     let long = long_directory.slice();
     long[..DIRECTORY_LEN].copy_from_slice(&directory);
-    let written = library.write_snapshot(&view(long, [&a, &b, &c]), &mut [0; TEXT.len()]);
-    refusals.push((written.refusal, 6));
+    let refused = LIBRARY.write_snapshot(&view(long, [&a, &b, &c]), &mut [0; TEXT.len()]);
+    refusals.push((refused.refusal, 6));
     run.seen.calls += refusals.len() as u64;
     let right = refusals.iter().all(|(is, should)| is == should);
     match right && &room.bytes()[..TEXT.len()] == TEXT {
@@ -243,14 +268,12 @@ fn planned(
     ends: &[u32],
     room: &mut [u32],
 ) -> [(u32, i64); 7] {
-    let library = Library { empty: Empty::Null };
     let card = PriceCard::FACTORY;
     let limits = Limits::new(100, 100);
-    let d = Delivery::new(0, 0, 0);
-    let cost = library.cost(&card, set, ends, histograms);
-    let plan = library.plan(&card, &limits, set, histograms, room);
+    let cost = LIBRARY.cost(&card, set, ends, histograms);
+    let plan = LIBRARY.plan(&card, &limits, set, histograms, room);
     let [find, range, insert, delete, moved] =
-        five(d).map(|call| (library.record(histograms, set, &call), 0));
+        five().map(|call| (LIBRARY.record(histograms, set, &call), 0));
     let (cost, plan) = ((cost.refusal, cost.cost), (plan.refusal, plan.cost));
     [find, range, insert, delete, moved, cost, plan]
 }
@@ -259,25 +282,16 @@ fn planned(
 /// layout, and a long room is enough.
 fn plans(run: &mut Run) -> Result<(), String> {
     let (Some(mut slots), Some(mut counts), Some(mut ends), Some(mut room)) = (
-        Long::new(1),
-        Long::new(HISTOGRAM_LEN),
-        Long::new(1),
-        Long::new(0),
+        reserve(run, 1),
+        reserve(run, HISTOGRAM_LEN),
+        reserve(run, 1),
+        reserve(run, 0),
     ) else {
-        run.left_out = Some(NO_ADDRESSES);
         return Ok(());
     };
-    let one = [0];
-    let set = |growers, weights, yields| UnlaidSet {
-        b: 1,
-        m: 1,
-        growers,
-        weights,
-        yields,
-    };
+    let one: &[u32] = &[0];
     let short = || [0; HISTOGRAM_LEN];
-    let proper = set(&one, &one, &one);
-    let long = slots.slice();
+    let long: &[u32] = slots.slice();
     let ends: &[u32] = match valgrind::runs() {
         true => {
             run.left_out = Some(LONG_ENDS);
@@ -285,26 +299,21 @@ fn plans(run: &mut Run) -> Result<(), String> {
         }
         false => ends.slice(),
     };
+    let of_slots = [[long, one, one], [one, long, one], [one, one, long]];
+    let of_slots = of_slots.map(|[growers, weights, yields]| {
+        let set = one_slot(growers, weights, yields);
+        (planned(&set, &mut short(), &[0], &mut [7]), [3; 7])
+    });
+    let proper = one_slot(one, one, one);
     // The answers, each with the refusals that they have to have.
-    let answers = [
-        (
-            planned(&set(long, &one, &one), &mut short(), &[0], &mut [7]),
-            [3; 7],
-        ),
-        (
-            planned(&set(&one, long, &one), &mut short(), &[0], &mut [7]),
-            [3; 7],
-        ),
-        (
-            planned(&set(&one, &one, long), &mut short(), &[0], &mut [7]),
-            [3; 7],
-        ),
+    let mut answers = of_slots.to_vec();
+    answers.extend([
         (planned(&proper, counts.slice(), &[0], &mut [7]), [9; 7]),
         (
             planned(&proper, &mut short(), ends, room.slice()),
             [0, 0, 0, 0, 0, 6, 0],
         ),
-    ];
+    ]);
     run.seen.calls += 7 * answers.len() as u64;
     for (i, (given, expected)) in answers.iter().enumerate() {
         if *given != expected.map(|refusal| (refusal, 0)) {

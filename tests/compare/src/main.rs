@@ -120,7 +120,7 @@ fn run_tests(scale: f64) -> Tally {
             (Ok(()), None) if calls == 0 => format!("{PASSED}{name}"),
             (Ok(()), None) => format!("{PASSED}{name}: {calls} calls"),
             (Ok(()), Some(what)) if calls == 0 => format!("{LEFT_OUT}{name}: {what}"),
-            (Ok(()), Some(what)) => format!("{PASSED}{name}: {calls} calls, without {what}"),
+            (Ok(()), Some(what)) => format!("{PASSED}{name}: {calls} calls; left out: {what}"),
         };
         tally.note(&line);
         println!("{line}");
