@@ -28,14 +28,14 @@ count-equal-spec =
     (tie.spec
     Inv-loop
     μ-loop
-    (λ c. counting-start _ _)  -- loop-holds
-    (λ c. search needs)  -- mul-x
-    (λ c. omega arith)  -- shared-slice-read-x
-    (λ c. omega arith)  -- add-i
-    (λ c. omega arith)  -- add-n
-    (λ c. omega arith)  -- loop-less
+    (λ c. counting-start _ _)
+    (λ c. search needs)
+    (λ c. omega arith)
+    (λ c. omega arith)
+    (λ c. omega arith)
+    (λ c. omega arith)
     loop-again
-    (λ c. omega arith)  -- loop-less-2
+    (λ c. omega arith)
     loop-again-2
-    (λ c. omega arith)  -- cast-result
+    (λ c. omega arith)
     returns)

@@ -1,4 +1,4 @@
--- `slices::never_falling` meets its contract. Assumes nothing.
+-- `slices::never_falling`: the flag, and whether no two neighbours from i on fall, is whether none fall; a turn takes off one pair (`Chained`, with the test `leb`). Assumes nothing.
 use Prim.Native.Nat.{_-_}
 use native.Mathlib.Omega.{arith}
 use borrow.Author.Needs.{needs}
@@ -19,32 +19,8 @@ abbrev μ-loop : tie.MeasureT-loop
 loop-holds : tie.Need-loop-holds Inv-loop μ-loop
 loop-holds c = chain-start _ _
 
-add-loop : tie.Need-add-loop Inv-loop μ-loop
-add-loop c = omega arith
-
-mul-x : tie.Need-mul-x Inv-loop μ-loop
-mul-x c = search needs
-
-shared-slice-read-x : tie.Need-shared-slice-read-x Inv-loop μ-loop
-shared-slice-read-x c = omega arith
-
-add-i : tie.Need-add-i Inv-loop μ-loop
-add-i c = omega arith
-
-mul-z : tie.Need-mul-z Inv-loop μ-loop
-mul-z c = search needs
-
-shared-slice-read-z : tie.Need-shared-slice-read-z Inv-loop μ-loop
-shared-slice-read-z c = omega arith
-
-loop-less : tie.Need-loop-less Inv-loop μ-loop
-loop-less c = omega arith
-
 loop-again : tie.Need-loop-again Inv-loop μ-loop
 loop-again c = chain-bad _ _ _ _ (c .before .before .before .loop-test .taken) (c .before .before .before .before .loop .inv) (lt-leb _ _ (c .if1 .taken))
-
-loop-less-2 : tie.Need-loop-less-2 Inv-loop μ-loop
-loop-less-2 c = omega arith
 
 loop-again-2 : tie.Need-loop-again-2 Inv-loop μ-loop
 loop-again-2 c = chain-good _ _ _ _ (c .before .before .before .loop-test .taken) (c .before .before .before .before .loop .inv) (le-leb _ _ (c .if1 .left))
@@ -59,14 +35,14 @@ never-falling-spec =
     Inv-loop
     μ-loop
     loop-holds
-    add-loop
-    mul-x
-    shared-slice-read-x
-    add-i
-    mul-z
-    shared-slice-read-z
-    loop-less
+    (λ c. omega arith)
+    (λ c. search needs)
+    (λ c. omega arith)
+    (λ c. omega arith)
+    (λ c. search needs)
+    (λ c. omega arith)
+    (λ c. omega arith)
     loop-again
-    loop-less-2
+    (λ c. omega arith)
     loop-again-2
     returns)

@@ -1,4 +1,4 @@
--- `slices::place_of` meets its contract. Assumes nothing.
+-- `slices::place_of`: t counts the keys before i that are less than g; the keys rise, so that these are the first ones, and their count is the place. Assumes nothing.
 use Prim.Native.Nat.{_+_, _-_}
 use mathlib.Core.Path.{_≡_}
 use native.Mathlib.Omega.{arith}
@@ -14,38 +14,14 @@ Inv-loop keys g last t₀ i₀ t i = Counted keys g t i × (last + 1 ≡ length 
 abbrev μ-loop : tie.MeasureT-loop
 μ-loop keys g last t₀ i₀ t i = length keys - i
 
-sub-last : tie.Need-sub-last Inv-loop μ-loop
-sub-last c = omega arith
-
 loop-holds : tie.Need-loop-holds Inv-loop μ-loop
 loop-holds c = (count-start _ _ (c .pre .0), omega arith)
-
-mul-k : tie.Need-mul-k Inv-loop μ-loop
-mul-k c = search needs
-
-shared-slice-read-k : tie.Need-shared-slice-read-k Inv-loop μ-loop
-shared-slice-read-k c = omega arith
-
-add-i : tie.Need-add-i Inv-loop μ-loop
-add-i c = omega arith
-
-add-t : tie.Need-add-t Inv-loop μ-loop
-add-t c = omega (arith, c .before .before .before .loop .inv .0 .is)
-
-loop-less : tie.Need-loop-less Inv-loop μ-loop
-loop-less c = omega arith
 
 loop-again : tie.Need-loop-again Inv-loop μ-loop
 loop-again c = (count-less _ _ _ _ (c .before .before .before .before .pre .2) (omega arith) (c .before .before .before .loop .inv .0) (c .if1 .taken), omega arith)
 
-loop-less-2 : tie.Need-loop-less-2 Inv-loop μ-loop
-loop-less-2 c = omega arith
-
 loop-again-2 : tie.Need-loop-again-2 Inv-loop μ-loop
 loop-again-2 c = (count-not _ _ _ _ (c .before .before .before .before .pre .2) (omega arith) (c .before .before .before .loop .inv .0) (c .if1 .left), omega arith)
-
-cast-result : tie.Need-cast-result Inv-loop μ-loop
-cast-result c = omega (arith, c .before .loop .inv .0 .at, c .before .loop .inv .0 .is)
 
 returns : tie.Need-returns Inv-loop μ-loop
 returns c = count-end _ _ _ _ (omega arith) (c .before .loop .inv .0)
@@ -56,15 +32,15 @@ place-of-spec =
     (tie.spec
     Inv-loop
     μ-loop
-    sub-last
+    (λ c. omega arith)
     loop-holds
-    mul-k
-    shared-slice-read-k
-    add-i
-    add-t
-    loop-less
+    (λ c. search needs)
+    (λ c. omega arith)
+    (λ c. omega arith)
+    (λ c. omega arith)
+    (λ c. omega arith)
     loop-again
-    loop-less-2
+    (λ c. omega arith)
     loop-again-2
-    cast-result
+    (λ c. omega arith)
     returns)

@@ -1,12 +1,14 @@
--- `slices::surveyed` meets its contract. Assumes nothing.
-use Prim.Native.Nat.{_-_}
+-- `slices::surveyed`: after i partitions: the flag as in `strictly_rising`, their slots, and of those whose fence is less than g the count and the slots.
+-- Numbers of 32 bits, at most 64 of them, cannot overflow the sums. Since the fences rise, the count is the place and the slots are its start. Assumes nothing.
+use Prim.Native.Nat.{_+_, _-_}
 use native.Mathlib.Omega.{arith}
 use borrow.Author.Needs.{needs}
 use mathlib.Core.Logic.{⊎-elim}
 use mathlib.Core.Bool.{true, false}
 use borrow.Author.Tests.{lt-ltb, le-ltb}
+use lib.Dec.{ltb}
 use lib.ListN.{length}
-use Rattle.slices.proofs.Flags.{chain-by}
+use Rattle.slices.proofs.Flags.{Chained, chain-by}
 use Rattle.slices.proofs.Places.{Surveying, survey-start, survey-less, survey-not, survey-end}
 use Rattle.slices.proofs.surveyed.Statement.{statement}
 use Rattle.slices.proofs.surveyed.Tie as tie
@@ -20,89 +22,46 @@ abbrev μ-loop : tie.MeasureT-loop
 loop-holds : tie.Need-loop-holds Inv-loop μ-loop
 loop-holds c = survey-start _ _ _ (omega arith)
 
-add-loop : tie.Need-add-loop Inv-loop μ-loop
-add-loop c = omega arith
-
-mul-n : tie.Need-mul-n Inv-loop μ-loop
-mul-n c = search needs
-
-shared-slice-read-n : tie.Need-shared-slice-read-n Inv-loop μ-loop
-shared-slice-read-n c = omega arith
-
 cast-n : tie.Need-cast-n Inv-loop μ-loop
 cast-n c = omega (arith, c .shared-slice-known .given (c .before .before .loop .i))
 
-mul-x : tie.Need-mul-x Inv-loop μ-loop
-mul-x c = search needs
-
-shared-slice-read-x : tie.Need-shared-slice-read-x Inv-loop μ-loop
-shared-slice-read-x c = omega arith
-
-add-i : tie.Need-add-i Inv-loop μ-loop
-add-i c = omega arith
-
-mul-z : tie.Need-mul-z Inv-loop μ-loop
-mul-z c = search needs
-
-shared-slice-read-z : tie.Need-shared-slice-read-z Inv-loop μ-loop
-shared-slice-read-z c = omega arith
-
 add-used : tie.Need-add-used Inv-loop μ-loop
-add-used c = omega (arith, c .before .before .before .before .loop .inv .used-most, c .before .before .shared-slice-known .given (c .before .before .before .before .loop .i))
-
-add-target : tie.Need-add-target Inv-loop μ-loop
-add-target c = omega (arith, c .before .before .before .before .before .before .loop .inv .target-most)
+add-used c = let n = c .before .before in omega (arith, n .shared-slice-known .given (n .before .before .loop .i))
 
 add-start : tie.Need-add-start Inv-loop μ-loop
 add-start c =
-    let b₁ = c .before .before .before .before in
-    let b₂ = b₁ .before .before in
-    omega (arith, b₂ .loop .inv .start-most, b₁ .shared-slice-known .given (b₂ .loop .i))
+    let n = c .before .before .before .before in
+    omega (arith, n .shared-slice-known .given (n .before .before .loop .i))
 
-loop-less : tie.Need-loop-less Inv-loop μ-loop
-loop-less c = omega arith
+abbrev at : tie.Joined1 Inv-loop μ-loop → tie.At-loop Inv-loop μ-loop
+at c = c .before .before .before .before .before
+
+-- the flag after a turn
+flag : (c : tie.Joined1 Inv-loop μ-loop) → let a = at c .before .args in Chained ltb (a .fences .now) (c .if1 .rising) (at c .loop .i + 1)
+flag c =
+    let more = c .before .before .before .before .loop-test .taken in
+    let chained = at c .loop .inv .chained in
+    ⊎-elim (λ v. chain-by _ _ _ _ more chained false _ (le-ltb _ _ (v .0 .taken)) (v .1)) (λ v. chain-by _ _ _ _ more chained true _ (lt-ltb _ _ (v .0 .left)) (v .1)) (c .if1 .came)
 
 loop-again : tie.Need-loop-again Inv-loop μ-loop
 loop-again c =
-    let b₁ = c .before .before .before .before in
-    let b₂ = b₁ .before in
-    let b₃ = b₂ .before in
-    let b₄ = b₃ .before in
-    let l = b₃ .loop in
-    survey-less _ _ _ _ _ _ _ _ (b₂ .loop-test .taken) (b₄ .pre .2) (l .inv) (c .before .if1 .rising)
-    (⊎-elim (λ v. chain-by _ _ _ _ (b₂ .loop-test .taken) (l .inv .chained) false _ (le-ltb _ _ (v .0 .taken)) (v .1))
-    (λ v. chain-by _ _ _ _ (b₂ .loop-test .taken) (l .inv .chained) true _ (lt-ltb _ _ (v .0 .left)) (v .1)) (c .before .if1 .came)) (omega (arith, b₁ .shared-slice-known .given (l .i)))
-    (c .if2 .taken)
-
-loop-less-2 : tie.Need-loop-less-2 Inv-loop μ-loop
-loop-less-2 c = omega arith
+    let j = c .before in
+    let l = at j in
+    let n = j .before .before .before in
+    survey-less _ _ _ _ _ _ _ _ (n .before .loop-test .taken) (l .before .pre .2) (l .loop .inv) (j .if1 .rising) (flag j) (omega (arith, n .shared-slice-known .given (l .loop .i))) (c .if2 .taken)
 
 loop-again-2 : tie.Need-loop-again-2 Inv-loop μ-loop
 loop-again-2 c =
-    let b₁ = c .before .before .before .before in
-    let b₂ = b₁ .before in
-    let b₃ = b₂ .before in
-    let b₄ = b₃ .before in
-    let l = b₃ .loop in
-    survey-not _ _ _ _ _ _ _ _ (b₂ .loop-test .taken) (b₄ .pre .2) (l .inv) (c .before .if1 .rising)
-    (⊎-elim (λ v. chain-by _ _ _ _ (b₂ .loop-test .taken) (l .inv .chained) false _ (le-ltb _ _ (v .0 .taken)) (v .1))
-    (λ v. chain-by _ _ _ _ (b₂ .loop-test .taken) (l .inv .chained) true _ (lt-ltb _ _ (v .0 .left)) (v .1)) (c .before .if1 .came)) (omega (arith, b₁ .shared-slice-known .given (l .i)))
-    (c .if2 .left)
-
-mul-t19 : tie.Need-mul-t19 Inv-loop μ-loop
-mul-t19 c = search needs
-
-shared-slice-read-t21 : tie.Need-shared-slice-read-t21 Inv-loop μ-loop
-shared-slice-read-t21 c = omega (arith, c .before .before .loop .inv .at)
+    let j = c .before in
+    let l = at j in
+    let n = j .before .before .before in
+    survey-not _ _ _ _ _ _ _ _ (n .before .loop-test .taken) (l .before .pre .2) (l .loop .inv) (j .if1 .rising) (flag j) (omega (arith, n .shared-slice-known .given (l .loop .i))) (c .if2 .left)
 
 cast-t22 : tie.Need-cast-t22 Inv-loop μ-loop
 cast-t22 c = omega (arith, c .shared-slice-known4 .given (c .before .before .loop .i))
 
 add-t23 : tie.Need-add-t23 Inv-loop μ-loop
-add-t23 c = omega (arith, c .before .before .loop .inv .at, c .before .before .loop .inv .used-most, c .shared-slice-known4 .given (c .before .before .loop .i))
-
-cast-t24 : tie.Need-cast-t24 Inv-loop μ-loop
-cast-t24 c = omega (arith, c .before .before .loop .inv .at, c .before .before .loop .inv .target-most)
+add-t23 c = omega (arith, c .shared-slice-known4 .given (c .before .before .loop .i))
 
 returns : tie.Need-returns Inv-loop μ-loop
 returns c = survey-end _ _ _ _ _ _ _ _ (c .before .loop-test .left) (c .before .before .before .pre .2) (c .before .before .loop .inv)
@@ -114,25 +73,25 @@ surveyed-spec =
     Inv-loop
     μ-loop
     loop-holds
-    add-loop
-    mul-n
-    shared-slice-read-n
+    (λ c. omega arith)
+    (λ c. search needs)
+    (λ c. omega arith)
     cast-n
-    mul-x
-    shared-slice-read-x
-    add-i
-    mul-z
-    shared-slice-read-z
+    (λ c. search needs)
+    (λ c. omega arith)
+    (λ c. omega arith)
+    (λ c. search needs)
+    (λ c. omega arith)
     add-used
-    add-target
+    (λ c. omega arith)
     add-start
-    loop-less
+    (λ c. omega arith)
     loop-again
-    loop-less-2
+    (λ c. omega arith)
     loop-again-2
-    mul-t19
-    shared-slice-read-t21
+    (λ c. search needs)
+    (λ c. omega arith)
     cast-t22
     add-t23
-    cast-t24
+    (λ c. omega arith)
     returns)

@@ -1,4 +1,4 @@
--- `slices::total_all` meets its contract. Assumes nothing.
+-- `slices::total_all`: what was added, and what the records from i on add, is the whole; the values are in range, so that the sums stay small (`Running`, with no test). Assumes nothing.
 use Prim.Native.Nat.{_-_}
 use mathlib.Core.Path.{refl, ap, _∙_}
 use native.Mathlib.Omega.{arith}
@@ -18,29 +18,14 @@ abbrev μ-loop : tie.MeasureT-loop
 loop-holds : tie.Need-loop-holds Inv-loop μ-loop
 loop-holds c = running-start _ _ _ _
 
-mul-a : tie.Need-mul-a Inv-loop μ-loop
-mul-a c = search needs
-
-shared-slice-read-a : tie.Need-shared-slice-read-a Inv-loop μ-loop
-shared-slice-read-a c = omega (arith, c .before .before .before .pre .even .weights)
-
 cast-a : tie.Need-cast-a Inv-loop μ-loop
 cast-a c = omega (arith, c .shared-slice-known .given (c .before .before .loop .i))
-
-mul-b : tie.Need-mul-b Inv-loop μ-loop
-mul-b c = search needs
-
-shared-slice-read-b : tie.Need-shared-slice-read-b Inv-loop μ-loop
-shared-slice-read-b c = omega (arith, c .before .before .before .before .pre .even .yields)
 
 cast-b : tie.Need-cast-b Inv-loop μ-loop
 cast-b c = omega (arith, c .shared-slice-known2 .given (c .before .before .before .loop .i))
 
 mul-c : tie.Need-mul-c Inv-loop μ-loop
 mul-c c = omega (arith, modest _ _ _ (c .before .before .before .loop .i) (c .before .before .before .before .pre) .oil)
-
-add-i : tie.Need-add-i Inv-loop μ-loop
-add-i c = omega arith
 
 add-weight : tie.Need-add-weight Inv-loop μ-loop
 add-weight c =
@@ -53,9 +38,6 @@ add-oil c =
     let b₁ = c .before .before .before in
     let b₂ = b₁ .before in
     omega (arith, b₂ .pre .few, b₁ .loop .inv .little, b₁ .loop .inv .at, modest _ _ _ (b₁ .loop .i) (b₂ .pre) .oil)
-
-loop-less : tie.Need-loop-less Inv-loop μ-loop
-loop-less c = omega arith
 
 loop-again : tie.Need-loop-again Inv-loop μ-loop
 loop-again c = running-take any _ _ _ (c .before .before .before .before .pre) _ _ _ _ (c .before .before .loop-test .taken) (c .before .before .before .loop .inv) refl
@@ -73,16 +55,16 @@ total-all-spec =
     Inv-loop
     μ-loop
     loop-holds
-    mul-a
-    shared-slice-read-a
+    (λ c. search needs)
+    (λ c. omega arith)
     cast-a
-    mul-b
-    shared-slice-read-b
+    (λ c. search needs)
+    (λ c. omega arith)
     cast-b
     mul-c
-    add-i
+    (λ c. omega arith)
     add-weight
     add-oil
-    loop-less
+    (λ c. omega arith)
     loop-again
     returns)

@@ -1,4 +1,4 @@
--- `slices::total_tested` meets its contract. Assumes nothing.
+-- `slices::total_tested`: what was added, and what the matching records from i on add, is the whole (`Running`); each of the three ways through a turn keeps that. Assumes nothing.
 use Prim.Native.Nat.{_-_}
 use native.Mathlib.Omega.{arith}
 use borrow.Author.Needs.{needs}
@@ -17,41 +17,14 @@ abbrev μ-loop : tie.MeasureT-loop
 loop-holds : tie.Need-loop-holds Inv-loop μ-loop
 loop-holds c = running-start _ _ _ _
 
-mul-x : tie.Need-mul-x Inv-loop μ-loop
-mul-x c = search needs
-
-shared-slice-read-x : tie.Need-shared-slice-read-x Inv-loop μ-loop
-shared-slice-read-x c = omega arith
-
-mul-a : tie.Need-mul-a Inv-loop μ-loop
-mul-a c = search needs
-
-shared-slice-read-a : tie.Need-shared-slice-read-a Inv-loop μ-loop
-shared-slice-read-a c = omega (arith, c .before .before .before .before .pre .even .weights)
-
 cast-a : tie.Need-cast-a Inv-loop μ-loop
 cast-a c = omega (arith, c .shared-slice-known2 .given (c .before .before .before .loop .i))
-
-mul-b : tie.Need-mul-b Inv-loop μ-loop
-mul-b c = search needs
-
-shared-slice-read-b : tie.Need-shared-slice-read-b Inv-loop μ-loop
-shared-slice-read-b c = omega (arith, c .before .before .before .before .before .pre .even .yields)
 
 cast-b : tie.Need-cast-b Inv-loop μ-loop
 cast-b c = omega (arith, c .shared-slice-known3 .given (c .before .before .before .before .loop .i))
 
 mul-c : tie.Need-mul-c Inv-loop μ-loop
 mul-c c = omega (arith, modest _ _ _ (c .before .before .before .before .loop .i) (c .before .before .before .before .before .pre) .oil)
-
-add-i : tie.Need-add-i Inv-loop μ-loop
-add-i c = omega arith
-
-add-records : tie.Need-add-records Inv-loop μ-loop
-add-records c =
-    let b₁ = c .before .before .before .before .before .before in
-    let b₂ = b₁ .before in
-    omega (arith, b₂ .pre .few, b₁ .loop .inv .few, b₁ .loop .inv .at)
 
 add-weight : tie.Need-add-weight Inv-loop μ-loop
 add-weight c =
@@ -65,9 +38,6 @@ add-oil c =
     let b₂ = b₁ .before in
     omega (arith, b₂ .pre .few, b₁ .loop .inv .little, b₁ .loop .inv .at, modest _ _ _ (b₁ .loop .i) (b₂ .pre) .oil)
 
-loop-less : tie.Need-loop-less Inv-loop μ-loop
-loop-less c = omega arith
-
 loop-again : tie.Need-loop-again Inv-loop μ-loop
 loop-again c =
     let b₁ = c .before .before .before .before .before in
@@ -75,18 +45,12 @@ loop-again c =
     let b₃ = b₂ .before in
     running-take _ _ _ _ (b₃ .pre) _ _ _ _ (b₁ .loop-test .taken) (b₂ .loop .inv) (is-inside _ _ _ (c .before .if1 .taken) (c .if2 .taken))
 
-loop-less-2 : tie.Need-loop-less-2 Inv-loop μ-loop
-loop-less-2 c = omega arith
-
 loop-again-2 : tie.Need-loop-again-2 Inv-loop μ-loop
 loop-again-2 c =
     let b₁ = c .before .before .before .before .before in
     let b₂ = b₁ .before in
     let b₃ = b₂ .before in
     running-pass _ _ _ _ (b₃ .pre) _ _ _ _ (b₁ .loop-test .taken) (b₂ .loop .inv) (is-above _ _ _ (c .before .if1 .taken) (c .if2 .left))
-
-loop-less-3 : tie.Need-loop-less-3 Inv-loop μ-loop
-loop-less-3 c = omega arith
 
 loop-again-3 : tie.Need-loop-again-3 Inv-loop μ-loop
 loop-again-3 c =
@@ -108,23 +72,23 @@ total-tested-spec =
     Inv-loop
     μ-loop
     loop-holds
-    mul-x
-    shared-slice-read-x
-    mul-a
-    shared-slice-read-a
+    (λ c. search needs)
+    (λ c. omega arith)
+    (λ c. search needs)
+    (λ c. omega arith)
     cast-a
-    mul-b
-    shared-slice-read-b
+    (λ c. search needs)
+    (λ c. omega arith)
     cast-b
     mul-c
-    add-i
-    add-records
+    (λ c. omega arith)
+    (λ c. omega arith)
     add-weight
     add-oil
-    loop-less
+    (λ c. omega arith)
     loop-again
-    loop-less-2
+    (λ c. omega arith)
     loop-again-2
-    loop-less-3
+    (λ c. omega arith)
     loop-again-3
     returns)
