@@ -1,17 +1,16 @@
 -- Tests one after the other, and lists of checks answered by the first "no". Assumes nothing.
 use Prim.Native.Nat.{ℕ, _≤_, _<_}
-use mathlib.Core.Path.{_≡_, refl, ap, _∙_}
+use mathlib.Core.Path.{_≡_, refl, sym}
 use mathlib.Core.Bool.{Bool, true, false, cond, _&&_}
 use mathlib.Core.List.{List, [], _∷_, _++_}
-use native.Mathlib.Omega.{arith}
 use borrow.Author.Tests.{lt-leb, le-leb, eq-eqb, ne-eqb}
 use lib.Dec.{leb}
 use lib.ListN.{length}
-use Rattle.model.specs.Bounds.{mostWeight, mostYield}
 use Rattle.model.specs.Lists.{every}
 use Rattle.model.specs.Checks.{Check, ask, firstFailed}
 use Rattle.model.specs.Deliveries.{inRange, rows}
 use Rattle.model.specs.Blocks.{slotsOk, slicesOk}
+use Rattle.model.proofs.Deliveries.{values-rows}
 use Rattle.checks.specs.Values.{allValuesOk}
 
 pub and-no : (a b : Bool) → a ≡ false → false ≡ a && b
@@ -46,7 +45,8 @@ unfolding firstFailed
 failed-first [] bs h = absurd (h refl)
 failed-first (c ∷ cs) bs h = go (c .holds) refl h (failed-first cs bs)
   where
-    go : (b : Bool) → c .holds ≡ b → (cond b (firstFailed cs) (c .number) ≡ 0 → ⊥) → ((firstFailed cs ≡ 0 → ⊥) → firstFailed cs ≡ firstFailed (cs ++ bs)) → cond b (firstFailed cs) (c .number) ≡ cond b (firstFailed (cs ++ bs)) (c .number)
+    go : (b : Bool) → c .holds ≡ b → (cond b (firstFailed cs) (c .number) ≡ 0 → ⊥) → ((firstFailed cs ≡ 0 → ⊥) → firstFailed cs ≡ firstFailed (cs ++ bs))
+        → cond b (firstFailed cs) (c .number) ≡ cond b (firstFailed (cs ++ bs)) (c .number)
     go true e n ih = ih n
     go false e n ih = refl
 
@@ -66,19 +66,5 @@ module _ (g w y : List ℕ) where
 
 -- Check 8: the rows are tested by their weights and their yields.
 
-and-cross : (a b p q : Bool) → a && p && (b && q) ≡ a && b && (p && q)
-and-cross true true p q = refl
-and-cross true false true q = refl
-and-cross true false false q = refl
-and-cross false b p q = refl
-
 pub every-rows : (g w y : List ℕ) → length w ≡ length g → length y ≡ length g → allValuesOk w y ≡ every inRange (rows g w y)
-unfolding every rows
-every-rows [] [] [] p q = refl
-every-rows [] (b ∷ w) y p q = absurd (omega arith)
-every-rows [] [] (d ∷ y) p q = absurd (omega arith)
-every-rows (a ∷ g) [] y p q = absurd (omega arith)
-every-rows (a ∷ g) (b ∷ w) [] p q = absurd (omega arith)
-every-rows (a ∷ g) (b ∷ w) (d ∷ y) p q =
-    and-cross (leb b mostWeight) (leb d mostYield) (every (λ (n : ℕ). leb n mostWeight) w) (every (λ (n : ℕ). leb n mostYield) y)
-    ∙ ap (λ (t : Bool). leb b mostWeight && leb d mostYield && t) (every-rows g w y (omega arith) (omega arith))
+every-rows g w y p q = sym (values-rows g w y p q)

@@ -1,4 +1,4 @@
--- `checks::block_length_ok` meets its contract. Assumes nothing.
+-- `checks::block_length_ok`: below 1 the first test of `blockLengthOk` fails, and else the second is the answer. Assumes nothing.
 use Rattle.checks.proofs.Answers.{below, up-to}
 use Rattle.model.specs.Blocks.{blockLengthOk}
 use Rattle.checks.proofs.block_length_ok.Statement.{statement}

@@ -1,4 +1,4 @@
--- `checks::in_range` meets its contract. Assumes nothing.
+-- `checks::in_range`: above the limit the weight's test of `inRange` fails, and else the yield's is the answer. Assumes nothing.
 use borrow.Author.Tests.{lt-leb, le-leb}
 use Rattle.checks.proofs.Answers.{and-no, and-yes}
 use Rattle.checks.proofs.in_range.Statement.{statement}

@@ -1,4 +1,4 @@
--- `checks::slots_ok` meets its contract. Assumes nothing.
+-- `checks::slots_ok`: below 1 the first test of `slotsOk` fails, and else the second is the answer. Assumes nothing.
 use Rattle.checks.proofs.Answers.{below, up-to}
 use Rattle.model.specs.Blocks.{slotsOk}
 use Rattle.checks.proofs.slots_ok.Statement.{statement}
