@@ -1,13 +1,14 @@
 -- A scan of partitions, one after the other. Assumes nothing.
 use Prim.Native.Nat.{ℕ, _+_, _-_, _≤_, _<_}
 use mathlib.Core.Path.{_≡_, refl, sym, ap, _∙_, subst}
-use mathlib.Core.Bool.{Bool, true, false, cond, _&&_}
+use mathlib.Core.Bool.{Bool, true, false, cond}
 use mathlib.Core.List.{List, [], _∷_, _++_, append-nil, map, map-append, flatten}
 use native.Mathlib.Omega.{arith}
 use native.Mathlib.Numerals.{add-one}
 use lib.ListN.{length, getD, take, drop, length-take, length-drop}
 use lib.Seq.{take-suc, getD-drop}
 use Rattle.model.specs.declared.Delivery.{Delivery}
+use Rattle.model.specs.declared.Totals.{Totals}
 use Rattle.model.specs.Bounds.{blockLimit, mostSlots}
 use Rattle.model.specs.Lists.{sumOf, every, keep}
 use Rattle.model.specs.Deliveries.{plusTotals, inRange, noTotals, totalsOf, totalsBetween, rows}
@@ -21,6 +22,20 @@ use Rattle.scan.specs.declared.Scan.{Scan}
 use Rattle.slices.proofs.Sums.{totals-joined, totals-light}
 use Rattle.scan.specs.Scans.{badScan, scanMore, recordsIn, scanOf, Light}
 use Rattle.scan.proofs.Blocks.{blocks-most}
+use Rattle.scan.proofs.Judging.{Answers, judged-on}
+
+-- a scan's answers, with totals and blocks
+abbrev scans : Answers (Totals × ℕ) Scan
+scans =
+    record {
+      flag = λ (s : Scan). s .good;
+      value = λ (s : Scan). (s .totals, s .blocks);
+      yes = λ (v : Totals × ℕ). record { good = true; totals = v .0; blocks = v .1 };
+      no = badScan;
+      flag-yes = λ (v : Totals × ℕ). refl;
+      flag-no = refl;
+      value-yes = λ (v : Totals × ℕ). refl;
+    }
 
 -- Partitions, one after the other.
 
@@ -55,24 +70,10 @@ module _ (b : ℕ) (ns : List ℕ) (p lo hi : ℕ) (ds : List Delivery) where
       → scanOf b ns p (n + 1) lo hi ds ≡ scanMore b lo hi (scanOf b ns p n lo hi ds) (part (p + n) (parts ns ds))
   unfolding scanOf scanMore
   scan-next n h room =
-      let x : List Delivery = recordsIn ns p n ds in
-      let y : List Delivery = part (p + n) (parts ns ds) in
-      rw (records-next n h, every-joined, totals-joined, blocks-next n h, sym (length-part (p + n) ns ds h room)) (go (every inRange x) (every inRange y))
-    where
-      go : (s t : Bool)
-          → cond (s && t) (record {
-            good = true;
-            totals = plusTotals (totalsBetween lo hi (recordsIn ns p n ds)) (totalsBetween lo hi (part (p + n) (parts ns ds)));
-            blocks = sumOf (map (blocksOf b) (take n (drop p ns))) + blocksOf b (length (part (p + n) (parts ns ds)));
-          }) badScan
-          ≡ (let q : Scan = cond s (record { good = true; totals = totalsBetween lo hi (recordsIn ns p n ds); blocks = sumOf (map (blocksOf b) (take n (drop p ns))) }) badScan in
-          cond (q .good && t) (record {
-            good = true;
-            totals = plusTotals (q .totals) (totalsBetween lo hi (part (p + n) (parts ns ds)));
-            blocks = q .blocks + blocksOf b (length (part (p + n) (parts ns ds)));
-          }) badScan)
-      go true t = refl
-      go false t = refl
+      rw (records-next n h, every-joined, totals-joined, blocks-next n h, sym (length-part (p + n) ns ds h room))
+      (judged-on scans (every inRange (recordsIn ns p n ds)) (every inRange (part (p + n) (parts ns ds)))
+      (totalsBetween lo hi (recordsIn ns p n ds), sumOf (map (blocksOf b) (take n (drop p ns))))
+      (λ (v : Totals × ℕ). (plusTotals (v .0) (totalsBetween lo hi (part (p + n) (parts ns ds))), v .1 + blocksOf b (length (part (p + n) (parts ns ds))))))
 
 blocks-sum : (b : ℕ) (l : List ℕ) → 1 ≤ b → sumOf (map (blocksOf b) l) ≤ sumOf l + length l
 unfolding sumOf

@@ -1,4 +1,4 @@
--- `scan::bad_scan` meets its contract. Assumes nothing.
+-- `scan::bad_scan`: its totals are those of `Totals::none`. Assumes nothing.
 use mathlib.Core.Path.{ap}
 use borrow.Author.Needs.{needs}
 use mathlib.Core.Bool.{false}
@@ -6,11 +6,8 @@ use Rattle.model.specs.declared.Totals.{Totals}
 use Rattle.scan.proofs.bad_scan.Statement.{statement}
 use Rattle.scan.proofs.bad_scan.Tie as tie
 
-none-requires : tie.Need-none-requires
-none-requires c κs = search needs
-
 returns : tie.Need-returns
 returns c = ap (λ (t : Totals). record { good = false; totals = t; blocks = 0 }) (c .none .ensures)
 
 pub bad-scan-spec : {M : Type 1} → statement M
-bad-scan-spec = tie.close (tie.spec none-requires returns)
+bad-scan-spec = tie.close (tie.spec (λ c κs. search needs) returns)

@@ -1,8 +1,10 @@
--- `scan::scan_parts` meets its contract. Assumes nothing.
-use Prim.Native.Nat.{_+_, _-_}
+-- `scan::scan_parts`: where the loop stands at partition i, the scan is that of the partitions from the first to the one before i, and `at` is where i starts.
+-- Each partition ends within the slices, since the lengths sum to no more (`stops`). Assumes nothing.
+use Prim.Native.Nat.{_+_, _-_, _≤_}
+use mathlib.Core.Path.{_≡_}
 use native.Mathlib.Omega.{arith}
 use borrow.Author.Needs.{needs}
-use lib.ListN.{getD, length-take, length-drop}
+use lib.ListN.{length, getD, length-take, length-drop}
 use Rattle.model.specs.Deliveries.{rows}
 use Rattle.model.proofs.Parts.{stop-le}
 use Rattle.model.proofs.Deliveries.{length-rows}
@@ -17,147 +19,50 @@ Inv-loop g w y lens from to start block lo hi at₀ i₀ s₀ at i s = Scanning 
 abbrev μ-loop : tie.MeasureT-loop
 μ-loop g w y lens from to start block lo hi at₀ i₀ s₀ at i s = to + 1 - i
 
-none-requires : tie.Need-none-requires Inv-loop μ-loop
-none-requires c κs = search needs
+abbrev start : tie.At-loop Inv-loop μ-loop → tie.Start Inv-loop μ-loop
+start c = c .before .before .before .before .before .before
+
+stops : (c : tie.In-loop Inv-loop μ-loop) → let l = c .before .loop in let a = start (c .before) .args in l .at + getD (a .lens .now) (l .i) 0 ≤ length (a .g .now)
+stops c = let l = c .before .loop in omega (arith, l .inv .here, stop-le (start (c .before) .args .lens .now) (l .i) (omega arith))
+
+size : (c : tie.At-loop Inv-loop μ-loop) → let a = start c .args in length (rows (a .g .now) (a .w .now) (a .y .now)) ≡ length (a .g .now)
+size c = let a = start c .args in let e = start c .pre .1 .1 in length-rows (a .g .now) (a .w .now) (a .y .now) (e .weights) (e .yields)
 
 loop-holds : tie.Need-loop-holds Inv-loop μ-loop
 loop-holds c =
-    let b = c .before .before .before .before .before in
-    let g = b .args in
-    rw (c .none .ensures) (scanning-start (g .block) (g .lens .now) (g .from) (g .to) (g .lo) (g .hi) (rows (g .g .now) (g .w .now) (g .y .now)) (g .start) (omega arith) (b .pre .0 .5))
-
-mul-e : tie.Need-mul-e Inv-loop μ-loop
-mul-e c = search needs
-
-shared-slice-read-e : tie.Need-shared-slice-read-e Inv-loop μ-loop
-shared-slice-read-e c = omega (arith, c .before .before .loop .inv .till)
+    let s = c .before .before .before .before .before in
+    let a = s .args in
+    rw (c .none .ensures) (scanning-start (a .block) (a .lens .now) (a .from) (a .to) (a .lo) (a .hi) (rows (a .g .now) (a .w .now) (a .y .now)) (a .start) (omega arith) (s .pre .0 .5))
 
 cast-e : tie.Need-cast-e Inv-loop μ-loop
 cast-e c = omega (arith, c .shared-slice-known5 .given (c .before .before .loop .i))
 
-add-e : tie.Need-add-e Inv-loop μ-loop
-add-e c = let g = c .before .before .before .before .before .before .before .before .args in let w = c .before .before .loop in omega (arith, w .inv .here, stop-le (g .lens .now) (w .i) (omega arith))
-
-mul-scan-more : tie.Need-mul-scan-more Inv-loop μ-loop
-mul-scan-more c =
-    let b = c .before .before .before .before .before .before .before .before in
-    let g = b .args in
-    let w = c .before .before .loop in
-    omega (arith, w .inv .here, stop-le (g .lens .now) (w .i) (omega arith))
-
-sub-scan-more : tie.Need-sub-scan-more Inv-loop μ-loop
-sub-scan-more c =
-    let b = c .before .before .before .before .before .before .before .before in
-    let g = b .args in
-    let w = c .before .before .loop in
-    omega (arith, w .inv .here, stop-le (g .lens .now) (w .i) (omega arith))
-
-part-scan-more-start : tie.Need-part-scan-more-start Inv-loop μ-loop
-part-scan-more-start c =
-    let b = c .before .before .before .before .before .before .before .before in
-    let g = b .args in
-    let w = c .before .before .loop in
-    omega (arith, w .inv .here, stop-le (g .lens .now) (w .i) (omega arith))
-
-part-scan-more-end : tie.Need-part-scan-more-end Inv-loop μ-loop
-part-scan-more-end c =
-    let b = c .before .before .before .before .before .before .before .before in
-    let g = b .args in
-    let w = c .before .before .loop in
-    omega (arith, w .inv .here, stop-le (g .lens .now) (w .i) (omega arith))
-
-mul-scan-more-2 : tie.Need-mul-scan-more-2 Inv-loop μ-loop
-mul-scan-more-2 c =
-    let b = c .before .before .before .before .before .before .before .before .before in
-    let g = b .args in
-    let w = c .before .before .before .loop in
-    omega (arith, w .inv .here, stop-le (g .lens .now) (w .i) (omega arith))
-
-sub-scan-more-2 : tie.Need-sub-scan-more-2 Inv-loop μ-loop
-sub-scan-more-2 c =
-    let b = c .before .before .before .before .before .before .before .before .before in
-    let g = b .args in
-    let w = c .before .before .before .loop in
-    omega (arith, w .inv .here, stop-le (g .lens .now) (w .i) (omega arith))
-
-part-scan-more-start-2 : tie.Need-part-scan-more-start-2 Inv-loop μ-loop
-part-scan-more-start-2 c =
-    let b = c .before .before .before .before .before .before .before .before .before in
-    let g = b .args in
-    let w = c .before .before .before .loop in
-    omega (arith, w .inv .here, stop-le (g .lens .now) (w .i) (omega arith))
-
-part-scan-more-end-2 : tie.Need-part-scan-more-end-2 Inv-loop μ-loop
-part-scan-more-end-2 c =
-    let b = c .before .before .before .before .before .before .before .before .before in
-    let g = b .args in
-    let w = c .before .before .before .loop in
-    omega (arith, w .inv .here, stop-le (g .lens .now) (w .i) (omega arith))
-
-mul-scan-more-3 : tie.Need-mul-scan-more-3 Inv-loop μ-loop
-mul-scan-more-3 c =
-    let b₁ = c .before .before .before .before in
-    let b₂ = b₁ .before .before .before .before .before .before in
-    let g = b₂ .args in
-    let w = b₁ .loop in
-    omega (arith, w .inv .here, stop-le (g .lens .now) (w .i) (omega arith))
-
-sub-scan-more-3 : tie.Need-sub-scan-more-3 Inv-loop μ-loop
-sub-scan-more-3 c =
-    let b₁ = c .before .before .before .before in
-    let b₂ = b₁ .before .before .before .before .before .before in
-    let g = b₂ .args in
-    let w = b₁ .loop in
-    omega (arith, w .inv .here, stop-le (g .lens .now) (w .i) (omega arith))
-
-part-scan-more-start-3 : tie.Need-part-scan-more-start-3 Inv-loop μ-loop
-part-scan-more-start-3 c =
-    let b₁ = c .before .before .before .before in
-    let b₂ = b₁ .before .before .before .before .before .before in
-    let g = b₂ .args in
-    let w = b₁ .loop in
-    omega (arith, w .inv .here, stop-le (g .lens .now) (w .i) (omega arith))
-
-part-scan-more-end-3 : tie.Need-part-scan-more-end-3 Inv-loop μ-loop
-part-scan-more-end-3 c =
-    let b₁ = c .before .before .before .before in
-    let b₂ = b₁ .before .before .before .before .before .before in
-    let g = b₂ .args in
-    let w = b₁ .loop in
-    omega (arith, w .inv .here, stop-le (g .lens .now) (w .i) (omega arith))
-
 scan-more-requires : tie.Need-scan-more-requires Inv-loop μ-loop
 scan-more-requires c κs =
-    let g = c .before .before .before .before .before .before .before .before .before .before .before .args in
-    let w = c .before .before .before .before .before .loop in
-    let r = length-rows (g .g .now) (g .w .now) (g .y .now) (c .before .before .before .before .before .before .before .before .before .before .before .pre .1 .1 .weights)
-    (c .before .before .before .before .before .before .before .before .before .before .before .pre .1 .1 .yields) in
-    let e = even-part (g .g .now) (g .w .now) (g .y .now) (w .at + getD (g .lens .now) (w .i) 0 - w .at) (w .at)
-    (c .before .before .before .before .before .before .before .before .before .before .before .pre .1 .1) in
-    let l = scanning-light (g .block) (g .lens .now) (g .from) (g .to) (g .lo) (g .hi) (g .g .now) (g .w .now) (g .y .now) (w .at) (w .i) (w .s) (w .inv) (omega arith) (omega arith) (omega arith)
-    (omega arith) in
-    (simp (length-take, length-drop) (omega arith), e, omega arith, l)
-
-add-i : tie.Need-add-i Inv-loop μ-loop
-add-i c = let w = c .before .before .before .before .before .before .loop in omega (arith, w .inv .till)
-
-loop-less : tie.Need-loop-less Inv-loop μ-loop
-loop-less c = omega (arith, c .before .before .before .before .before .before .loop .inv .till)
+    let p = c .before .before .before .before .before in
+    let a = start p .args in
+    let l = p .loop in
+    let z = size p in (
+      simp (length-take, length-drop) (omega arith),
+      even-part (a .g .now) (a .w .now) (a .y .now) (l .at + getD (a .lens .now) (l .i) 0 - l .at) (l .at) (start p .pre .1 .1),
+      omega arith,
+      scanning-light (a .block) (a .lens .now) (a .from) (a .to) (a .lo) (a .hi) (a .g .now) (a .w .now) (a .y .now) (l .at) (l .i) (l .s) (l .inv) (omega arith) (omega arith)
+          (omega arith) (omega arith),
+    )
 
 loop-again : tie.Need-loop-again Inv-loop μ-loop
 loop-again c =
-    let g = c .before .before .before .before .before .before .before .before .before .before .before .before .args in
-    let w = c .before .before .before .before .before .before .loop in
-    let r = length-rows (g .g .now) (g .w .now) (g .y .now) (c .before .before .before .before .before .before .before .before .before .before .before .before .pre .1 .1 .weights)
-    (c .before .before .before .before .before .before .before .before .before .before .before .before .pre .1 .1 .yields) in
-    scanning-next (g .block) (g .lens .now) (g .from) (g .to) (g .lo) (g .hi) (g .g .now) (g .w .now) (g .y .now) (w .at) (w .i) (w .s) (w .inv) (omega arith) (omega arith) (omega arith) _
+    let p = c .before .before .before .before .before .before in
+    let a = start p .args in
+    let l = p .loop in
+    let z = size p in
+    scanning-next (a .block) (a .lens .now) (a .from) (a .to) (a .lo) (a .hi) (a .g .now) (a .w .now) (a .y .now) (l .at) (l .i) (l .s) (l .inv) (omega arith) (omega arith) (omega arith) _
     (c .scan-more .ensures)
 
 returns : tie.Need-returns Inv-loop μ-loop
 returns c =
-    let b = c .before .before .before .before .before .before .before in
-    let g = b .args in
-    scanning-end (g .block) (g .lens .now) (g .from) (g .to) (g .lo) (g .hi) (g .g .now) (g .w .now) (g .y .now) _ _ _ (c .before .loop .inv) (c .loop-test .left)
+    let a = start (c .before) .args in
+    scanning-end (a .block) (a .lens .now) (a .from) (a .to) (a .lo) (a .hi) (a .g .now) (a .w .now) (a .y .now) _ _ _ (c .before .loop .inv) (c .loop-test .left)
 
 pub scan-parts-spec : {M : Type 1} → statement M
 scan-parts-spec =
@@ -165,26 +70,26 @@ scan-parts-spec =
     (tie.spec
     Inv-loop
     μ-loop
-    none-requires
+    (λ c κs. search needs)
     loop-holds
-    mul-e
-    shared-slice-read-e
+    (λ c. search needs)
+    (λ c. omega arith)
     cast-e
-    add-e
-    mul-scan-more
-    sub-scan-more
-    part-scan-more-start
-    part-scan-more-end
-    mul-scan-more-2
-    sub-scan-more-2
-    part-scan-more-start-2
-    part-scan-more-end-2
-    mul-scan-more-3
-    sub-scan-more-3
-    part-scan-more-start-3
-    part-scan-more-end-3
+    (λ c. omega (arith, stops (c .before)))
+    (λ c. omega (arith, stops (c .before)))
+    (λ c. omega (arith, stops (c .before)))
+    (λ c. omega (arith, stops (c .before)))
+    (λ c. omega (arith, stops (c .before)))
+    (λ c. omega (arith, stops (c .before .before)))
+    (λ c. omega (arith, stops (c .before .before)))
+    (λ c. omega (arith, stops (c .before .before)))
+    (λ c. omega (arith, stops (c .before .before)))
+    (λ c. omega (arith, stops (c .before .before .before)))
+    (λ c. omega (arith, stops (c .before .before .before)))
+    (λ c. omega (arith, stops (c .before .before .before)))
+    (λ c. omega (arith, stops (c .before .before .before)))
     scan-more-requires
-    add-i
-    loop-less
+    (λ c. omega arith)
+    (λ c. omega arith)
     loop-again
     returns)
