@@ -16,16 +16,11 @@ use Rattle.model.proofs.Tests.{and-fst, and-snd, and-mk, same-test, eq→eqb}
 use Rattle.model.proofs.Places.{Placed, placed, placed-only}
 use Rattle.snapshot.specs.Texts.{lowOf, highOf}
 
-rising-tail : (a : ℕ) (l : List ℕ) → T (rising (a ∷ l)) → T (rising l)
-unfolding rising
-rising-tail a [] t = tt
-rising-tail a (b ∷ l) t = and-snd (ltb a b) (rising (b ∷ l)) t
-
 rises-next : (l : List ℕ) (i : ℕ) → T (rising l) → i + 1 < length l → getD l i 0 < getD l (i + 1) 0
 unfolding rising
 rises-next [] i t h = absurd (omega arith)
 rises-next (a ∷ []) i t h = absurd (omega arith)
-rises-next (a ∷ b ∷ l) zero t h = ltb→lt a b (and-fst (ltb a b) (rising (b ∷ l)) t)
+rises-next (a ∷ b ∷ l) zero t h = ltb→lt _ _ (and-fst (ltb a b) (rising (b ∷ l)) t)
 rises-next (a ∷ b ∷ l) (suc i) t h =
     let e : suc i + 1 ≡ suc (i + 1) = omega arith in
     rw e (rises-next (b ∷ l) i (and-snd (ltb a b) (rising (b ∷ l)) t) (omega arith))

@@ -5,16 +5,16 @@ use mathlib.Core.Path.{_≡_, refl, sym, ap, ap₂, _∙_}
 use mathlib.Core.Bool.{Bool, true, false, _&&_}
 use mathlib.Core.List.{List, [], _∷_, _++_}
 use native.Mathlib.Omega.{arith}
-use native.Mathlib.Numerals.{add-one}
 use borrow.Author.Tests.{eq-eqb, ne-eqb, le-leb, lt-leb}
 use lib.Dec.{T}
 use lib.ListN.{length, getD, drop, length-drop}
-use lib.Seq.{drop-cons, drop-length, drop-drop, length-take-le}
+use lib.Seq.{drop-length, drop-drop, length-take-le}
 use Rattle.model.specs.Lists.{sumOf, rising}
 use Rattle.model.specs.Deliveries.{delivery, inRange}
 use Rattle.model.specs.Directory.{directorySize, partitionCount, directoryOf, directoryNumbers}
 use Rattle.model.specs.Snapshot.{headerOk, headerOf}
 use Rattle.model.proofs.Tests.{of-true}
+use Rattle.model.proofs.ListLaws.{drop-next}
 use Rattle.directory.specs.Numbers.{Numbered, blank, withPartition}
 use Rattle.directory.proofs.Putting.{partsPut, put-none, blank-size, put-size, put-next, put-all}
 use Rattle.fields.specs.Reading.{valueAt}
@@ -108,20 +108,17 @@ pub record PartsLeft (t : List ℕ) (at : ℕ) (lens fences : List ℕ) (p e : �
 pub parts-start : (t : List ℕ) (at : ℕ) (lens fences : List ℕ) → PartsLeft t at lens fences 0 at
 parts-start t at lens fences = record { left = omega arith; room = refl; work = refl }
 
-pub here-first : (lens : List ℕ) (p : ℕ) → p < length lens → drop p lens ≡ getD lens p 0 ∷ drop (p + 1) lens
-here-first lens p h = drop-cons lens p 0 h ∙ ap (λ (k : ℕ). getD lens p 0 ∷ drop k lens) (sym (add-one p))
-
 module _ {t : List ℕ} {at : ℕ} {lens fences : List ℕ} {p e : ℕ} (w : PartsLeft t at lens fences p e) where
   pub part-room : p < length lens → e + 34 * getD lens p 0 + 34 * sumOf (drop (p + 1) lens) ≡ at + 34 * sumOf lens
   unfolding sumOf
-  part-room h = let r = ap sumOf (here-first lens p h) in omega (arith, w .room, r)
+  part-room h = let r = ap sumOf (drop-next lens p h) in omega (arith, w .room, r)
 
   module _ (h : p < length lens) {lo hi : ℕ} (low : lo ≡ lowOf fences p) (high : hi ≡ highOf fences p) where
     one-part : partsOk fences 0 lens at t ≡ deliveriesOk lo hi (getD lens p 0) e t && partsOk fences (p + 1) (drop (p + 1) lens) (e + 34 * getD lens p 0) t
     unfolding partsOk
     one-part =
         w .work
-        ∙ ap (λ (l : List ℕ). partsOk fences p l e t) (here-first lens p h)
+        ∙ ap (λ (l : List ℕ). partsOk fences p l e t) (drop-next lens p h)
         ∙ ap₂ (λ (a b : ℕ). deliveriesOk a b (getD lens p 0) e t && partsOk fences (p + 1) (drop (p + 1) lens) (e + 34 * getD lens p 0) t) (sym low) (sym high)
 
     pub parts-stop : deliveriesOk lo hi (getD lens p 0) e t ≡ false → false ≡ partsOk fences 0 lens at t
@@ -225,7 +222,7 @@ module _ (L : ℕ) (t : List ℕ) (at : ℕ) (ns : List ℕ) (m : ℕ) where
   -- the parts lent
   module _ {ls fs : List ℕ} (el : ls ≡ lens) (ef : fs ≡ fences) (e : rising fences ≡ true) (s : sumOf lens ≡ m) where
     pub parts-asked : Numbered L ns → at + 34 * m ≤ length t → (length fs ≡ length ls) × T (rising fs) × (at + 34 * sumOf ls ≤ length t)
-    parts-asked o h = rw (el, ef) (fences-many L ns o ∙ sym (lengths-many L ns o), of-true (rising fences) e, omega (arith, s))
+    parts-asked o h = rw (el, ef) (fences-many L ns o ∙ sym (lengths-many L ns o), of-true _ e, omega (arith, s))
 
     pub same-sum : (n : ℕ) → n ≡ textRefusal (partsOk fs 0 ls at t) → n ≡ textRefusal (numbersOk L t at ns m)
     unfolding numbersOk

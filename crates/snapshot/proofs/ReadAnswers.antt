@@ -182,7 +182,7 @@ accepted L t n j e z = go (headOk L t) (linesRight t) (leb (headerAt t .used) n)
     go true true true p q r f = record {
       ok = p;
       right = q;
-      slots = leb→le (headerAt t .used) n (of-true (leb (headerAt t .used) n) r);
+      slots = leb→le _ _ (of-true _ r);
       used = ap (λ (y : Judged). y .used) f ∙ length-map (rowsAt 3 (headerAt t .used) (start t) t) deliveryOf ∙ length-rows-at t 3 (headerAt t .used) (start t);
       start-is = ap (λ (y : Judged). y .start) f ∙ ap (λ (k : ℕ). 34 + 23 * k) (length-column 23 34 (headerAt t .count) t);
       directory = ap (λ (y : Judged). y .directory) f;
@@ -202,7 +202,7 @@ stored L t n j e z =
     let a = accepted L t n j e z in
     let g = head-good L t (a .ok) in
     let m : ℕ = headerAt t .used in
-    let o : T (linesOk 3 m (start t) t) = and-fst (linesOk 3 m (start t) t) _ (and-snd (linesOk 2 (headerAt t .count) 34 t) _ (of-true (linesRight t) (a .right))) in
+    let o : T (linesOk 3 m (start t) t) = and-fst (linesOk 3 m (start t) t) _ (and-snd (linesOk 2 (headerAt t .count) 34 t) _ (of-true _ (a .right))) in
     record {
       begins = omega (arith, a .start-is, g .few);
       used = omega (arith, a .used, g .used);

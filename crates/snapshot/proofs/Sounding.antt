@@ -13,11 +13,10 @@ use Rattle.model.specs.Partitions.{parts, everyAt}
 use Rattle.model.specs.Column.{inPlace, soundGrowers}
 use Rattle.model.proofs.LineLaws.{Fit, fitsField, fit-cons, fit-none, fit-first, fit-rest}
 use Rattle.slices.specs.Slices.{allWithin}
-use Rattle.lines.proofs.Forms.{pairs-swap}
 use Rattle.snapshot.specs.Texts.{lowOf, highOf, allFrom}
 use Rattle.snapshot.proofs.FenceLaws.{place-bounds}
-use Rattle.model.proofs.ListLaws.{every-front, every-back}
-use Rattle.snapshot.proofs.Judging.{here-first}
+use Rattle.model.proofs.Tests.{pairs-swap}
+use Rattle.model.proofs.ListLaws.{drop-next, every-front, every-back}
 
 -- numbers of a slice fit
 pub fit-slice : (g : List ℕ) → ((i : ℕ) → getD g i 0 ≤ mostNumber) → Fit g
@@ -48,13 +47,13 @@ sound-start g lens fences e r h f = record { left = omega arith; even = e; rises
 module _ {g lens fences : List ℕ} {p a : ℕ} (h : p < length lens) (w : SoundLeft g lens fences p a) where
   pub sound-room : a + getD lens p 0 + sumOf (drop (p + 1) lens) ≡ sumOf lens
   unfolding sumOf
-  sound-room = let r = ap sumOf (here-first lens p h) in omega (arith, w .room, r)
+  sound-room = let r = ap sumOf (drop-next lens p h) in omega (arith, w .room, r)
 
   one : soundGrowers lens fences g ≡ every (inPlace fences p) (take (getD lens p 0) (drop a g)) && everyAt (inPlace fences) (p + 1) (parts (drop (p + 1) lens) (drop (a + getD lens p 0) g))
   unfolding parts everyAt
   one =
       w .work
-      ∙ ap (λ (l : List ℕ). everyAt (inPlace fences) p (parts l (drop a g))) (here-first lens p h)
+      ∙ ap (λ (l : List ℕ). everyAt (inPlace fences) p (parts l (drop a g))) (drop-next lens p h)
       ∙ ap (λ (l : List ℕ). every (inPlace fences p) (take (getD lens p 0) (drop a g)) && everyAt (inPlace fences) (p + 1) (parts (drop (p + 1) lens) l)) (drop-drop (getD lens p 0) a g)
 
   tested : {lo hi : ℕ} (b : Bool) → lo ≡ lowOf fences p → hi ≡ highOf fences p

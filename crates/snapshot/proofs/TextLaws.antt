@@ -2,7 +2,7 @@
 -- Assumes nothing.
 use Prim.Native.Nat.{ℕ, zero, suc, _+_, _*_, _≤_, _<_}
 use mathlib.Core.Path.{_≡_, refl, sym, ap, ap₂, _∙_}
-use mathlib.Core.Bool.{Bool, true, false, _&&_}
+use mathlib.Core.Bool.{Bool, true, false, _&&_, and-false, and-comm}
 use mathlib.Core.Option.{Option}
 use mathlib.Core.List.{List, [], _∷_, _++_, map}
 use native.Mathlib.Omega.{arith}
@@ -19,27 +19,18 @@ use Rattle.model.specs.Directory.{Directory, directoryNumbers}
 use Rattle.model.specs.Column.{inPlace, soundGrowers}
 use Rattle.model.specs.Fields.{Taken, taken, takeLine, takeLines, nth}
 use Rattle.model.specs.Snapshot.{Header, Book, headerOk, headerOf, takeHeader, deliveryOf, bookOk, bookOf, readBook, slotsForBook}
-use Rattle.model.proofs.Tests.{and-fst, and-snd, of-true}
+use Rattle.model.proofs.Tests.{and-fst, and-snd, of-true, pairs-swap}
 use Rattle.model.proofs.ListLaws.{map-take, map-drop, every-cut}
 use Rattle.model.proofs.DirectoryLaws.{Fits, count-numbers, length-numbers, directory-again}
-use Rattle.model.proofs.BookLaws.{HeaderGood, header-good}
+use Rattle.model.proofs.BookLaws.{HeaderGood, header-good, growers-again}
 use Rattle.model.proofs.LineLaws.{Fit, fit-first}
-use Rattle.fields.proofs.Columns.{and-never}
 use Rattle.lines.specs.Lines.{columnAt, lineOk, linesOk, rowsAt}
 use Rattle.lines.proofs.Storing.{length-column}
-use Rattle.lines.proofs.Forms.{chain, line-at, lines-at, column-of, lines-cut, rows-cut, length-rows-at, line-long, lines-long, nothing-left, column-fits, pairs-swap}
+use Rattle.lines.proofs.Forms.{chain, line-at, lines-at, column-of, lines-cut, rows-cut, length-rows-at, line-long, lines-long, nothing-left, column-fits}
 use Rattle.snapshot.specs.Texts.{headerAt, headOk, directoryAt, lowOf, highOf, rowOk, deliveryOk, deliveriesOk, partsOk}
 use Rattle.directory.specs.Numbers.{Numbered}
 use Rattle.snapshot.specs.Answers.{rightParts, numbersOk}
 use Rattle.snapshot.proofs.FenceLaws.{place-bounds}
-
--- Tests in another order.
-
-swap : (a b : Bool) → a && b ≡ b && a
-swap true true = refl
-swap true false = refl
-swap false true = refl
-swap false false = refl
 
 module _ (t : List ℕ) where
   -- n delivery lines of one partition: the lines are good, and so is each one's numbers
@@ -82,7 +73,7 @@ module _ (t : List ℕ) where
         let q : List (List ℕ) = rowsAt 3 n (at + 34) t in
         rw e
         (ap (λ (b : Bool). b && inRange (deliveryOf l) && every (rowOk (lowOf fences p) (highOf fences p)) q) (sym (place-bounds fences r p h (nth 0 l) (first-most at)))
-        ∙ ap₂ (λ (a b : Bool). a && b) (swap (inPlace fences p (nth 0 l)) (inRange (deliveryOf l))) (one-part p n (at + 34) h q refl)
+        ∙ ap₂ (λ (a b : Bool). a && b) (and-comm (inPlace fences p (nth 0 l)) (inRange (deliveryOf l))) (one-part p n (at + 34) h q refl)
         ∙ pairs-swap (inRange (deliveryOf l)) (inPlace fences p (nth 0 l)) (every inRange (map deliveryOf q)) (every (inPlace fences p) (map (nth 0) q)))
       where
         first-most : (at : ℕ) → nth 0 (columnAt 11 at 3 t) ≤ mostNumber
@@ -148,10 +139,6 @@ module _ (t : List ℕ) where
   abbrev pub bookAt : Book
   bookAt = record { directory = directoryAt (h .block) k t; deliveries = map deliveryOf (rowsAt 3 m start t) }
 
-  growers-are : (rs : List (List ℕ)) → map growerOf (map deliveryOf rs) ≡ map (nth 0) rs
-  growers-are [] = refl
-  growers-are (l ∷ rs) = ap (λ (x : List ℕ). nth 0 l ∷ x) (growers-are rs)
-
   abbrev rowsPart : List (List ℕ) → List ℕ → Option Book
   rowsPart ps u = andThen (takeLines m 3 u) (λ (ds : Taken (List (List ℕ))). onlyIf (eqb (length (ds .rest)) 0 && bookOk h (bookOf h ps (ds .value))) (bookOf h ps (ds .value)))
 
@@ -176,9 +163,9 @@ module _ (t : List ℕ) where
   parts-right r s =
       let e : length fs ≡ length ls = length-column 23 45 k t ∙ sym (length-column 23 34 k t) in
       parts-are fs 0 ls start
-      ∙ ap (λ (b : Bool). linesOk 3 (sumOf ls) start t && b) (all-parts fs (of-true (rising fs) r) 0 ls start (omega arith))
+      ∙ ap (λ (b : Bool). linesOk 3 (sumOf ls) start t && b) (all-parts fs (of-true _ r) 0 ls start (omega arith))
       ∙ ap (λ (n : ℕ). linesOk 3 n start t && (every inRange (map deliveryOf (rowsAt 3 n start t)) && everyAt (inPlace fs) 0 (parts ls (map (nth 0) (rowsAt 3 n start t))))) s
-      ∙ ap (λ (l : List ℕ). linesOk 3 m start t && (every inRange (bookAt .deliveries) && everyAt (inPlace fs) 0 (parts ls l))) (sym (growers-are (rowsAt 3 m start t)))
+      ∙ ap (λ (l : List ℕ). linesOk 3 m start t && (every inRange (bookAt .deliveries) && everyAt (inPlace fs) 0 (parts ls l))) (sym (growers-again (rowsAt 3 m start t)))
 
   pub numbers-right : length t ≡ start + 34 * m → linesOk 3 m start t && (leb (length t) (start + 34 * m) && bookOk h bookAt) ≡ rightParts t start (bookAt .directory) m
   unfolding bookOk
@@ -191,9 +178,9 @@ module _ (t : List ℕ) where
       g = soundGrowers ls fs (map growerOf (bookAt .deliveries))
 
       go : (a b : Bool) → rising fs ≡ a → eqb (sumOf ls) m ≡ b → linesOk 3 m start t && (b && a && v && g) ≡ a && (b && partsOk fs 0 ls start t)
-      go false b p q = rw (and-never b) (and-never (linesOk 3 m start t))
-      go true false p q = and-never (linesOk 3 m start t)
-      go true true p q = sym (parts-right p (eqb→eq (sumOf ls) m (of-true (eqb (sumOf ls) m) q)))
+      go false b p q = rw (and-false b) (and-false (linesOk 3 m start t))
+      go true false p q = and-false (linesOk 3 m start t)
+      go true true p q = sym (parts-right p (eqb→eq (sumOf ls) m (of-true _ q)))
 
 -- L is the block limit
 module _ (L : ℕ) (t : List ℕ) where
@@ -220,7 +207,7 @@ module _ (L : ℕ) (t : List ℕ) where
 
   pub head-good : headOk L t ≡ true → HeaderGood L (h t)
   unfolding headOk
-  head-good e = header-good L (h t) (and-snd (lineOk 3 0 t) (headerOk L (h t)) (of-true (lineOk 3 0 t && headerOk L (h t)) e))
+  head-good e = header-good L (h t) (and-snd (lineOk 3 0 t) (headerOk L (h t)) (of-true _ e))
 
   -- a text of another length is no book
   pub wrong-size : headOk L t ≡ true → (length t ≡ start t + 34 * m t → ⊥) → linesRight t ≡ false
@@ -228,16 +215,16 @@ module _ (L : ℕ) (t : List ℕ) where
   wrong-size e other = go (linesOk 2 (k t) 34 t) (linesOk 3 (m t) (start t) t) (leb (length t) (start t + 34 * m t)) refl refl refl
     where
       first : 34 ≤ length t
-      first = line-long t 3 0 (and-fst (lineOk 3 0 t) (headerOk L (h t)) (of-true (lineOk 3 0 t && headerOk L (h t)) e))
+      first = line-long t 3 0 (and-fst (lineOk 3 0 t) (headerOk L (h t)) (of-true _ e))
 
       go : (a b c : Bool) → linesOk 2 (k t) 34 t ≡ a → linesOk 3 (m t) (start t) t ≡ b → leb (length t) (start t + 34 * m t) ≡ c → a && (b && (c && bookOk (h t) (bookAt t))) ≡ false
       go false b c p q r = refl
       go true false c p q r = refl
       go true true false p q r = refl
       go true true true p q r =
-          let x = lines-long t 2 (k t) 34 first (of-true (linesOk 2 (k t) 34 t) p) in
-          let y = lines-long t 3 (m t) (start t) x (of-true (linesOk 3 (m t) (start t) t) q) in
-          absurd (other (omega (arith, leb→le (length t) (start t + 34 * m t) (of-true (leb (length t) (start t + 34 * m t)) r))))
+          let x = lines-long t 2 (k t) 34 first (of-true _ p) in
+          let y = lines-long t 3 (m t) (start t) x (of-true _ q) in
+          absurd (other (omega (arith, leb→le (length t) (start t + 34 * m t) (of-true _ r))))
 
 -- The numbers of a directory.
 

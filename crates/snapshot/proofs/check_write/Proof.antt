@@ -63,12 +63,6 @@ counted c = shaped (good (c .before .before) .before)
 fits : (c : tie.After-count) → (c .count .result ≤ blockLimit) × (counted c .before .lent .result .used ≤ mostSlots)
 fits c = (omega (arith, c .count .ensures, held (counted c) .shape .few), used (counted c) .1)
 
-lent-requires : tie.Need-lent-requires
-lent-requires c κs = search needs
-
-not-checked-requires : tie.Need-not-checked-requires
-not-checked-requires c κs = search needs
-
 returns : tie.Need-returns
 returns c =
     let s = c .before .before .before .before .before .before .before in
@@ -86,9 +80,6 @@ sound-ok-requires c κs =
     let p = parts-lent blockLimit (col e) (held e) (c .before .lengths .ensures) (c .fences .ensures) in
     (p .even, p .rises, p .room)
 
-not-checked-requires-2 : tie.Need-not-checked-requires-2
-not-checked-requires-2 c κs = search needs
-
 returns-2 : tie.Need-returns-2
 returns-2 c =
     let e = shaped (c .before .before) in
@@ -99,12 +90,6 @@ slice-aggregate-values-ok c = let e = shaped (c .before .before) in sym (length-
 
 slice-aggregate-values-ok-2 : tie.Need-slice-aggregate-values-ok-2
 slice-aggregate-values-ok-2 c = let e = shaped (c .before .before .before) in sym (length-take-le _ _ (omega (arith, used e .0, held e .even .yields)))
-
-values-ok-requires : tie.Need-values-ok-requires
-values-ok-requires c κs = search needs
-
-not-checked-requires-3 : tie.Need-not-checked-requires-3
-not-checked-requires-3 c κs = search needs
 
 returns-3 : tie.Need-returns-3
 returns-3 c =
@@ -127,9 +112,6 @@ mul-if4-2 c = let f = fits c in omega (arith, f .0, f .1)
 add-if4-2 : tie.Need-add-if4-2
 add-if4-2 c = let f = fits c in omega (arith, f .0, f .1)
 
-not-checked-requires-4 : tie.Need-not-checked-requires-4
-not-checked-requires-4 c κs = search needs
-
 returns-4 : tie.Need-returns-4
 returns-4 c =
     let k = c .before .before in
@@ -150,24 +132,6 @@ pub check-write-spec : {M : Type 1} → statement M
 check-write-spec =
     tie.close
     (tie.spec
-    lent-requires
-    not-checked-requires
-    returns
-    lengths-requires
-    fences-requires
-    sound-ok-requires
-    not-checked-requires-2
-    returns-2
-    slice-aggregate-values-ok
-    slice-aggregate-values-ok-2
-    values-ok-requires
-    not-checked-requires-3
-    returns-3
-    count-requires
-    mul-if4
-    add-if4
-    mul-if4-2
-    add-if4-2
-    not-checked-requires-4
-    returns-4
-    returns-5)
+    (λ c κs. search needs) (λ c κs. search needs) returns lengths-requires fences-requires sound-ok-requires (λ c κs. search needs)
+    returns-2 slice-aggregate-values-ok slice-aggregate-values-ok-2 (λ c κs. search needs) (λ c κs. search needs) returns-3 count-requires
+    mul-if4 add-if4 mul-if4-2 add-if4-2 (λ c κs. search needs) returns-4 returns-5)

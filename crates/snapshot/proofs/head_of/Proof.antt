@@ -34,34 +34,10 @@ numbers c = first (second c) .f .given .0 .0 ∷ second c .g .given .0 .0 ∷ c 
 three : (c : tie.After-h) → Took (from (first (second c)) .args .text .now) 0 3 3 (c .h .given .0 .1 .0) (numbers c)
 three c = took-next (two (second c)) (omega arith) (c .before .before .number-at3 .ensures) (c .h .given .1)
 
-number-at-requires : tie.Need-number-at-requires
-number-at-requires c κs = search needs
-
-enum-known-f : tie.Need-enum-known-f
-enum-known-f c = search needs
-
-enum-told : tie.Need-enum-told
-enum-told c = search needs
-
-no-head-requires : tie.Need-no-head-requires
-no-head-requires c κs = search needs
-
 returns : tie.Need-returns
 returns c =
     head-fails blockLimit _ _
     (took-stop (took-start _ 0 3) (omega arith) (c .before .before .before .number-at .ensures) (c .before .enum-told .given .1)) (c .no-head .ensures)
-
-number-at-requires-2 : tie.Need-number-at-requires-2
-number-at-requires-2 c κs = search needs
-
-enum-known-g : tie.Need-enum-known-g
-enum-known-g c = search needs
-
-enum-told-2 : tie.Need-enum-told-2
-enum-told-2 c = search needs
-
-no-head-requires-2 : tie.Need-no-head-requires-2
-no-head-requires-2 c κs = search needs
 
 returns-2 : tie.Need-returns-2
 returns-2 c =
@@ -69,47 +45,24 @@ returns-2 c =
     (took-stop (one (c .before .before .before .before .before)) (omega arith) (c .before .before .before .number-at2 .ensures) (c .before .enum-told2 .given .1))
     (c .no-head2 .ensures)
 
-number-at-requires-3 : tie.Need-number-at-requires-3
-number-at-requires-3 c κs = search needs
-
-enum-known-h : tie.Need-enum-known-h
-enum-known-h c = search needs
-
-enum-told-3 : tie.Need-enum-told-3
-enum-told-3 c = search needs
-
-no-head-requires-3 : tie.Need-no-head-requires-3
-no-head-requires-3 c κs = search needs
-
 returns-3 : tie.Need-returns-3
 returns-3 c =
     head-fails blockLimit _ _
     (took-stop (two (c .before .before .before .before .before)) (omega arith) (c .before .before .before .number-at3 .ensures) (c .before .enum-told3 .given .1))
     (c .no-head3 .ensures)
 
-ends-requires : tie.Need-ends-requires
-ends-requires c κs = search needs
-
-no-head-requires-4 : tie.Need-no-head-requires-4
-no-head-requires-4 c κs = search needs
-
 returns-4 : tie.Need-returns-4
 returns-4 c =
     head-fails blockLimit _ _
     (sym (not-true _ (c .before .if1 .taken)) ∙ c .before .before .ends .ensures ∙ took-end (three (c .before .before .before .before)) (omega arith)) (c .no-head4 .ensures)
 
-header-ok-requires : tie.Need-header-ok-requires
-header-ok-requires c κs = search needs
-
-no-head-requires-5 : tie.Need-no-head-requires-5
-no-head-requires-5 c κs = search needs
-
 returns-5 : tie.Need-returns-5
 returns-5 c =
+    let here = c .before .before .before in
     head-range blockLimit _ _ _ _ _
-    (sym (took-end (three (c .before .before .before .before .before .before)) (omega arith)) ∙ sym (c .before .before .before .before .ends .ensures)
-    ∙ not-false _ (c .before .before .before .if1 .left))
-    (three (c .before .before .before .before .before .before) .values) (sym (c .before .before .header-ok .ensures) ∙ not-true _ (c .before .if2 .taken)) (c .no-head5 .ensures)
+    (sym (took-end (three (here .before .before .before)) (omega arith)) ∙ sym (here .before .ends .ensures)
+    ∙ not-false _ (here .if1 .left))
+    (three (here .before .before .before) .values) (sym (c .before .before .header-ok .ensures) ∙ not-true _ (c .before .if2 .taken)) (c .no-head5 .ensures)
 
 returns-6 : tie.Need-returns-6
 returns-6 c =
@@ -121,25 +74,7 @@ pub head-of-spec : {M : Type 1} → statement M
 head-of-spec =
     tie.close
     (tie.spec
-    number-at-requires
-    enum-known-f
-    enum-told
-    no-head-requires
-    returns
-    number-at-requires-2
-    enum-known-g
-    enum-told-2
-    no-head-requires-2
-    returns-2
-    number-at-requires-3
-    enum-known-h
-    enum-told-3
-    no-head-requires-3
-    returns-3
-    ends-requires
-    no-head-requires-4
-    returns-4
-    header-ok-requires
-    no-head-requires-5
-    returns-5
-    returns-6)
+    (λ c κs. search needs) (λ c. search needs) (λ c. search needs) (λ c κs. search needs) returns (λ c κs. search needs) (λ c. search needs)
+    (λ c. search needs) (λ c κs. search needs) returns-2 (λ c κs. search needs) (λ c. search needs) (λ c. search needs)
+    (λ c κs. search needs) returns-3 (λ c κs. search needs) (λ c κs. search needs) returns-4 (λ c κs. search needs) (λ c κs. search needs)
+    returns-5 returns-6)

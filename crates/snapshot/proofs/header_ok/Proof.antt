@@ -7,9 +7,6 @@ use Rattle.model.specs.Snapshot.{headerOk}
 use Rattle.snapshot.proofs.header_ok.Statement.{statement}
 use Rattle.snapshot.proofs.header_ok.Tie as tie
 
-block-length-ok-requires : tie.Need-block-length-ok-requires
-block-length-ok-requires c κs = search needs
-
 returns : tie.Need-returns
 unfolding headerOk
 returns c = rw (sym (c .before .block-length-ok .ensures) ∙ not-true _ (c .if1 .taken))
@@ -28,4 +25,4 @@ returns-4 c = rw (sym (c .before .before .before .block-length-ok .ensures) ∙ 
 
 pub header-ok-spec : {M : Type 1} → statement M
 header-ok-spec =
-    tie.close (tie.spec block-length-ok-requires returns returns-2 returns-3 returns-4)
+    tie.close (tie.spec (λ c κs. search needs) returns returns-2 returns-3 returns-4)

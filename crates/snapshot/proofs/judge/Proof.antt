@@ -27,41 +27,11 @@ count c = few blockLimit _ _ (head c) (c .if1 .left)
 used : (c : tie.Else1) → c .before .before .head-of .result .used ≤ mostSlots
 used c = most blockLimit _ _ (head c) (c .if1 .left)
 
-head-of-requires : tie.Need-head-of-requires
-head-of-requires c κs = search needs
-
-not-judged-requires : tie.Need-not-judged-requires
-not-judged-requires c κs = search needs
-
 returns : tie.Need-returns
 returns c = answer-no-head blockLimit _ _ _ _ (c .before .before .before .head-of .ensures) (c .before .if1 .taken) (c .not-judged .ensures)
 
-cast-m : tie.Need-cast-m
-cast-m c = search needs
-
-not-judged-requires-2 : tie.Need-not-judged-requires-2
-not-judged-requires-2 c κs = search needs
-
 returns-2 : tie.Need-returns-2
 returns-2 c = answer-few blockLimit _ _ _ _ (head (c .before .before .before)) (c .before .before .before .if1 .left) (c .before .if2 .taken) (c .not-judged2 .ensures)
-
-cast-k : tie.Need-cast-k
-cast-k c = search needs
-
-mul-start : tie.Need-mul-start
-mul-start c = omega (arith, count (c .before .before .before))
-
-add-start : tie.Need-add-start
-add-start c = omega (arith, count (c .before .before .before))
-
-mul-if3 : tie.Need-mul-if3
-mul-if3 c = omega (arith, used (c .before .before .before))
-
-add-if3 : tie.Need-add-if3
-add-if3 c = omega (arith, count (c .before .before .before), used (c .before .before .before))
-
-not-judged-requires-3 : tie.Need-not-judged-requires-3
-not-judged-requires-3 c κs = search needs
 
 returns-3 : tie.Need-returns-3
 returns-3 c =
@@ -71,25 +41,16 @@ returns-3 c =
 list-parts-requires : tie.Need-list-parts-requires
 list-parts-requires c κs = count (c .before .before .before .before)
 
-not-judged-requires-4 : tie.Need-not-judged-requires-4
-not-judged-requires-4 c κs = search needs
-
 returns-4 : tie.Need-returns-4
 returns-4 c =
     let e = c .before .before .before .before .before .before in
     answer-lines blockLimit _ _ _ _ (head (accepted e)) (accepted e .if1 .left) (e .if2 .left) _ (c .before .before .before .list-parts .ensures) (c .before .if4 .taken) (c .not-judged4 .ensures)
-
-slice-aggregate-judge-numbers : tie.Need-slice-aggregate-judge-numbers
-slice-aggregate-judge-numbers c = search needs
 
 judge-numbers-requires : tie.Need-judge-numbers-requires
 judge-numbers-requires c κs =
     let l = c .before .before in
     let e = accepted (sized l) in
     (numbers-listed blockLimit _ _ (head e) (e .if1 .left) _ (l .before .before .list-parts .ensures) (l .if4 .left), omega arith)
-
-not-judged-requires-5 : tie.Need-not-judged-requires-5
-not-judged-requires-5 c κs = search needs
 
 returns-5 : tie.Need-returns-5
 returns-5 c =
@@ -111,24 +72,6 @@ pub judge-spec : {M : Type 1} → statement M
 judge-spec =
     tie.close
     (tie.spec
-    head-of-requires
-    not-judged-requires
-    returns
-    cast-m
-    not-judged-requires-2
-    returns-2
-    cast-k
-    mul-start
-    add-start
-    mul-if3
-    add-if3
-    not-judged-requires-3
-    returns-3
-    list-parts-requires
-    not-judged-requires-4
-    returns-4
-    slice-aggregate-judge-numbers
-    judge-numbers-requires
-    not-judged-requires-5
-    returns-5
-    returns-6)
+    (λ c κs. search needs) (λ c κs. search needs) returns (λ c. search needs) (λ c κs. search needs) returns-2 (λ c. search needs)
+    (λ c. omega arith) (λ c. omega arith) (λ c. omega arith) (λ c. omega arith) (λ c κs. search needs) returns-3 list-parts-requires
+    (λ c κs. search needs) returns-4 (λ c. search needs) judge-numbers-requires (λ c κs. search needs) returns-5 returns-6)

@@ -1,4 +1,4 @@
--- `snapshot::judge_deliveries` meets its contract. The loop's invariant: the lines that are left decide. Assumes nothing.
+-- `snapshot::judge_deliveries` meets its contract. The loop's invariant: the lines that are left decide. A good line leaves those behind it. Assumes nothing.
 use Prim.Native.Nat.{_-_}
 use mathlib.Core.Path.{ap, _∙_}
 use native.Mathlib.Omega.{arith}
@@ -18,23 +18,11 @@ abbrev μ-loop : tie.MeasureT-loop
 loop-holds : tie.Need-loop-holds Inv-loop μ-loop
 loop-holds c = deliveries-start _ _ _ _ _
 
-judge-delivery-requires : tie.Need-judge-delivery-requires Inv-loop μ-loop
-judge-delivery-requires c κs = search needs
-
 returns : tie.Need-returns Inv-loop μ-loop
 returns c =
     let q = c .before .judge-delivery .ensures in
     let f = failed _ q (c .if1 .taken) in
     q ∙ ap textRefusal (f ∙ deliveries-stop (c .before .before .before .loop .inv) (c .before .before .loop-test .taken) f)
-
-add-e : tie.Need-add-e Inv-loop μ-loop
-add-e c = omega (arith, c .before .before .before .loop .inv .at-line, c .before .before .before .before .before .pre)
-
-add-i : tie.Need-add-i Inv-loop μ-loop
-add-i c = omega arith
-
-loop-less : tie.Need-loop-less Inv-loop μ-loop
-loop-less c = omega arith
 
 loop-again : tie.Need-loop-again Inv-loop μ-loop
 loop-again c = deliveries-next (c .before .before .before .loop .inv) (c .before .before .loop-test .taken) (passed _ (c .before .judge-delivery .ensures) (c .if1 .left))
@@ -44,15 +32,4 @@ returns-2 c = ap textRefusal (deliveries-end (c .before .loop .inv) (c .loop-tes
 
 pub judge-deliveries-spec : {M : Type 1} → statement M
 judge-deliveries-spec =
-    tie.close
-    (tie.spec
-    Inv-loop
-    μ-loop
-    loop-holds
-    judge-delivery-requires
-    returns
-    add-e
-    add-i
-    loop-less
-    loop-again
-    returns-2)
+    tie.close (tie.spec Inv-loop μ-loop loop-holds (λ c κs. search needs) returns (λ c. omega arith) (λ c. omega arith) (λ c. omega arith) loop-again returns-2)

@@ -42,44 +42,14 @@ start c = from (first (second (c .before .before .before)))
 line-ends : (c : tie.Else1) → lineOk 3 (start c .args .at) (start c .args .text .now) ≡ true
 line-ends c = sym (took-end (three (c .before .before .before)) (omega arith)) ∙ sym (c .before .ends .ensures) ∙ not-false _ (c .if1 .left)
 
-number-at-requires : tie.Need-number-at-requires
-number-at-requires c κs = search needs
-
-enum-known-f : tie.Need-enum-known-f
-enum-known-f c = search needs
-
-enum-told : tie.Need-enum-told
-enum-told c = search needs
-
 returns : tie.Need-returns
 returns c = line-fails _ _ _ _ (took-stop (took-start _ _ 3) (omega arith) (c .before .before .number-at .ensures) (c .enum-told .given .1))
-
-number-at-requires-2 : tie.Need-number-at-requires-2
-number-at-requires-2 c κs = search needs
-
-enum-known-g : tie.Need-enum-known-g
-enum-known-g c = search needs
-
-enum-told-2 : tie.Need-enum-told-2
-enum-told-2 c = search needs
 
 returns-2 : tie.Need-returns-2
 returns-2 c = line-fails _ _ _ _ (took-stop (one (c .before .before .before .before)) (omega arith) (c .before .before .number-at2 .ensures) (c .enum-told2 .given .1))
 
-number-at-requires-3 : tie.Need-number-at-requires-3
-number-at-requires-3 c κs = search needs
-
-enum-known-h : tie.Need-enum-known-h
-enum-known-h c = search needs
-
-enum-told-3 : tie.Need-enum-told-3
-enum-told-3 c = search needs
-
 returns-3 : tie.Need-returns-3
 returns-3 c = line-fails _ _ _ _ (took-stop (two (c .before .before .before .before)) (omega arith) (c .before .before .number-at3 .ensures) (c .enum-told3 .given .1))
-
-ends-requires : tie.Need-ends-requires
-ends-requires c κs = search needs
 
 returns-4 : tie.Need-returns-4
 returns-4 c = line-fails _ _ _ _ (sym (not-true _ (c .if1 .taken)) ∙ c .before .ends .ensures ∙ took-end (three (c .before .before .before)) (omega arith))
@@ -89,9 +59,6 @@ returns-5 c = below-low _ _ _ _ _ _ _ (line-ends (c .before)) (three (c .before 
 
 returns-6 : tie.Need-returns-6
 returns-6 c = above-high _ _ _ _ _ _ _ (line-ends (c .before .before)) (three (c .before .before .before .before .before) .values) (c .before .if2 .left) (c .if3 .taken)
-
-in-range-requires : tie.Need-in-range-requires
-in-range-requires c κs = search needs
 
 returns-7 : tie.Need-returns-7
 returns-7 c =
@@ -107,22 +74,6 @@ pub judge-delivery-spec : {M : Type 1} → statement M
 judge-delivery-spec =
     tie.close
     (tie.spec
-    number-at-requires
-    enum-known-f
-    enum-told
-    returns
-    number-at-requires-2
-    enum-known-g
-    enum-told-2
-    returns-2
-    number-at-requires-3
-    enum-known-h
-    enum-told-3
-    returns-3
-    ends-requires
-    returns-4
-    returns-5
-    returns-6
-    in-range-requires
-    returns-7
-    returns-8)
+    (λ c κs. search needs) (λ c. search needs) (λ c. search needs) returns (λ c κs. search needs) (λ c. search needs) (λ c. search needs)
+    returns-2 (λ c κs. search needs) (λ c. search needs) (λ c. search needs) returns-3 (λ c κs. search needs) returns-4 returns-5 returns-6
+    (λ c κs. search needs) returns-7 returns-8)

@@ -27,15 +27,6 @@ risen c = c .before .before
 adds : (c : tie.After-total) → sumOf (read (risen c) .lengths) ≡ c .total .result
 adds c = sym (c .total .ensures ∙ ap sumOf (risen c .before .before .lengths .ensures))
 
-lengths-requires : tie.Need-lengths-requires
-lengths-requires c κs = search needs
-
-fences-requires : tie.Need-fences-requires
-fences-requires c κs = search needs
-
-strictly-rising-requires : tie.Need-strictly-rising-requires
-strictly-rising-requires c κs = search needs
-
 returns : tie.Need-returns
 returns c = not-rising blockLimit _ _ _ _ (rises (c .before) ∙ not-true _ (c .if1 .taken))
 
@@ -61,13 +52,4 @@ returns-3 c =
 
 pub judge-numbers-spec : {M : Type 1} → statement M
 judge-numbers-spec =
-    tie.close
-    (tie.spec
-    lengths-requires
-    fences-requires
-    strictly-rising-requires
-    returns
-    total-requires
-    returns-2
-    judge-parts-requires
-    returns-3)
+    tie.close (tie.spec (λ c κs. search needs) (λ c κs. search needs) (λ c κs. search needs) returns total-requires returns-2 judge-parts-requires returns-3)

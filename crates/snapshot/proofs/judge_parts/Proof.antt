@@ -1,4 +1,4 @@
--- `snapshot::judge_parts` meets its contract. The loop's invariant: the partitions that are left decide. Assumes nothing.
+-- `snapshot::judge_parts` meets its contract. The loop's invariant: the partitions that are left decide. A partition whose lines are good between its fences leaves those behind it. Assumes nothing.
 use Prim.Native.Nat.{_-_}
 use mathlib.Core.Path.{ap, _∙_}
 use native.Mathlib.Omega.{arith}
@@ -19,20 +19,11 @@ abbrev μ-loop : tie.MeasureT-loop
 loop-holds : tie.Need-loop-holds Inv-loop μ-loop
 loop-holds c = parts-start _ _ _ _
 
-mul-n : tie.Need-mul-n Inv-loop μ-loop
-mul-n c = search needs
-
-shared-slice-read-n : tie.Need-shared-slice-read-n Inv-loop μ-loop
-shared-slice-read-n c = omega arith
-
 cast-n : tie.Need-cast-n Inv-loop μ-loop
 cast-n c = omega (arith, c .shared-slice-known4 .given (c .before .before .loop .p))
 
 low-of-requires : tie.Need-low-of-requires Inv-loop μ-loop
 low-of-requires c κs = let q = c .before .before .before .before .before .before .pre in (omega (arith, q .0), q .1)
-
-high-of-requires : tie.Need-high-of-requires Inv-loop μ-loop
-high-of-requires c κs = omega (arith, c .before .before .before .before .before .before .before .pre .0)
 
 judge-deliveries-requires : tie.Need-judge-deliveries-requires Inv-loop μ-loop
 judge-deliveries-requires c κs =
@@ -55,27 +46,23 @@ returns c =
 
 mul-e : tie.Need-mul-e Inv-loop μ-loop
 mul-e c =
+    let top = c .before .before .before .before .before in
     omega (
       arith,
-      part-room (c .before .before .before .before .before .before .loop .inv)
-          (c .before .before .before .before .before .loop-test .taken),
-      c .before .before .before .before .before .before .before .before .before .before .pre .2,
+      part-room (top .before .loop .inv)
+          (top .loop-test .taken),
+      top .before .before .before .before .before .pre .2,
     )
 
 add-e : tie.Need-add-e Inv-loop μ-loop
 add-e c =
+    let top = c .before .before .before .before .before in
     omega (
       arith,
-      part-room (c .before .before .before .before .before .before .loop .inv)
-          (c .before .before .before .before .before .loop-test .taken),
-      c .before .before .before .before .before .before .before .before .before .before .pre .2,
+      part-room (top .before .loop .inv)
+          (top .loop-test .taken),
+      top .before .before .before .before .before .pre .2,
     )
-
-add-p : tie.Need-add-p Inv-loop μ-loop
-add-p c = omega arith
-
-loop-less : tie.Need-loop-less Inv-loop μ-loop
-loop-less c = omega arith
 
 loop-again : tie.Need-loop-again Inv-loop μ-loop
 loop-again c =
@@ -89,19 +76,5 @@ pub judge-parts-spec : {M : Type 1} → statement M
 judge-parts-spec =
     tie.close
     (tie.spec
-    Inv-loop
-    μ-loop
-    loop-holds
-    mul-n
-    shared-slice-read-n
-    cast-n
-    low-of-requires
-    high-of-requires
-    judge-deliveries-requires
-    returns
-    mul-e
-    add-e
-    add-p
-    loop-less
-    loop-again
-    returns-2)
+    Inv-loop μ-loop loop-holds (λ c. search needs) (λ c. omega arith) cast-n low-of-requires (λ c κs. omega arith) judge-deliveries-requires
+    returns mul-e add-e (λ c. omega arith) (λ c. omega arith) loop-again returns-2)

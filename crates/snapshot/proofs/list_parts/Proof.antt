@@ -1,4 +1,4 @@
--- `snapshot::list_parts` meets its contract. The loop's invariant: the numbers so far are those of the lines passed. Assumes nothing.
+-- `snapshot::list_parts` meets its contract. The loop's invariant: the numbers so far are those of the lines passed. A line's two numbers go into the two halves, in their places. Assumes nothing.
 use Prim.Native.Nat.{ℕ, _-_}
 use mathlib.Core.Path.{refl, sym, _∙_}
 use mathlib.Core.List.{List, [], _∷_}
@@ -34,58 +34,27 @@ first c = c .before .before .before .before
 two : (c : tie.After-g Inv-loop μ-loop) → Took (text (first c)) (from (first c) .loop .at) 2 2 (c .g .given .0 .1 .0) (first c .f .given .0 .0 ∷ c .g .given .0 .0 ∷ [])
 two c = took-next (one (first c)) (omega arith) (c .before .before .number-at2 .ensures) (c .g .given .1)
 
-blank-requires : tie.Need-blank-requires Inv-loop μ-loop
-blank-requires c κs = c .before .pre
-
 loop-holds : tie.Need-loop-holds Inv-loop μ-loop
 loop-holds c = rw (c .blank .ensures) (list-start blockLimit _ _ _ (c .before .before .pre))
-
-number-at-requires : tie.Need-number-at-requires Inv-loop μ-loop
-number-at-requires c κs = search needs
-
-enum-known-f : tie.Need-enum-known-f Inv-loop μ-loop
-enum-known-f c = search needs
-
-enum-told : tie.Need-enum-told Inv-loop μ-loop
-enum-told c = search needs
-
-not-listed-requires : tie.Need-not-listed-requires Inv-loop μ-loop
-not-listed-requires c κs = search needs
 
 returns : tie.Need-returns Inv-loop μ-loop
 returns c =
     list-stop (c .before .before .before .before .before .loop .inv) (c .before .before .before .before .loop-test .taken) _
     (took-stop (took-start _ _ 2) (omega arith) (c .before .before .before .number-at .ensures) (c .before .enum-told .given .1)) (c .not-listed .ensures)
 
-number-at-requires-2 : tie.Need-number-at-requires-2 Inv-loop μ-loop
-number-at-requires-2 c κs = search needs
-
-enum-known-g : tie.Need-enum-known-g Inv-loop μ-loop
-enum-known-g c = search needs
-
-enum-told-2 : tie.Need-enum-told-2 Inv-loop μ-loop
-enum-told-2 c = search needs
-
-not-listed-requires-2 : tie.Need-not-listed-requires-2 Inv-loop μ-loop
-not-listed-requires-2 c κs = search needs
-
 returns-2 : tie.Need-returns-2 Inv-loop μ-loop
 returns-2 c =
-    list-stop (c .before .before .before .before .before .before .before .before .before .loop .inv)
-    (c .before .before .before .before .before .before .before .before .loop-test .taken) _
-    (took-stop (one (c .before .before .before .before .before)) (omega arith) (c .before .before .before .number-at2 .ensures) (c .before .enum-told2 .given .1))
+    let b = c .before .before .before .before .before in
+    list-stop (b .before .before .before .before .loop .inv)
+    (b .before .before .before .loop-test .taken) _
+    (took-stop (one (b)) (omega arith) (c .before .before .before .number-at2 .ensures) (c .before .enum-told2 .given .1))
     (c .not-listed2 .ensures)
-
-ends-requires : tie.Need-ends-requires Inv-loop μ-loop
-ends-requires c κs = search needs
-
-not-listed-requires-3 : tie.Need-not-listed-requires-3 Inv-loop μ-loop
-not-listed-requires-3 c κs = search needs
 
 returns-3 : tie.Need-returns-3 Inv-loop μ-loop
 returns-3 c =
-    list-stop (c .before .before .before .before .before .before .before .before .before .before .before .before .loop .inv)
-    (c .before .before .before .before .before .before .before .before .before .before .before .loop-test .taken) _
+    let top = c .before .before .before .before .before .before .before .before .before .before .before in
+    list-stop (top .before .loop .inv)
+    (top .loop-test .taken) _
     (sym (not-true _ (c .before .if1 .taken)) ∙ c .before .before .ends .ensures ∙ took-end (two (c .before .before .before .before)) (omega arith)) (c .not-listed3 .ensures)
 
 -- the invariant, past the line's end
@@ -101,12 +70,6 @@ put-requires c κs = let w = so-far (c .before) .loop .inv in (w .long, omega (a
 add-at : tie.Need-add-at Inv-loop μ-loop
 add-at c = let w = so-far (c .before .before .before) .loop .inv in omega (arith, w .few, w .at-line)
 
-add-i : tie.Need-add-i Inv-loop μ-loop
-add-i c = omega arith
-
-loop-less : tie.Need-loop-less Inv-loop μ-loop
-loop-less c = omega arith
-
 loop-again : tie.Need-loop-again Inv-loop μ-loop
 loop-again c =
     let e = c .before .before .before in
@@ -121,27 +84,6 @@ pub list-parts-spec : {M : Type 1} → statement M
 list-parts-spec =
     tie.close
     (tie.spec
-    Inv-loop
-    μ-loop
-    blank-requires
-    loop-holds
-    number-at-requires
-    enum-known-f
-    enum-told
-    not-listed-requires
-    returns
-    number-at-requires-2
-    enum-known-g
-    enum-told-2
-    not-listed-requires-2
-    returns-2
-    ends-requires
-    not-listed-requires-3
-    returns-3
-    slice-aggregate-put
-    put-requires
-    add-at
-    add-i
-    loop-less
-    loop-again
-    returns-4)
+    Inv-loop μ-loop (λ c κs. search needs) loop-holds (λ c κs. search needs) (λ c. search needs) (λ c. search needs) (λ c κs. search needs)
+    returns (λ c κs. search needs) (λ c. search needs) (λ c. search needs) (λ c κs. search needs) returns-2 (λ c κs. search needs)
+    (λ c κs. search needs) returns-3 slice-aggregate-put put-requires add-at (λ c. omega arith) (λ c. omega arith) loop-again returns-4)

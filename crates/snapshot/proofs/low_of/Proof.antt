@@ -11,15 +11,6 @@ returns : tie.Need-returns
 unfolding lowOf
 returns c = rw (eq-eqb _ 0 (c .if1 .taken))
 
-sub-q : tie.Need-sub-q
-sub-q c = search needs
-
-mul-result : tie.Need-mul-result
-mul-result c = search needs
-
-shared-slice-read-result : tie.Need-shared-slice-read-result
-shared-slice-read-result c = search needs
-
 add-result : tie.Need-add-result
 add-result c =
     let a = c .before .before .args in
@@ -32,4 +23,4 @@ returns-2 c = rw (ne-eqb _ 0 (c .before .if1 .left)) (omega arith)
 
 pub low-of-spec : {M : Type 1} → statement M
 low-of-spec =
-    tie.close (tie.spec returns sub-q mul-result shared-slice-read-result add-result returns-2)
+    tie.close (tie.spec returns (λ c. search needs) (λ c. search needs) (λ c. search needs) add-result returns-2)

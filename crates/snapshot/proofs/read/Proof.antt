@@ -40,38 +40,8 @@ slices c = sliced _ _ _ (of-true _ (even c))
 abbrev passed : tie.After-directory → tie.Else2
 passed c = c .before .before .before .before .before .before .before .before .before .before .before .before .before
 
-slices-ok-requires : tie.Need-slices-ok-requires
-slices-ok-requires c κs = search needs
-
-refused-requires : tie.Need-refused-requires
-refused-requires c κs = search needs
-
-same-length : tie.Need-same-length
-same-length c = search needs
-
-same-length-2 : tie.Need-same-length-2
-same-length-2 c = search needs
-
-same-length-3 : tie.Need-same-length-3
-same-length-3 c = search needs
-
 returns : tie.Need-returns
 returns c = read-three blockLimit _ _ _ _ _ (sym (c .before .before .slices-ok .ensures) ∙ not-true _ (c .before .if1 .taken)) (c .refused .ensures)
-
-judge-requires : tie.Need-judge-requires
-judge-requires c κs = search needs
-
-refused-requires-2 : tie.Need-refused-requires-2
-refused-requires-2 c κs = search needs
-
-same-length-4 : tie.Need-same-length-4
-same-length-4 c = search needs
-
-same-length-5 : tie.Need-same-length-5
-same-length-5 c = search needs
-
-same-length-6 : tie.Need-same-length-6
-same-length-6 c = search needs
 
 returns-2 : tie.Need-returns-2
 returns-2 c =
@@ -89,25 +59,14 @@ store-requires-2 c κs =
     let w = lent (c .before .before .before .before .before) in
     (omega (arith, w .begins), w .used, omega (arith, w .room, slices (c .before .before .before .before .before) .even .weights), w .weights)
 
-mul-store : tie.Need-mul-store
-mul-store c = search needs
-
 add-store-2 : tie.Need-add-store-2
 add-store-2 c = omega (arith, lent (c .before .before .before .before .before .before .before .before) .begins)
 
 store-requires-3 : tie.Need-store-requires-3
 store-requires-3 c κs =
-    let w = lent (c .before .before .before .before .before .before .before .before .before) in
-    (omega (arith, w .begins), w .used, omega (arith, w .room, slices (c .before .before .before .before .before .before .before .before .before) .even .yields), w .yields)
-
-same-length-7 : tie.Need-same-length-7
-same-length-7 c = search needs
-
-same-length-8 : tie.Need-same-length-8
-same-length-8 c = search needs
-
-same-length-9 : tie.Need-same-length-9
-same-length-9 c = search needs
+    let b = c .before .before .before .before .before .before .before .before .before in
+    let w = lent (b) in
+    (omega (arith, w .begins), w .used, omega (arith, w .room, slices (b) .even .yields), w .yields)
 
 returns-3 : tie.Need-returns-3
 returns-3 c =
@@ -119,25 +78,6 @@ pub read-spec : {M : Type 1} → statement M
 read-spec =
     tie.close
     (tie.spec
-    slices-ok-requires
-    refused-requires
-    same-length
-    same-length-2
-    same-length-3
-    returns
-    judge-requires
-    refused-requires-2
-    same-length-4
-    same-length-5
-    same-length-6
-    returns-2
-    store-requires
-    add-store
-    store-requires-2
-    mul-store
-    add-store-2
-    store-requires-3
-    same-length-7
-    same-length-8
-    same-length-9
-    returns-3)
+    (λ c κs. search needs) (λ c κs. search needs) (λ c. search needs) (λ c. search needs) (λ c. search needs) returns (λ c κs. search needs)
+    (λ c κs. search needs) (λ c. search needs) (λ c. search needs) (λ c. search needs) returns-2 store-requires add-store store-requires-2
+    (λ c. search needs) add-store-2 store-requires-3 (λ c. search needs) (λ c. search needs) (λ c. search needs) returns-3)

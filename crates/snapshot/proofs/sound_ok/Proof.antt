@@ -1,4 +1,5 @@
--- `snapshot::sound_ok` meets its contract. The loop's invariant: the partitions that are left decide. Assumes nothing.
+-- `snapshot::sound_ok` meets its contract. The loop's invariant: the partitions that are left decide. One whose growers lie between its fences leaves those behind it, since
+-- the fences rise. Assumes nothing.
 use borrow.Author.Needs.{needs}
 use Prim.Native.Nat.{_-_}
 use native.Mathlib.Omega.{arith}
@@ -17,26 +18,11 @@ abbrev μ-loop : tie.MeasureT-loop
 loop-holds : tie.Need-loop-holds Inv-loop μ-loop
 loop-holds c = let q = c .before .before .before .pre in sound-start _ _ _ (q .0) (q .1) (q .2) (fit-slice _ (λ i. omega (arith, c .before .before .shared-slice-known .given i)))
 
-mul-e : tie.Need-mul-e Inv-loop μ-loop
-mul-e c = search needs
-
-shared-slice-read-e : tie.Need-shared-slice-read-e Inv-loop μ-loop
-shared-slice-read-e c = omega arith
-
 cast-e : tie.Need-cast-e Inv-loop μ-loop
 cast-e c = omega (arith, c .shared-slice-known4 .given (c .before .before .loop .p))
 
 add-e : tie.Need-add-e Inv-loop μ-loop
 add-e c = omega (arith, sound-room (c .before .loop-test .taken) (c .before .before .loop .inv), c .before .before .loop .inv .total)
-
-mul-between : tie.Need-mul-between Inv-loop μ-loop
-mul-between c = omega (arith, sound-room (c .before .loop-test .taken) (c .before .before .loop .inv), c .before .before .loop .inv .total)
-
-sub-between : tie.Need-sub-between Inv-loop μ-loop
-sub-between c = omega arith
-
-part-between-start : tie.Need-part-between-start Inv-loop μ-loop
-part-between-start c = omega (arith, sound-room (c .before .loop-test .taken) (c .before .before .loop .inv), c .before .before .loop .inv .total)
 
 part-between-end : tie.Need-part-between-end Inv-loop μ-loop
 part-between-end c = omega (arith, sound-room (c .before .loop-test .taken) (c .before .before .loop .inv), c .before .before .loop .inv .total)
@@ -44,26 +30,16 @@ part-between-end c = omega (arith, sound-room (c .before .loop-test .taken) (c .
 low-of-requires : tie.Need-low-of-requires Inv-loop μ-loop
 low-of-requires c κs = let q = c .before .before .before .before .before .before .before .pre in (omega (arith, q .0), q .1)
 
-high-of-requires : tie.Need-high-of-requires Inv-loop μ-loop
-high-of-requires c κs = omega (arith, c .before .before .before .before .before .before .before .before .pre .0)
-
-between-requires : tie.Need-between-requires Inv-loop μ-loop
-between-requires c κs = search needs
-
 returns : tie.Need-returns Inv-loop μ-loop
 returns c =
-    sound-stop (c .before .before .before .before .before .before .loop-test .taken) (c .before .before .before .before .before .before .before .loop .inv) _
+    let top = c .before .before .before .before .before .before in
+    sound-stop (top .loop-test .taken) (top .before .loop .inv) _
     (c .before .before .before .low-of .ensures) (c .before .before .high-of .ensures) (c .before .between .ensures) (not-true _ (c .if1 .taken))
-
-add-p : tie.Need-add-p Inv-loop μ-loop
-add-p c = omega arith
-
-loop-less : tie.Need-loop-less Inv-loop μ-loop
-loop-less c = omega arith
 
 loop-again : tie.Need-loop-again Inv-loop μ-loop
 loop-again c =
-    sound-next (c .before .before .before .before .before .before .loop-test .taken) (c .before .before .before .before .before .before .before .loop .inv) _
+    let top = c .before .before .before .before .before .before in
+    sound-next (top .loop-test .taken) (top .before .loop .inv) _
     (c .before .before .before .low-of .ensures) (c .before .before .high-of .ensures) (c .before .between .ensures) (not-false _ (c .if1 .left))
 
 returns-2 : tie.Need-returns-2 Inv-loop μ-loop
@@ -73,22 +49,6 @@ pub sound-ok-spec : {M : Type 1} → statement M
 sound-ok-spec =
     tie.close
     (tie.spec
-    Inv-loop
-    μ-loop
-    loop-holds
-    mul-e
-    shared-slice-read-e
-    cast-e
-    add-e
-    mul-between
-    sub-between
-    part-between-start
-    part-between-end
-    low-of-requires
-    high-of-requires
-    between-requires
-    returns
-    add-p
-    loop-less
-    loop-again
+    Inv-loop μ-loop loop-holds (λ c. search needs) (λ c. omega arith) cast-e add-e (λ c. omega arith) (λ c. omega arith) (λ c. omega arith)
+    part-between-end low-of-requires (λ c κs. omega arith) (λ c κs. search needs) returns (λ c. omega arith) (λ c. omega arith) loop-again
     returns-2)

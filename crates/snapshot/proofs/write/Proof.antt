@@ -63,9 +63,6 @@ parted c = headed (c .before .before .before)
 abbrev checked : tie.After-fences → tie.Else1
 checked c = counted (parted c) .before
 
-check-write-requires : tie.Need-check-write-requires
-check-write-requires c κs = search needs
-
 returns : tie.Need-returns
 returns c =
     let s = c .before .before .before .before .before .before .before in
@@ -126,9 +123,6 @@ mul-t11 c = let s = sizes (counted (parted (listed (c .before .before .before .b
 add-t31 : tie.Need-add-t31
 add-t31 c = let s = sizes (counted (parted (listed (c .before .before .before .before .before .before .before)))) in omega (arith, s .0, s .1)
 
-same-length : tie.Need-same-length
-same-length c = search needs
-
 returns-2 : tie.Need-returns-2
 returns-2 c =
     let p = c .before .before .before .before .before .before .before in
@@ -142,23 +136,6 @@ pub write-spec : {M : Type 1} → statement M
 write-spec =
     tie.close
     (tie.spec
-    check-write-requires
-    returns
-    count-requires
-    mul-start
-    add-start
-    block-requires
-    cast-put-three
-    cast-put-three-2
-    put-three-requires
-    lengths-requires
-    fences-requires
-    put-parts-requires
-    slice-aggregate-put-rows
-    slice-aggregate-put-rows-2
-    slice-aggregate-put-rows-3
-    put-rows-requires
-    mul-t11
-    add-t31
-    same-length
-    returns-2)
+    (λ c κs. search needs) returns count-requires mul-start add-start block-requires cast-put-three cast-put-three-2 put-three-requires
+    lengths-requires fences-requires put-parts-requires slice-aggregate-put-rows slice-aggregate-put-rows-2 slice-aggregate-put-rows-3
+    put-rows-requires mul-t11 add-t31 (λ c. search needs) returns-2)
