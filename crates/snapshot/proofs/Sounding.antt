@@ -56,7 +56,8 @@ module _ {g lens fences : List ℕ} {p a : ℕ} (h : p < length lens) (w : Sound
       ∙ ap (λ (l : List ℕ). everyAt (inPlace fences) p (parts l (drop a g))) (drop-next lens p h)
       ∙ ap (λ (l : List ℕ). every (inPlace fences p) (take (getD lens p 0) (drop a g)) && everyAt (inPlace fences) (p + 1) (parts (drop (p + 1) lens) l)) (drop-drop (getD lens p 0) a g)
 
-  tested : {lo hi : ℕ} (b : Bool) → lo ≡ lowOf fences p → hi ≡ highOf fences p
+  -- a test of the bounds is the test of the partition
+  pub tested : {lo hi : ℕ} (b : Bool) → lo ≡ lowOf fences p → hi ≡ highOf fences p
       → b ≡ allFrom lo (take (a + getD lens p 0 - a) (drop a g)) && allWithin hi (take (a + getD lens p 0 - a) (drop a g))
       → every (inPlace fences p) (take (getD lens p 0) (drop a g)) ≡ b
   tested {lo} {hi} b x y e =
@@ -67,14 +68,11 @@ module _ {g lens fences : List ℕ} {p a : ℕ} (h : p < length lens) (w : Sound
       ∙ ap₂ (λ (u v : ℕ). allFrom u l && allWithin v l) (sym x) (sym y)
       ∙ sym q
 
-  pub sound-stop : {lo hi : ℕ} (b : Bool) → lo ≡ lowOf fences p → hi ≡ highOf fences p
-      → b ≡ allFrom lo (take (a + getD lens p 0 - a) (drop a g)) && allWithin hi (take (a + getD lens p 0 - a) (drop a g)) → b ≡ false → false ≡ soundGrowers lens fences g
-  sound-stop b x y e f = sym (one ∙ rw (tested b x y e ∙ f))
+  pub sound-stop : every (inPlace fences p) (take (getD lens p 0) (drop a g)) ≡ false → false ≡ soundGrowers lens fences g
+  sound-stop f = sym (one ∙ rw f)
 
-  pub sound-next : {lo hi : ℕ} (b : Bool) → lo ≡ lowOf fences p → hi ≡ highOf fences p
-      → b ≡ allFrom lo (take (a + getD lens p 0 - a) (drop a g)) && allWithin hi (take (a + getD lens p 0 - a) (drop a g)) → b ≡ true
-      → SoundLeft g lens fences (p + 1) (a + getD lens p 0)
-  sound-next b x y e f = record { left = omega arith; even = w .even; rises = w .rises; fit = w .fit; total = w .total; room = sound-room; work = one ∙ rw (tested b x y e ∙ f) }
+  pub sound-next : every (inPlace fences p) (take (getD lens p 0) (drop a g)) ≡ true → SoundLeft g lens fences (p + 1) (a + getD lens p 0)
+  sound-next f = record { left = omega arith; even = w .even; rises = w .rises; fit = w .fit; total = w .total; room = sound-room; work = one ∙ rw f }
 
 pub sound-end : {g lens fences : List ℕ} {p a : ℕ} → length lens ≤ p → SoundLeft g lens fences p a → true ≡ soundGrowers lens fences g
 unfolding parts everyAt

@@ -100,18 +100,6 @@ returns-3 c =
 count-requires : tie.Need-count-requires
 count-requires c κs = held (shaped (good (c .before) .before)) .shape .size
 
-mul-if4 : tie.Need-mul-if4
-mul-if4 c = let f = fits c in omega (arith, f .0, f .1)
-
-add-if4 : tie.Need-add-if4
-add-if4 c = let f = fits c in omega (arith, f .0, f .1)
-
-mul-if4-2 : tie.Need-mul-if4-2
-mul-if4-2 c = let f = fits c in omega (arith, f .0, f .1)
-
-add-if4-2 : tie.Need-add-if4-2
-add-if4-2 c = let f = fits c in omega (arith, f .0, f .1)
-
 returns-4 : tie.Need-returns-4
 returns-4 c =
     let k = c .before .before in
@@ -134,4 +122,4 @@ check-write-spec =
     (tie.spec
     (λ c κs. search needs) (λ c κs. search needs) returns lengths-requires fences-requires sound-ok-requires (λ c κs. search needs)
     returns-2 slice-aggregate-values-ok slice-aggregate-values-ok-2 (λ c κs. search needs) (λ c κs. search needs) returns-3 count-requires
-    mul-if4 add-if4 mul-if4-2 add-if4-2 (λ c κs. search needs) returns-4 returns-5)
+    (λ c. omega (arith, fits c)) (λ c. omega (arith, fits c)) (λ c. omega (arith, fits c)) (λ c. omega (arith, fits c)) (λ c κs. search needs) returns-4 returns-5)

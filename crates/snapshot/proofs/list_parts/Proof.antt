@@ -44,18 +44,17 @@ returns c =
 
 returns-2 : tie.Need-returns-2 Inv-loop μ-loop
 returns-2 c =
-    let b = c .before .before .before .before .before in
-    list-stop (b .before .before .before .before .loop .inv)
-    (b .before .before .before .loop-test .taken) _
-    (took-stop (one (b)) (omega arith) (c .before .before .before .number-at2 .ensures) (c .before .enum-told2 .given .1))
+    let f = c .before .before .before .before .before in
+    list-stop (from f .loop .inv) (f .before .before .before .loop-test .taken) _
+    (took-stop (one f) (omega arith) (c .before .before .before .number-at2 .ensures) (c .before .enum-told2 .given .1))
     (c .not-listed2 .ensures)
 
 returns-3 : tie.Need-returns-3 Inv-loop μ-loop
 returns-3 c =
-    let top = c .before .before .before .before .before .before .before .before .before .before .before in
-    list-stop (top .before .loop .inv)
-    (top .loop-test .taken) _
-    (sym (not-true _ (c .before .if1 .taken)) ∙ c .before .before .ends .ensures ∙ took-end (two (c .before .before .before .before)) (omega arith)) (c .not-listed3 .ensures)
+    let g = c .before .before .before .before in
+    let f = first g in
+    list-stop (from f .loop .inv) (f .before .before .before .loop-test .taken) _
+    (sym (not-true _ (c .before .if1 .taken)) ∙ c .before .before .ends .ensures ∙ took-end (two g) (omega arith)) (c .not-listed3 .ensures)
 
 -- the invariant, past the line's end
 abbrev so-far : tie.Else1 Inv-loop μ-loop → tie.At-loop Inv-loop μ-loop

@@ -18,11 +18,11 @@ use Rattle.snapshot.proofs.read.Tie as tie
 
 -- Past the judgement: the bounds, the fields and the slices.
 
-abbrev text : tie.Else2 → List ℕ
-text c = c .before .before .before .before .before .before .before .before .before .before .before .args .text .now
-
 abbrev from : tie.Else2 → tie.Start
 from c = c .before .before .before .before .before .before .before .before .before .before .before
+
+abbrev text : tie.Else2 → List ℕ
+text c = from c .args .text .now
 
 judged : (c : tie.Else2) → c .before .judge .result ≡ judgedOf blockLimit (text c) (length (from c .args .growers .now))
 judged c = c .before .judge .ensures
@@ -36,9 +36,16 @@ lent c = stored blockLimit _ _ _ (judged c) (c .if2 .left)
 slices : (c : tie.Else2) → Sliced (from c .args .growers .now) (from c .args .weights .now) (from c .args .yields .now)
 slices c = sliced _ _ _ (of-true _ (even c))
 
--- the end, past the stores
-abbrev passed : tie.After-directory → tie.Else2
-passed c = c .before .before .before .before .before .before .before .before .before .before .before .before .before
+-- The slices stored, one after the other.
+
+abbrev first : tie.After-store → tie.Else2
+first c = c .before .before
+
+abbrev second : tie.After-store2 → tie.After-store
+second c = c .before .before .before .before
+
+abbrev third : tie.After-store3 → tie.After-store2
+third c = c .before .before .before .before
 
 returns : tie.Need-returns
 returns c = read-three blockLimit _ _ _ _ _ (sym (c .before .before .slices-ok .ensures) ∙ not-true _ (c .before .if1 .taken)) (c .refused .ensures)
@@ -52,27 +59,30 @@ store-requires : tie.Need-store-requires
 store-requires c κs = let w = lent (c .before) in (omega (arith, w .begins), w .used, w .room, w .growers)
 
 add-store : tie.Need-add-store
-add-store c = omega (arith, lent (c .before .before .before .before) .begins)
+add-store c = omega (arith, lent (first (c .before .before)) .begins)
 
 store-requires-2 : tie.Need-store-requires-2
 store-requires-2 c κs =
-    let w = lent (c .before .before .before .before .before) in
-    (omega (arith, w .begins), w .used, omega (arith, w .room, slices (c .before .before .before .before .before) .even .weights), w .weights)
+    let e = first (c .before .before .before) in
+    let w = lent e in
+    (omega (arith, w .begins), w .used, omega (arith, w .room, slices e .even .weights), w .weights)
 
 add-store-2 : tie.Need-add-store-2
-add-store-2 c = omega (arith, lent (c .before .before .before .before .before .before .before .before) .begins)
+add-store-2 c = omega (arith, lent (first (second (c .before .before))) .begins)
 
 store-requires-3 : tie.Need-store-requires-3
 store-requires-3 c κs =
-    let b = c .before .before .before .before .before .before .before .before .before in
-    let w = lent (b) in
-    (omega (arith, w .begins), w .used, omega (arith, w .room, slices (b) .even .yields), w .yields)
+    let e = first (second (c .before .before .before)) in
+    let w = lent e in
+    (omega (arith, w .begins), w .used, omega (arith, w .room, slices e .even .yields), w .yields)
 
 returns-3 : tie.Need-returns-3
 returns-3 c =
-    let e = passed c in
-    read-done blockLimit _ _ _ _ (even e) _ (judged e) (e .if2 .left) _ _ _ (c .before .before .before .before .before .before .before .before .before .before .before .store .ensures)
-    (c .before .before .before .before .before .before .before .store2 .ensures) (c .before .before .before .store3 .ensures)
+    let y = c .before .before .before in
+    let w = third y in
+    let g = second w in
+    let e = first g in
+    read-done blockLimit _ _ _ _ (even e) _ (judged e) (e .if2 .left) _ _ _ (g .store .ensures) (w .store2 .ensures) (y .store3 .ensures)
 
 pub read-spec : {M : Type 1} → statement M
 read-spec =

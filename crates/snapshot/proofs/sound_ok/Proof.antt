@@ -2,10 +2,11 @@
 -- the fences rise. Assumes nothing.
 use borrow.Author.Needs.{needs}
 use Prim.Native.Nat.{_-_}
+use mathlib.Core.Path.{_∙_}
 use native.Mathlib.Omega.{arith}
 use borrow.Author.Tests.{not-true, not-false}
 use lib.ListN.{length}
-use Rattle.snapshot.proofs.Sounding.{SoundLeft, fit-slice, sound-start, sound-room, sound-stop, sound-next, sound-end}
+use Rattle.snapshot.proofs.Sounding.{SoundLeft, fit-slice, sound-start, sound-room, tested, sound-stop, sound-next, sound-end}
 use Rattle.snapshot.proofs.sound_ok.Statement.{statement}
 use Rattle.snapshot.proofs.sound_ok.Tie as tie
 
@@ -33,14 +34,16 @@ low-of-requires c κs = let q = c .before .before .before .before .before .befor
 returns : tie.Need-returns Inv-loop μ-loop
 returns c =
     let top = c .before .before .before .before .before .before in
-    sound-stop (top .loop-test .taken) (top .before .loop .inv) _
-    (c .before .before .before .low-of .ensures) (c .before .before .high-of .ensures) (c .before .between .ensures) (not-true _ (c .if1 .taken))
+    let h = top .loop-test .taken in
+    let w = top .before .loop .inv in
+    sound-stop h w (tested h w _ (c .before .before .before .low-of .ensures) (c .before .before .high-of .ensures) (c .before .between .ensures) ∙ not-true _ (c .if1 .taken))
 
 loop-again : tie.Need-loop-again Inv-loop μ-loop
 loop-again c =
     let top = c .before .before .before .before .before .before in
-    sound-next (top .loop-test .taken) (top .before .loop .inv) _
-    (c .before .before .before .low-of .ensures) (c .before .before .high-of .ensures) (c .before .between .ensures) (not-false _ (c .if1 .left))
+    let h = top .loop-test .taken in
+    let w = top .before .loop .inv in
+    sound-next h w (tested h w _ (c .before .before .before .low-of .ensures) (c .before .before .high-of .ensures) (c .before .between .ensures) ∙ not-false _ (c .if1 .left))
 
 returns-2 : tie.Need-returns-2 Inv-loop μ-loop
 returns-2 c = sound-end (c .loop-test .left) (c .before .loop .inv)
