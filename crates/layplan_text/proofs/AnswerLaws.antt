@@ -136,7 +136,7 @@ pub record Deliveries (t : List ℕ) (m : ℕ) : Type 0 where
 module _ (t : List ℕ) (m : ℕ) (ok : weekOk t ≡ true) (em : m ≡ usedIn t) where
   pub deliveries : Deliveries t m
   deliveries =
-      let g = good t (of-true (weekOk t) ok) in
+      let g = good t (of-true _ ok) in
       record {
         few = omega (arith, head t (g .first) .few);
         growers = rw em (column-ok t 3 0 (omega arith) (usedIn t) 91 (g .deliveries));

@@ -16,10 +16,10 @@ use Rattle.model.specs.Deliveries.{delivery}
 use Rattle.model.specs.Calls.{Call, find, range, insert, delete, move}
 use Rattle.model.specs.Recorder.{Recorded, recordCall}
 use Rattle.model.specs.Program.{callOf, callsOf, recordUntilRefused}
-use Rattle.model.proofs.Tests.{and-fst, and-snd, of-true, eqb-no}
+use Rattle.model.proofs.Tests.{and-fst, and-snd, of-true, eqb-no, pairs-swap}
 use Rattle.fields.specs.Reading.{fieldOk, valueAt}
 use Rattle.lines.specs.Lines.{textRefusal, columnAt, lineOk, linesOk, rowsAt}
-use Rattle.lines.proofs.Forms.{both, pairs-swap}
+use Rattle.lines.proofs.Forms.{both}
 use Rattle.layplan_text.specs.Week.{callBy, callsAt, callOk, callsOk}
 
 -- Unused numbers.
@@ -71,7 +71,7 @@ decided : {P : Type 0} (m n : ℕ) → (m ≡ n → P) → (m ≢ n → P) → P
 decided {P} m n same other = go (eqb m n) refl
   where
     go : (x : Bool) → eqb m n ≡ x → P
-    go true e = same (eqb→eq m n (of-true (eqb m n) e))
+    go true e = same (eqb→eq m n (of-true _ e))
     go false e = other (eqb-no m n e)
 
 cond-form : {A : Type 0} (x : Bool) (v : A) → cond x (some v) none ≡ onlyIf (isSome (cond x (some v) none)) v

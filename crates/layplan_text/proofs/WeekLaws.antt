@@ -1,7 +1,7 @@
 -- The whole input: what it says, if it is one. Assumes nothing.
 use Prim.Native.Nat.{ℕ, _+_, _*_, _≤_, _<_}
 use mathlib.Core.Path.{_≡_, refl, sym, ap, ap₂, _∙_}
-use mathlib.Core.Bool.{Bool, true, false, _&&_}
+use mathlib.Core.Bool.{Bool, true, false, _&&_, and-assoc}
 use mathlib.Core.Option.{Option}
 use mathlib.Core.List.{List, [], _∷_, _++_}
 use native.Mathlib.Omega.{arith}
@@ -19,7 +19,7 @@ use Rattle.model.proofs.Tests.{of-true, and-fst, and-snd, leb-no}
 use Rattle.fields.specs.Reading.{fieldOk}
 use Rattle.lines.specs.Lines.{textRefusal, columnAt, lineOk, linesOk, rowsAt}
 use Rattle.lines.proofs.Reading.{failed}
-use Rattle.lines.proofs.Forms.{assoc, chain, line-at, lines-at, column-of, nothing-left}
+use Rattle.lines.proofs.Forms.{chain, line-at, lines-at, column-of, nothing-left}
 use Rattle.layplan_text.specs.Week.{callsAt, callsOk, usedIn, countIn, callsFrom, headOk, weekOk, weekIn}
 use Rattle.layplan_text.proofs.CallLaws.{areCalls, calls-form, calls-are, first-field, later-fields}
 
@@ -104,7 +104,7 @@ module _ (t : List ℕ) where
       let end : List ℕ = drop (a + 56 * q) t in
       chain (takeLines q 5 (drop a t)) (linesOk 5 q a t) (taken rs end) (withCalls ds3) (areCalls t rs && left) weekAt (lines-at t q 5 a)
       (chain (callsOf rs) (areCalls t rs) (callsAt q a t) (λ cs. ended ds3 end cs) left weekAt (calls-form t q a) ending)
-      ∙ ap (λ (b : Bool). onlyIf b weekAt) (assoc (linesOk 5 q a t) (areCalls t rs) left ∙ ap (λ (b : Bool). b && left) (sym (calls-are t q a)))
+      ∙ ap (λ (b : Bool). onlyIf b weekAt) (sym (and-assoc (linesOk 5 q a t) (areCalls t rs) left) ∙ ap (λ (b : Bool). b && left) (sym (calls-are t q a)))
 
   abbrev restOk : Bool
   restOk = linesOk 3 m 91 t && (callsOk q a t && left)
@@ -260,8 +260,8 @@ head t o =
       block = n .0;
       used = n .1;
       count = n .2;
-      few = leb→le (usedIn t) mostDeliveries (and-snd (leb 1 (usedIn t)) (leb (usedIn t) mostDeliveries) (and-fst few (leb (countIn t) mostCalls) k));
-      calls = leb→le (countIn t) mostCalls (and-snd few (leb (countIn t) mostCalls) k);
+      few = leb→le _ _ (and-snd (leb 1 (usedIn t)) (leb (usedIn t) mostDeliveries) (and-fst few (leb (countIn t) mostCalls) k));
+      calls = leb→le _ _ (and-snd few (leb (countIn t) mostCalls) k);
     }
 
 pub record Good (t : List ℕ) : Type 0 where
@@ -279,7 +279,7 @@ good t o =
     let d = leb (length t) (callsFrom t + 56 * countIn t) in
     let x = and-snd a (b && (c && d)) o in
     let y = and-snd b (c && d) x in
-    record { first = and-fst a (b && (c && d)) o; deliveries = and-fst b (c && d) x; calls = and-fst c d y; long = leb→le (length t) (callsFrom t + 56 * countIn t) (and-snd c d y) }
+    record { first = and-fst a (b && (c && d)) o; deliveries = and-fst b (c && d) x; calls = and-fst c d y; long = leb→le _ _ (and-snd c d y) }
 
 -- The longest input has 90,907 bytes: what is longer is refused, and so is its front of 90,908 bytes.
 
@@ -288,7 +288,7 @@ too-long t h = go (weekOk t) refl
   where
     go : (b : Bool) → weekOk t ≡ b → layplan t ≡ refusalText 14
     go true e =
-        let w = good t (of-true (weekOk t) e) in
+        let w = good t (of-true _ e) in
         let s = head t (w .first) in
         absurd (omega (arith, s .few, s .calls, w .long))
     go false e = layplan-bad t e
@@ -297,7 +297,7 @@ pub cut-short : (t : List ℕ) → layplan (take 90908 t) ≡ layplan t
 cut-short t = go (leb (length t) 90908) refl
   where
     go : (b : Bool) → leb (length t) 90908 ≡ b → layplan (take 90908 t) ≡ layplan t
-    go true e = ap layplan (take-all 90908 t (leb→le (length t) 90908 (of-true (leb (length t) 90908) e)))
+    go true e = ap layplan (take-all 90908 t (leb→le (length t) 90908 (of-true _ e)))
     go false e =
         let h : 90908 < length t = leb-no (length t) 90908 e in
         too-long (take 90908 t) (omega (arith, length-take-le 90908 t (omega arith))) ∙ sym (too-long t (omega arith))

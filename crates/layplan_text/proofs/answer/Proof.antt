@@ -23,37 +23,16 @@ spelled-at-requires-2 c κs = head _ (good _ (c .before .before .before .before 
 spelled-at-requires-3 : tie.Need-spelled-at-requires-3
 spelled-at-requires-3 c κs = head _ (good _ (c .before .before .before .before .before .before .pre) .first) .count
 
-cast-q : tie.Need-cast-q
-cast-q c = search needs
-
-cast-a : tie.Need-cast-a
-cast-a c = search needs
-
-mul-a : tie.Need-mul-a
-mul-a c = omega (arith, calls-start (sizes c) (c .before .before .before .before .before .before .before .pre))
-
-add-a : tie.Need-add-a
-add-a c = omega (arith, calls-start (sizes c) (c .before .before .before .before .before .before .before .pre))
-
-slice-aggregate-record-lines : tie.Need-slice-aggregate-record-lines
-slice-aggregate-record-lines c = search needs
-
 record-lines-requires : tie.Need-record-lines-requires
 record-lines-requires c κs =
     let s = c .before .before .before .before .before .before .before .before in
     let n = sizes (c .before) in
     (calls-start n (s .pre), calls-few n (s .pre), calls-good n (s .pre))
 
-refused-requires : tie.Need-refused-requires
-refused-requires c κs = search needs
-
 returns : tie.Need-returns
 returns c =
     let n = sizes (c .before .before .before .before .before) in
     answer-refused _ _ _ n _ _ (c .before .before .before .record-lines .ensures) _ (λ z. omega (arith, z, c .before .if1 .taken)) (c .refused .ensures)
-
-slice-aggregate-plan : tie.Need-slice-aggregate-plan
-slice-aggregate-plan c = search needs
 
 plan-requires : tie.Need-plan-requires
 plan-requires c κs = good _ (c .before .before .before .before .before .before .before .before .before .before .before .before .pre) .first
@@ -67,17 +46,5 @@ pub answer-spec : {M : Type 1} → statement M
 answer-spec =
     tie.close
     (tie.spec
-    spelled-at-requires
-    spelled-at-requires-2
-    spelled-at-requires-3
-    cast-q
-    cast-a
-    mul-a
-    add-a
-    slice-aggregate-record-lines
-    record-lines-requires
-    refused-requires
-    returns
-    slice-aggregate-plan
-    plan-requires
-    returns-2)
+    spelled-at-requires spelled-at-requires-2 spelled-at-requires-3 (λ c. search needs) (λ c. search needs) (λ c. omega arith)
+    (λ c. omega arith) (λ c. search needs) record-lines-requires (λ c κs. search needs) returns (λ c. search needs) plan-requires returns-2)

@@ -10,9 +10,6 @@ spelled-at-requires c κs = head _ (c .before .pre) .random
 spelled-at-requires-2 : tie.Need-spelled-at-requires-2
 spelled-at-requires-2 c κs = head _ (c .before .before .pre) .sequential
 
-mul-spelled-at : tie.Need-mul-spelled-at
-mul-spelled-at c = search needs
-
 spelled-at-requires-3 : tie.Need-spelled-at-requires-3
 spelled-at-requires-3 c κs = head _ (c .before .before .before .pre) .written
 
@@ -21,10 +18,4 @@ returns c = rw (c .before .before .spelled-at .ensures, c .before .spelled-at2 .
 
 pub card-of-spec : {M : Type 1} → statement M
 card-of-spec =
-    tie.close
-    (tie.spec
-    spelled-at-requires
-    spelled-at-requires-2
-    mul-spelled-at
-    spelled-at-requires-3
-    returns)
+    tie.close (tie.spec spelled-at-requires spelled-at-requires-2 (λ c. search needs) spelled-at-requires-3 returns)

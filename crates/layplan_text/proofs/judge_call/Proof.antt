@@ -72,74 +72,23 @@ last c = c .before .before .before
 line-ends : (c : tie.Else1) → lineOk 5 (from-five (last c) .args .at) (from-five (last c) .args .text .now) ≡ true
 line-ends c = sym (took-end (five (last c)) (omega arith)) ∙ sym (c .before .ends .ensures) ∙ not-false _ (c .if1 .left)
 
-number-at-requires : tie.Need-number-at-requires
-number-at-requires c κs = search needs
-
-enum-known-f : tie.Need-enum-known-f
-enum-known-f c = search needs
-
-enum-told : tie.Need-enum-told
-enum-told c = search needs
-
 returns : tie.Need-returns
 returns c = no-line _ _ (took-stop (took-start _ _ 5) (omega arith) (c .before .before .number-at .ensures) (c .enum-told .given .1))
-
-number-at-requires-2 : tie.Need-number-at-requires-2
-number-at-requires-2 c κs = search needs
-
-enum-known-g : tie.Need-enum-known-g
-enum-known-g c = search needs
-
-enum-told-2 : tie.Need-enum-told-2
-enum-told-2 c = search needs
 
 returns-2 : tie.Need-returns-2
 returns-2 c = no-line _ _ (took-stop (one (c .before .before .before .before)) (omega arith) (c .before .before .number-at2 .ensures) (c .enum-told2 .given .1))
 
-number-at-requires-3 : tie.Need-number-at-requires-3
-number-at-requires-3 c κs = search needs
-
-enum-known-h : tie.Need-enum-known-h
-enum-known-h c = search needs
-
-enum-told-3 : tie.Need-enum-told-3
-enum-told-3 c = search needs
-
 returns-3 : tie.Need-returns-3
 returns-3 c = no-line _ _ (took-stop (two (c .before .before .before .before)) (omega arith) (c .before .before .number-at3 .ensures) (c .enum-told3 .given .1))
-
-number-at-requires-4 : tie.Need-number-at-requires-4
-number-at-requires-4 c κs = search needs
-
-enum-known-i : tie.Need-enum-known-i
-enum-known-i c = search needs
-
-enum-told-4 : tie.Need-enum-told-4
-enum-told-4 c = search needs
 
 returns-4 : tie.Need-returns-4
 returns-4 c = no-line _ _ (took-stop (three (c .before .before .before .before)) (omega arith) (c .before .before .number-at4 .ensures) (c .enum-told4 .given .1))
 
-number-at-requires-5 : tie.Need-number-at-requires-5
-number-at-requires-5 c κs = search needs
-
-enum-known-j : tie.Need-enum-known-j
-enum-known-j c = search needs
-
-enum-told-5 : tie.Need-enum-told-5
-enum-told-5 c = search needs
-
 returns-5 : tie.Need-returns-5
 returns-5 c = no-line _ _ (took-stop (four (c .before .before .before .before)) (omega arith) (c .before .before .number-at5 .ensures) (c .enum-told5 .given .1))
 
-ends-requires : tie.Need-ends-requires
-ends-requires c κs = search needs
-
 returns-6 : tie.Need-returns-6
 returns-6 c = no-line _ _ (sym (not-true _ (c .if1 .taken)) ∙ c .before .ends .ensures ∙ took-end (five (c .before .before .before)) (omega arith))
-
-unused-ok-requires : tie.Need-unused-ok-requires
-unused-ok-requires c κs = search needs
 
 returns-7 : tie.Need-returns-7
 returns-7 c = call-decided _ _ _ _ _ _ _ (line-ends (c .before .before)) (five (last (c .before .before)) .values) false (sym (c .before .unused-ok .ensures _) ∙ not-true _ (c .if2 .taken))
@@ -151,28 +100,7 @@ pub judge-call-spec : {M : Type 1} → statement M
 judge-call-spec =
     tie.close
     (tie.spec
-    number-at-requires
-    enum-known-f
-    enum-told
-    returns
-    number-at-requires-2
-    enum-known-g
-    enum-told-2
-    returns-2
-    number-at-requires-3
-    enum-known-h
-    enum-told-3
-    returns-3
-    number-at-requires-4
-    enum-known-i
-    enum-told-4
-    returns-4
-    number-at-requires-5
-    enum-known-j
-    enum-told-5
-    returns-5
-    ends-requires
-    returns-6
-    unused-ok-requires
-    returns-7
-    returns-8)
+    (λ c κs. search needs) (λ c. search needs) (λ c. search needs) returns (λ c κs. search needs) (λ c. search needs) (λ c. search needs)
+    returns-2 (λ c κs. search needs) (λ c. search needs) (λ c. search needs) returns-3 (λ c κs. search needs) (λ c. search needs)
+    (λ c. search needs) returns-4 (λ c κs. search needs) (λ c. search needs) (λ c. search needs) returns-5 (λ c κs. search needs) returns-6
+    (λ c κs. search needs) returns-7 returns-8)

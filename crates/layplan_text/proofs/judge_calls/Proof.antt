@@ -1,4 +1,4 @@
--- `layplan_text::judge_calls` meets its contract. The loop's invariant: the calls that are left, judged from here on, decide. Assumes nothing.
+-- `layplan_text::judge_calls` meets its contract. The loop's invariant: the calls that are left, judged from here on, decide. A good line leaves those behind it. Assumes nothing.
 use Prim.Native.Nat.{_-_}
 use mathlib.Core.Path.{ap}
 use native.Mathlib.Omega.{arith}
@@ -19,20 +19,8 @@ abbrev μ-loop : tie.MeasureT-loop
 loop-holds : tie.Need-loop-holds Inv-loop μ-loop
 loop-holds c = calls-start _ _ _
 
-judge-call-requires : tie.Need-judge-call-requires Inv-loop μ-loop
-judge-call-requires c κs = search needs
-
 returns : tie.Need-returns Inv-loop μ-loop
 returns c = refused-by _ _ (c .before .judge-call .ensures) (c .if1 .taken) (calls-stop (c .before .before .loop-test .taken) (c .before .before .before .loop .inv))
-
-add-e : tie.Need-add-e Inv-loop μ-loop
-add-e c = omega (arith, c .before .before .before .loop .inv .at-line, c .before .before .before .before .before .pre .0, c .before .before .before .before .before .pre .1)
-
-add-i : tie.Need-add-i Inv-loop μ-loop
-add-i c = omega arith
-
-loop-less : tie.Need-loop-less Inv-loop μ-loop
-loop-less c = omega arith
 
 loop-again : tie.Need-loop-again Inv-loop μ-loop
 loop-again c = calls-next (c .before .before .loop-test .taken) (c .before .before .before .loop .inv) (passed _ (c .before .judge-call .ensures) (c .if1 .left))
@@ -42,15 +30,4 @@ returns-2 c = ap textRefusal (calls-end (c .loop-test .left) (c .before .loop .i
 
 pub judge-calls-spec : {M : Type 1} → statement M
 judge-calls-spec =
-    tie.close
-    (tie.spec
-    Inv-loop
-    μ-loop
-    loop-holds
-    judge-call-requires
-    returns
-    add-e
-    add-i
-    loop-less
-    loop-again
-    returns-2)
+    tie.close (tie.spec Inv-loop μ-loop loop-holds (λ c κs. search needs) returns (λ c. omega arith) (λ c. omega arith) (λ c. omega arith) loop-again returns-2)

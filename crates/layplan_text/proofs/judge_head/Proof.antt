@@ -30,20 +30,11 @@ decided c b e =
     head-decided _ (prices (l .before .before .before .before)) (limits (l .before .before)) (sizes l) _ _
     (c .before .before .spelled-at .ensures) (c .before .spelled-at2 .ensures) b (sym (c .sizes-ok .ensures) ∙ e)
 
-judge-line-requires : tie.Need-judge-line-requires
-judge-line-requires c κs = search needs
-
 returns : tie.Need-returns
 returns c = refused-by _ _ (c .before .judge-line .ensures) (c .if1 .taken) (no-prices _)
 
-judge-line-requires-2 : tie.Need-judge-line-requires-2
-judge-line-requires-2 c κs = search needs
-
 returns-2 : tie.Need-returns-2
 returns-2 c = refused-by _ _ (c .before .judge-line2 .ensures) (c .if2 .taken) (no-limits _ (prices (c .before .before)))
-
-judge-line-requires-3 : tie.Need-judge-line-requires-3
-judge-line-requires-3 c κs = search needs
 
 returns-3 : tie.Need-returns-3
 returns-3 c = refused-by _ _ (c .before .judge-line3 .ensures) (c .if3 .taken) (no-sizes _ (prices (c .before .before .before .before)) (limits (c .before .before)))
@@ -53,9 +44,6 @@ spelled-at-requires c κs = fields-three _ 57 (of-true _ (sizes c)) .1
 
 spelled-at-requires-2 : tie.Need-spelled-at-requires-2
 spelled-at-requires-2 c κs = fields-three _ 57 (of-true _ (sizes (c .before))) .2
-
-sizes-ok-requires : tie.Need-sizes-ok-requires
-sizes-ok-requires c κs = search needs
 
 returns-4 : tie.Need-returns-4
 returns-4 c = decided (c .before) false (not-true _ (c .if4 .taken))
@@ -67,14 +55,5 @@ pub judge-head-spec : {M : Type 1} → statement M
 judge-head-spec =
     tie.close
     (tie.spec
-    judge-line-requires
-    returns
-    judge-line-requires-2
-    returns-2
-    judge-line-requires-3
-    returns-3
-    spelled-at-requires
-    spelled-at-requires-2
-    sizes-ok-requires
-    returns-4
-    returns-5)
+    (λ c κs. search needs) returns (λ c κs. search needs) returns-2 (λ c κs. search needs) returns-3 spelled-at-requires
+    spelled-at-requires-2 (λ c κs. search needs) returns-4 returns-5)

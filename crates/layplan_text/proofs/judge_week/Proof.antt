@@ -74,35 +74,20 @@ goes-on c h = decided c false (lt-leb _ _ h)
 is-done : (c : tie.Else3) → length (text (counted c)) ≤ stops (counted c) → 0 ≡ textRefusal (weekOk (text (counted c)))
 is-done c h = decided c true (le-leb _ _ h)
 
-judge-head-requires : tie.Need-judge-head-requires
-judge-head-requires c κs = search needs
-
 returns : tie.Need-returns
 returns c = refused-by _ _ (c .before .judge-head .ensures) (c .if1 .taken) (no-head _)
 
 spelled-at-requires : tie.Need-spelled-at-requires
 spelled-at-requires c κs = lines c .used
 
-cast-m : tie.Need-cast-m
-cast-m c = search needs
-
 spelled-at-requires-2 : tie.Need-spelled-at-requires-2
 spelled-at-requires-2 c κs = lines (c .before) .count
-
-cast-q : tie.Need-cast-q
-cast-q c = search needs
 
 judge-lines-requires : tie.Need-judge-lines-requires
 judge-lines-requires c κs = (omega arith, omega arith, omega (arith, few c))
 
 returns-2 : tie.Need-returns-2
 returns-2 c = refused-by _ _ (c .before .judge-lines .ensures) (c .if2 .taken) (no-lines (c .before .before))
-
-mul-a : tie.Need-mul-a
-mul-a c = omega (arith, few (c .before .before))
-
-add-a : tie.Need-add-a
-add-a c = omega (arith, few (c .before .before))
 
 judge-calls-requires : tie.Need-judge-calls-requires
 judge-calls-requires c κs = let n = sizes c in (omega (arith, few n), calls n)
@@ -126,19 +111,5 @@ pub judge-week-spec : {M : Type 1} → statement M
 judge-week-spec =
     tie.close
     (tie.spec
-    judge-head-requires
-    returns
-    spelled-at-requires
-    cast-m
-    spelled-at-requires-2
-    cast-q
-    judge-lines-requires
-    returns-2
-    mul-a
-    add-a
-    judge-calls-requires
-    returns-3
-    mul-if4
-    add-if4
-    returns-4
-    returns-5)
+    (λ c κs. search needs) returns spelled-at-requires (λ c. search needs) spelled-at-requires-2 (λ c. search needs) judge-lines-requires
+    returns-2 (λ c. omega arith) (λ c. omega arith) judge-calls-requires returns-3 mul-if4 add-if4 returns-4 returns-5)

@@ -39,41 +39,20 @@ weights c = c .before .before .before .before
 abbrev yields : tie.After-yields2 → tie.After-store3
 yields c = c .before
 
-judge-week-requires : tie.Need-judge-week-requires
-judge-week-requires c κs = search needs
-
-refused-requires : tie.Need-refused-requires
-refused-requires c κs = search needs
-
 returns : tie.Need-returns
 returns c = program-refused _ _ _ (c .before .before .judge-week .ensures) (c .before .if1 .taken) (c .refused .ensures)
 
 spelled-at-requires : tie.Need-spelled-at-requires
 spelled-at-requires c κs = head _ (good _ (of-true _ (week c)) .first) .used
 
-cast-m : tie.Need-cast-m
-cast-m c = search needs
-
-slice-aggregate-store : tie.Need-slice-aggregate-store
-slice-aggregate-store c = search needs
-
 store-requires : tie.Need-store-requires
 store-requires c κs = let w = held (c .before) in (omega arith, omega (arith, w .few), omega (arith, w .few), w .growers)
-
-slice-aggregate-store-2 : tie.Need-slice-aggregate-store-2
-slice-aggregate-store-2 c = search needs
 
 store-requires-2 : tie.Need-store-requires-2
 store-requires-2 c κs = let w = held (c .before .before .before .before) in (omega arith, omega (arith, w .few), omega (arith, w .few), w .weights)
 
-slice-aggregate-store-3 : tie.Need-slice-aggregate-store-3
-slice-aggregate-store-3 c = search needs
-
 store-requires-3 : tie.Need-store-requires-3
 store-requires-3 c κs = let w = held (c .before .before .before .before .before .before .before) in (omega arith, omega (arith, w .few), omega (arith, w .few), w .yields)
-
-add-c : tie.Need-add-c
-add-c c = search needs
 
 array-share-prefix-growers : tie.Need-array-share-prefix-growers
 array-share-prefix-growers c = omega (arith, stored-room _ 91 _ (mostDeliveries + 1) (few c) _ (growers c .store .ensures))
@@ -107,23 +86,7 @@ pub layplan-text-spec : {M : Type 1} → statement M
 layplan-text-spec =
     tie.close
     (tie.spec
-    judge-week-requires
-    refused-requires
-    returns
-    spelled-at-requires
-    cast-m
-    slice-aggregate-store
-    store-requires
-    slice-aggregate-store-2
-    store-requires-2
-    slice-aggregate-store-3
-    store-requires-3
-    add-c
-    array-share-prefix-growers
-    slice-aggregate-answer
-    array-share-prefix-weights
-    slice-aggregate-answer-2
-    array-share-prefix-yields
-    slice-aggregate-answer-3
-    answer-requires
-    returns-2)
+    (λ c κs. search needs) (λ c κs. search needs) returns spelled-at-requires (λ c. search needs) (λ c. search needs) store-requires
+    (λ c. search needs) store-requires-2 (λ c. search needs) store-requires-3 (λ c. search needs) array-share-prefix-growers
+    slice-aggregate-answer array-share-prefix-weights slice-aggregate-answer-2 array-share-prefix-yields slice-aggregate-answer-3
+    answer-requires returns-2)

@@ -7,9 +7,6 @@ use Rattle.layplan_text.proofs.limits_of.Tie as tie
 spelled-at-requires : tie.Need-spelled-at-requires
 spelled-at-requires c κs = head _ (c .before .pre) .read
 
-add-spelled-at : tie.Need-add-spelled-at
-add-spelled-at c = search needs
-
 spelled-at-requires-2 : tie.Need-spelled-at-requires-2
 spelled-at-requires-2 c κs = head _ (c .before .before .pre) .insert
 
@@ -18,4 +15,4 @@ returns c = rw (c .before .spelled-at .ensures, c .spelled-at2 .ensures)
 
 pub limits-of-spec : {M : Type 1} → statement M
 limits-of-spec =
-    tie.close (tie.spec spelled-at-requires add-spelled-at spelled-at-requires-2 returns)
+    tie.close (tie.spec spelled-at-requires (λ c. search needs) spelled-at-requires-2 returns)

@@ -21,34 +21,16 @@ ThePrices c =
 prices : (c : tie.After-spelled-at2) → ThePrices c
 prices c = record { card = c .before .before .before .card-of .ensures; limit = c .before .before .limits-of .ensures; block = c .before .spelled-at .ensures; used = c .spelled-at2 .ensures }
 
-card-of-requires : tie.Need-card-of-requires
-card-of-requires c κs = c .before .before .before .before .before .pre
-
-limits-of-requires : tie.Need-limits-of-requires
-limits-of-requires c κs = c .before .before .before .before .before .before .pre
-
 spelled-at-requires : tie.Need-spelled-at-requires
 spelled-at-requires c κs = head _ (c .before .before .before .before .before .before .before .pre) .block
 
 spelled-at-requires-2 : tie.Need-spelled-at-requires-2
 spelled-at-requires-2 c κs = head _ (c .before .before .before .before .before .before .before .before .pre) .used
 
-slice-aggregate-plan : tie.Need-slice-aggregate-plan
-slice-aggregate-plan c = search needs
-
-plan-requires : tie.Need-plan-requires
-plan-requires c κs = search needs
-
-refused-requires : tie.Need-refused-requires
-refused-requires c κs = search needs
-
 returns : tie.Need-returns
 returns c =
     let p = prices (c .before .before .before .before .before) in
     plan-refuses blockLimit _ _ _ _ _ p _ _ (c .before .before .before .plan .ensures) _ (c .before .if1 .taken) (c .refused .ensures)
-
-cast-k : tie.Need-cast-k
-cast-k c = search needs
 
 array-share-prefix-ends : tie.Need-array-share-prefix-ends
 array-share-prefix-ends c =
@@ -69,24 +51,14 @@ planned-requires c κs =
 
 returns-2 : tie.Need-returns-2
 returns-2 c =
-    let p = prices (c .before .before .before .before .before .before .before .before) in
-    plan-prints blockLimit _ _ _ _ _ p _ _ (c .before .before .before .before .before .before .plan .ensures) _ (c .before .before .before .before .if1 .left)
+    let here = c .before .before .before .before in
+    let p = prices (here .before .before .before .before) in
+    plan-prints blockLimit _ _ _ _ _ p _ _ (here .before .before .plan .ensures) _ (here .if1 .left)
     (record { sfits = c .before .struct-told .given .1 .1 .0 .1 }) (c .planned .ensures)
 
 pub plan-spec : {M : Type 1} → statement M
 plan-spec =
     tie.close
     (tie.spec
-    card-of-requires
-    limits-of-requires
-    spelled-at-requires
-    spelled-at-requires-2
-    slice-aggregate-plan
-    plan-requires
-    refused-requires
-    returns
-    cast-k
-    array-share-prefix-ends
-    slice-aggregate-planned
-    planned-requires
-    returns-2)
+    (λ c κs. search needs) (λ c κs. search needs) spelled-at-requires spelled-at-requires-2 (λ c. search needs) (λ c κs. search needs)
+    (λ c κs. search needs) returns (λ c. search needs) array-share-prefix-ends slice-aggregate-planned planned-requires returns-2)

@@ -1,4 +1,4 @@
--- `layplan_text::put_ends` meets its contract. The loop's invariant: the lines that are left, written from here on, make the whole. Assumes nothing.
+-- `layplan_text::put_ends` meets its contract. The loop's invariant: the lines that are left, written from here on, make the whole. The line written is the first of them. Assumes nothing.
 use Prim.Native.Nat.{_-_}
 use native.Mathlib.Omega.{arith}
 use borrow.Author.Needs.{needs}
@@ -16,34 +16,13 @@ abbrev μ-loop : tie.MeasureT-loop
 loop-holds : tie.Need-loop-holds Inv-loop μ-loop
 loop-holds c = put-ends-start _ _ _ (c .before .before .pre .0)
 
-mul-last : tie.Need-mul-last Inv-loop μ-loop
-mul-last c = search needs
-
-shared-slice-read-last : tie.Need-shared-slice-read-last Inv-loop μ-loop
-shared-slice-read-last c = omega arith
-
-put-two-requires : tie.Need-put-two-requires Inv-loop μ-loop
-put-two-requires c κs = let w = c .before .before .before .loop .inv in omega (arith, w .at-line, w .room, w .size)
-
 add-first : tie.Need-add-first Inv-loop μ-loop
 add-first c =
     let l = c .before .before .before .before .before .before in
     omega (arith, l .before .before .before .pre .1 (l .loop .i) (c .before .before .before .before .before .loop-test .taken))
 
-add-e : tie.Need-add-e Inv-loop μ-loop
-add-e c = let w = c .before .before .before .before .before .before .loop .inv in omega (arith, w .at-line, w .room, w .size)
-
-add-i : tie.Need-add-i Inv-loop μ-loop
-add-i c = omega arith
-
-loop-less : tie.Need-loop-less Inv-loop μ-loop
-loop-less c = omega arith
-
 loop-again : tie.Need-loop-again Inv-loop μ-loop
 loop-again c = put-ends-next (c .before .before .before .before .before .loop-test .taken) (c .before .before .before .before .before .before .loop .inv) (c .before .before .put-two .ensures)
-
-same-length : tie.Need-same-length Inv-loop μ-loop
-same-length c = c .before .loop .inv .size
 
 returns : tie.Need-returns Inv-loop μ-loop
 returns c = put-ends-end (c .loop-test .left) (c .before .loop .inv)
@@ -52,16 +31,5 @@ pub put-ends-spec : {M : Type 1} → statement M
 put-ends-spec =
     tie.close
     (tie.spec
-    Inv-loop
-    μ-loop
-    loop-holds
-    mul-last
-    shared-slice-read-last
-    put-two-requires
-    add-first
-    add-e
-    add-i
-    loop-less
-    loop-again
-    same-length
-    returns)
+    Inv-loop μ-loop loop-holds (λ c. search needs) (λ c. omega arith) (λ c κs. omega arith) add-first (λ c. omega arith) (λ c. omega arith)
+    (λ c. omega arith) loop-again (λ c. search needs) returns)

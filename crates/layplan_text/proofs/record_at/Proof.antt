@@ -21,79 +21,31 @@ four c = record { kind = c .before .before .before .spelled-at .ensures; first =
 spelled-at-requires : tie.Need-spelled-at-requires
 spelled-at-requires c κs = first-field _ 4 _ (c .before .before .before .before .before .pre .1)
 
-add-spelled-at : tie.Need-add-spelled-at
-add-spelled-at c = search needs
-
 spelled-at-requires-2 : tie.Need-spelled-at-requires-2
 spelled-at-requires-2 c κs = first-field _ 3 _ (later-fields _ 4 _ (c .before .before .before .before .before .before .pre .1))
-
-add-p : tie.Need-add-p
-add-p c = search needs
-
-add-p-2 : tie.Need-add-p-2
-add-p-2 c = search needs
 
 spelled-at-requires-3 : tie.Need-spelled-at-requires-3
 spelled-at-requires-3 c κs = first-field _ 2 _ (later-fields _ 3 _ (later-fields _ 4 _ (c .before .before .before .before .before .before .before .pre .1)))
 
-add-spelled-at-2 : tie.Need-add-spelled-at-2
-add-spelled-at-2 c = search needs
-
 spelled-at-requires-4 : tie.Need-spelled-at-requires-4
 spelled-at-requires-4 c κs = first-field _ 1 _ (later-fields _ 2 _ (later-fields _ 3 _ (later-fields _ 4 _ (c .before .before .before .before .before .before .before .before .pre .1))))
-
-record-find-requires : tie.Need-record-find-requires
-record-find-requires c κs = search needs
-
-same-length : tie.Need-same-length
-same-length c = search needs
 
 returns : tie.Need-returns
 returns c = found-at blockLimit (four (c .before .before .before .before .before)) _ _ _ (c .before .before .before .before .if1 .taken) (c .before .before .record-find .ensures)
 
-record-range-requires : tie.Need-record-range-requires
-record-range-requires c κs = search needs
-
-same-length-2 : tie.Need-same-length-2
-same-length-2 c = search needs
-
 returns-2 : tie.Need-returns-2
 returns-2 c = ranged-at blockLimit (four (c .before .before .before .before .before .before)) _ _ _ (c .before .before .before .before .if2 .taken) (c .before .before .record-range .ensures)
-
-record-insert-requires : tie.Need-record-insert-requires
-record-insert-requires c κs = search needs
-
-same-length-3 : tie.Need-same-length-3
-same-length-3 c = search needs
 
 returns-3 : tie.Need-returns-3
 returns-3 c =
     inserted-at blockLimit (four (c .before .before .before .before .before .before .before)) _ _ _ (c .before .before .before .before .if3 .taken) (c .before .before .record-insert .ensures)
 
-record-delete-requires : tie.Need-record-delete-requires
-record-delete-requires c κs = search needs
-
-same-length-4 : tie.Need-same-length-4
-same-length-4 c = search needs
-
 returns-4 : tie.Need-returns-4
 returns-4 c =
     deleted-at blockLimit (four (c .before .before .before .before .before .before .before .before)) _ _ _ (c .before .before .before .before .if4 .taken) (c .before .before .record-delete .ensures)
 
-add-spelled-at-3 : tie.Need-add-spelled-at-3
-add-spelled-at-3 c = search needs
-
-add-spelled-at-4 : tie.Need-add-spelled-at-4
-add-spelled-at-4 c = search needs
-
 spelled-at-requires-5 : tie.Need-spelled-at-requires-5
 spelled-at-requires-5 c κs = let s = from (c .before .before .before .before) in first-field _ 0 _ (later-fields _ 1 _ (later-fields _ 2 _ (later-fields _ 3 _ (later-fields _ 4 _ (s .pre .1)))))
-
-record-move-requires : tie.Need-record-move-requires
-record-move-requires c κs = search needs
-
-same-length-5 : tie.Need-same-length-5
-same-length-5 c = search needs
 
 returns-5 : tie.Need-returns-5
 returns-5 c =
@@ -105,29 +57,7 @@ pub record-at-spec : {M : Type 1} → statement M
 record-at-spec =
     tie.close
     (tie.spec
-    spelled-at-requires
-    add-spelled-at
-    spelled-at-requires-2
-    add-p
-    add-p-2
-    spelled-at-requires-3
-    add-spelled-at-2
-    spelled-at-requires-4
-    record-find-requires
-    same-length
-    returns
-    record-range-requires
-    same-length-2
-    returns-2
-    record-insert-requires
-    same-length-3
-    returns-3
-    record-delete-requires
-    same-length-4
-    returns-4
-    add-spelled-at-3
-    add-spelled-at-4
-    spelled-at-requires-5
-    record-move-requires
-    same-length-5
-    returns-5)
+    spelled-at-requires (λ c. search needs) spelled-at-requires-2 (λ c. search needs) (λ c. search needs) spelled-at-requires-3
+    (λ c. search needs) spelled-at-requires-4 (λ c κs. search needs) (λ c. search needs) returns (λ c κs. search needs) (λ c. search needs)
+    returns-2 (λ c κs. search needs) (λ c. search needs) returns-3 (λ c κs. search needs) (λ c. search needs) returns-4 (λ c. search needs)
+    (λ c. search needs) spelled-at-requires-5 (λ c κs. search needs) (λ c. search needs) returns-5)

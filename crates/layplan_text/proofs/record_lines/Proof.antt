@@ -1,4 +1,5 @@
--- `layplan_text::record_lines` meets its contract. The loop's invariant: the calls that are left, recorded from here on, make the whole. Assumes nothing.
+-- `layplan_text::record_lines` meets its contract. The loop's invariant: the calls that are left, recorded from here on, make the whole. One that is accepted leaves those behind it,
+-- and one that is refused ends them. Assumes nothing.
 use Prim.Native.Nat.{_-_}
 use native.Mathlib.Omega.{arith}
 use borrow.Author.Needs.{needs}
@@ -22,9 +23,6 @@ record-at-requires c κs =
     let s = l .before .before .before .before .before .before in
     (omega (arith, l .loop .inv .at-line, s .pre .0, s .pre .1), next-line (c .before .loop-test .taken) (l .loop .inv))
 
-same-length : tie.Need-same-length Inv-loop μ-loop
-same-length c = search needs
-
 returns : tie.Need-returns Inv-loop μ-loop
 returns c =
     let l = c .before .before .before .before .before in
@@ -36,19 +34,10 @@ add-e c =
     let s = l .before .before .before .before .before .before in
     omega (arith, l .loop .inv .at-line, s .pre .0, s .pre .1)
 
-add-i : tie.Need-add-i Inv-loop μ-loop
-add-i c = omega arith
-
-loop-less : tie.Need-loop-less Inv-loop μ-loop
-loop-less c = omega arith
-
 loop-again : tie.Need-loop-again Inv-loop μ-loop
 loop-again c =
     let l = c .before .before .before .before .before in
     records-next (l .loop-test .taken) (l .before .loop .inv) _ _ (c .before .before .before .record-at .ensures) (omega (arith, c .if1 .left)) (search needs)
-
-same-length-2 : tie.Need-same-length-2 Inv-loop μ-loop
-same-length-2 c = c .before .loop .inv .size
 
 returns-2 : tie.Need-returns-2 Inv-loop μ-loop
 returns-2 c = records-end (c .loop-test .left) (c .before .loop .inv)
@@ -57,15 +46,5 @@ pub record-lines-spec : {M : Type 1} → statement M
 record-lines-spec =
     tie.close
     (tie.spec
-    Inv-loop
-    μ-loop
-    loop-holds
-    record-at-requires
-    same-length
-    returns
-    add-e
-    add-i
-    loop-less
-    loop-again
-    same-length-2
-    returns-2)
+    Inv-loop μ-loop loop-holds record-at-requires (λ c. search needs) returns add-e (λ c. omega arith) (λ c. omega arith) loop-again
+    (λ c. search needs) returns-2)

@@ -8,15 +8,9 @@ use Rattle.layplan_text.proofs.Outputs.{output-is}
 use Rattle.layplan_text.proofs.refused.Statement.{statement}
 use Rattle.layplan_text.proofs.refused.Tie as tie
 
-slice-aggregate-put-one : tie.Need-slice-aggregate-put-one
-slice-aggregate-put-one c = search needs
-
-put-one-requires : tie.Need-put-one-requires
-put-one-requires c κs = search needs
-
 returns : tie.Need-returns
 returns c = let n = c .before .before .before .args .n in output-is (refusalText n) _ 12 (c .before .put-one .ensures) (sym (length-line (n ∷ [])))
 
 pub refused-spec : {M : Type 1} → statement M
 refused-spec =
-    tie.close (tie.spec slice-aggregate-put-one put-one-requires returns)
+    tie.close (tie.spec (λ c. search needs) (λ c κs. search needs) returns)

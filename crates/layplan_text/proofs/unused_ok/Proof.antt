@@ -32,13 +32,4 @@ returns-8 c =
 
 pub unused-ok-spec : {M : Type 1} → statement M
 unused-ok-spec =
-    tie.close
-    (tie.spec
-    returns
-    returns-2
-    returns-3
-    returns-4
-    returns-5
-    returns-6
-    returns-7
-    returns-8)
+    tie.close (tie.spec returns returns-2 returns-3 returns-4 returns-5 returns-6 returns-7 returns-8)
