@@ -20,6 +20,7 @@ use Rattle.model.proofs.Tests.{and-fst, and-snd, of-true, eqb-no, pairs-swap}
 use Rattle.fields.specs.Reading.{fieldOk, valueAt}
 use Rattle.lines.specs.Lines.{textRefusal, columnAt, lineOk, linesOk, rowsAt}
 use Rattle.lines.proofs.Forms.{both}
+use Rattle.lines.proofs.Reading.{Judge}
 use Rattle.layplan_text.specs.Week.{callBy, callsAt, callOk, callsOk}
 
 -- Unused numbers.
@@ -198,29 +199,13 @@ module _ (t : List ℕ) where
 
 -- Calls judged one after the other.
 
-pub record CallsLeft (t : List ℕ) (at q i e : ℕ) : Type 0 where
-  pub left : i ≤ q
-  pub at-line : e ≡ at + 56 * i
-  pub work : callsOk q at t ≡ callsOk (q - i) e t
-
-pub calls-start : (t : List ℕ) (at q : ℕ) → CallsLeft t at q 0 at
-calls-start t at q = let z : q - 0 ≡ q = omega arith in record { left = omega arith; at-line = omega arith; work = ap (λ (k : ℕ). callsOk k at t) (sym z) }
+pub calls-judge : (t : List ℕ) → Judge (λ e. callOk e t) (λ k e. callsOk k e t) 56
+unfolding callsOk
+calls-judge t = record { none = λ at. refl; more = λ k at. refl }
 
 -- the next line, and those behind it
 calls-more : (t : List ℕ) (q i e : ℕ) → i < q → callsOk (q - i) e t ≡ callOk e t && callsOk (q - (i + 1)) (e + 56) t
-unfolding callsOk
-calls-more t q i e h = let z : q - i ≡ suc (q - (i + 1)) = omega arith in rw z
-
-module _ {t : List ℕ} {at q i e : ℕ} (h : i < q) (w : CallsLeft t at q i e) where
-  pub calls-stop : callOk e t ≡ false → callsOk q at t ≡ false
-  calls-stop z = w .work ∙ calls-more t q i e h ∙ rw z
-
-  pub calls-next : callOk e t ≡ true → CallsLeft t at q (i + 1) (e + 56)
-  calls-next z = record { left = omega arith; at-line = omega (arith, w .at-line); work = w .work ∙ calls-more t q i e h ∙ rw z }
-
-pub calls-end : {t : List ℕ} {at q i e : ℕ} → q ≤ i → CallsLeft t at q i e → true ≡ callsOk q at t
-unfolding callsOk
-calls-end {t} {at} {q} {i} {e} h w = let z : q - i ≡ 0 = omega arith in sym (w .work ∙ rw z)
+calls-more t q i e h = let z : q - i ≡ suc (q - (i + 1)) = omega arith in rw z (calls-judge t .more (q - (i + 1)) e)
 
 -- Calls recorded one after the other.
 

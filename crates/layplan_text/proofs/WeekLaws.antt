@@ -18,7 +18,6 @@ use Rattle.model.specs.Program.{Week, callsOf, setOf, sizesOk, takeSizes, readW
 use Rattle.model.proofs.Tests.{of-true, and-fst, and-snd, leb-no}
 use Rattle.fields.specs.Reading.{fieldOk}
 use Rattle.lines.specs.Lines.{textRefusal, columnAt, lineOk, linesOk, rowsAt}
-use Rattle.lines.proofs.Reading.{failed}
 use Rattle.lines.proofs.Forms.{chain, line-at, lines-at, column-of, nothing-left}
 use Rattle.layplan_text.specs.Week.{callsAt, callsOk, usedIn, countIn, callsFrom, headOk, weekOk, weekIn}
 use Rattle.layplan_text.proofs.CallLaws.{areCalls, calls-form, calls-are, first-field, later-fields}
@@ -168,10 +167,6 @@ module _ (t : List ℕ) where
   layplan-good e = rw (week-read, e)
 
 -- The tests of an input, one after the other.
-
--- a refusal of a part that fails the whole is the whole's
-pub refused-by : (a b : Bool) {n : ℕ} → n ≡ textRefusal a → (n ≡ 0 → ⊥) → (a ≡ false → b ≡ false) → n ≡ textRefusal b
-refused-by a b e z g = let f = failed a e z in e ∙ ap textRefusal (f ∙ sym (g f))
 
 module _ (t : List ℕ) where
   pub no-prices : lineOk 3 0 t ≡ false → headOk t ≡ false

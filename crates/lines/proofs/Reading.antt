@@ -14,7 +14,7 @@ use Rattle.fields.specs.declared.Field.{Field}
 use Rattle.fields.specs.declared.Field.the-variants.{Number, Nothing}
 use Rattle.fields.specs.Reading.{Read, readOf, readAt, fieldOk, valueAt}
 use Rattle.model.proofs.LineLaws.{nothing}
-use Rattle.lines.specs.Lines.{textRefusal, columnAt, lineOk, linesOk}
+use Rattle.lines.specs.Lines.{textRefusal, columnAt, lineLength, lineOk, linesOk}
 use Rattle.lines.proofs.Storing.{column-more}
 
 -- what a refusal of a text says of the test
@@ -25,6 +25,10 @@ passed false e z = absurd (omega (arith, e, z))
 pub failed : (b : Bool) {n : ℕ} → n ≡ textRefusal b → (n ≡ 0 → ⊥) → b ≡ false
 failed true e z = absurd (z e)
 failed false e z = refl
+
+-- a refusal of a part that fails the whole is the whole's
+pub refused-by : (a b : Bool) {n : ℕ} → n ≡ textRefusal a → (n ≡ 0 → ⊥) → (a ≡ false → b ≡ false) → n ≡ textRefusal b
+refused-by a b e z f = let q = failed a e z in e ∙ ap textRefusal (q ∙ sym (f q))
 
 abbrev found : ℕ → ℕ → Read
 found n at = record { number = n; next = at + 11 }
@@ -103,30 +107,37 @@ module _ {t : List ℕ} {at n i e : ℕ} where
   unfolding lineOk
   fields-end h w = let z : n - i ≡ 0 = omega arith in sym (w .work ∙ rw z)
 
--- The lines that are left.
+-- Places judged one after the other, s bytes apart: `one` judges the first, `all` as many as there are.
 
-pub record LinesLeft (t : List ℕ) (at n m i e : ℕ) : Type 0 where
-  pub left : i ≤ m
-  pub near : e ≤ at + 56 * i
-  pub work : linesOk n m at t ≡ linesOk n (m - i) e t
+pub record Judge (one : ℕ → Bool) (all : ℕ → ℕ → Bool) (s : ℕ) : Type 0 where
+  pub none : (at : ℕ) → all 0 at ≡ true
+  pub more : (n at : ℕ) → all (suc n) at ≡ one at && all n (at + s)
 
-pub lines-start : (t : List ℕ) (at n m : ℕ) → LinesLeft t at n m 0 at
-lines-start t at n m = let z : m - 0 ≡ m = omega arith in record { left = omega arith; near = omega arith; work = ap (λ (k : ℕ). linesOk n k at t) (sym z) }
+-- those that are left
+pub record Left (all : ℕ → ℕ → Bool) (s at n i e : ℕ) : Type 0 where
+  pub left : i ≤ n
+  pub at-line : e ≡ at + s * i
+  pub work : all n at ≡ all (n - i) e
 
-module _ {t : List ℕ} {at n m i e : ℕ} where
-  one-line : i < m → LinesLeft t at n m i e → linesOk n m at t ≡ lineOk n e t && linesOk n (m - (i + 1)) (e + (11 * n + 1)) t
-  unfolding linesOk
-  one-line h w = let z : m - i ≡ suc (m - (i + 1)) = omega arith in w .work ∙ rw z
+pub left-start : (all : ℕ → ℕ → Bool) (s at n : ℕ) → Left all s at n 0 at
+left-start all s at n = let z : n - 0 ≡ n = omega arith in record { left = omega arith; at-line = omega arith; work = ap (λ (k : ℕ). all k at) (sym z) }
 
-  pub lines-stop : i < m → LinesLeft t at n m i e → lineOk n e t ≡ false → false ≡ linesOk n m at t
-  lines-stop h w q = sym (one-line h w ∙ rw q)
+module _ {one : ℕ → Bool} {all : ℕ → ℕ → Bool} {s : ℕ} (j : Judge one all s) {at n i e : ℕ} (w : Left all s at n i e) where
+  one-left : i < n → all n at ≡ one e && all (n - (i + 1)) (e + s)
+  one-left h = let z : n - i ≡ suc (n - (i + 1)) = omega arith in w .work ∙ rw z (j .more (n - (i + 1)) e)
 
-  pub lines-next : n ≤ 5 → i < m → LinesLeft t at n m i e → lineOk n e t ≡ true → LinesLeft t at n m (i + 1) (e + (11 * n + 1))
-  lines-next f h w q = record { left = omega arith; near = omega (arith, w .near); work = one-line h w ∙ rw q }
+  pub left-stop : i < n → one e ≡ false → all n at ≡ false
+  left-stop h q = one-left h ∙ rw q
 
-  pub lines-end : m ≤ i → LinesLeft t at n m i e → true ≡ linesOk n m at t
-  unfolding linesOk
-  lines-end h w = let z : m - i ≡ 0 = omega arith in sym (w .work ∙ rw z)
+  pub left-next : i < n → one e ≡ true → Left all s at n (i + 1) (e + s)
+  left-next h q = record { left = omega arith; at-line = omega (arith, w .at-line); work = one-left h ∙ rw q }
+
+  pub left-end : n ≤ i → true ≡ all n at
+  left-end h = let z : n - i ≡ 0 = omega arith in sym (w .work ∙ rw z (j .none e))
+
+pub lines-judge : (n : ℕ) (t : List ℕ) → Judge (λ e. lineOk n e t) (λ k e. linesOk n k e t) (lineLength n)
+unfolding linesOk
+lines-judge n t = record { none = λ at. refl; more = λ k at. refl }
 
 -- Numbers taken one after the other: those passed are a column of the text.
 

@@ -21,6 +21,7 @@ use Rattle.fields.specs.Reading.{valueAt}
 use Rattle.lines.specs.Lines.{textRefusal, columnAt, lineOk, linesOk}
 use Rattle.lines.proofs.Storing.{length-column, column-more}
 use Rattle.lines.proofs.Forms.{lines-cut}
+use Rattle.lines.proofs.Reading.{Judge}
 use Rattle.snapshot.specs.declared.Head.{Head}
 use Rattle.snapshot.specs.declared.Listed.{Listed}
 use Rattle.snapshot.specs.Texts.{headerAt, headOk, noHead, headIn, headFound, directoryAt, notListed, listedIn, lowOf, highOf, rowOk, deliveryOk, deliveriesOk, partsOk}
@@ -75,28 +76,9 @@ module _ (lo hi at : ℕ) (t : List ℕ) where
 
 -- Delivery lines one after the other.
 
-pub record DeliveriesLeft (t : List ℕ) (at lo hi n i e : ℕ) : Type 0 where
-  pub left : i ≤ n
-  pub at-line : e ≡ at + 34 * i
-  pub work : deliveriesOk lo hi n at t ≡ deliveriesOk lo hi (n - i) e t
-
-pub deliveries-start : (t : List ℕ) (at lo hi n : ℕ) → DeliveriesLeft t at lo hi n 0 at
-deliveries-start t at lo hi n = let z : n - 0 ≡ n = omega arith in record { left = omega arith; at-line = omega arith; work = ap (λ (k : ℕ). deliveriesOk lo hi k at t) (sym z) }
-
-module _ {t : List ℕ} {at lo hi n i e : ℕ} (w : DeliveriesLeft t at lo hi n i e) where
-  one-delivery : i < n → deliveriesOk lo hi n at t ≡ deliveryOk lo hi e t && deliveriesOk lo hi (n - (i + 1)) (e + 34) t
-  unfolding deliveriesOk
-  one-delivery h = let z : n - i ≡ suc (n - (i + 1)) = omega arith in w .work ∙ rw z
-
-  pub deliveries-stop : i < n → deliveryOk lo hi e t ≡ false → false ≡ deliveriesOk lo hi n at t
-  deliveries-stop h q = sym (one-delivery h ∙ rw q)
-
-  pub deliveries-next : i < n → deliveryOk lo hi e t ≡ true → DeliveriesLeft t at lo hi n (i + 1) (e + 34)
-  deliveries-next h q = record { left = omega arith; at-line = omega (arith, w .at-line); work = one-delivery h ∙ rw q }
-
-  pub deliveries-end : n ≤ i → true ≡ deliveriesOk lo hi n at t
-  unfolding deliveriesOk
-  deliveries-end h = let z : n - i ≡ 0 = omega arith in sym (w .work ∙ rw z)
+pub deliveries-judge : (lo hi : ℕ) (t : List ℕ) → Judge (λ e. deliveryOk lo hi e t) (λ k e. deliveriesOk lo hi k e t) 34
+unfolding deliveriesOk
+deliveries-judge lo hi t = record { none = λ at. refl; more = λ k at. refl }
 
 -- Partitions one after the other.
 

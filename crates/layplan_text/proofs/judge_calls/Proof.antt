@@ -4,29 +4,29 @@ use mathlib.Core.Path.{ap}
 use native.Mathlib.Omega.{arith}
 use borrow.Author.Needs.{needs}
 use Rattle.lines.specs.Lines.{textRefusal}
-use Rattle.lines.proofs.Reading.{passed}
-use Rattle.layplan_text.proofs.CallLaws.{CallsLeft, calls-start, calls-stop, calls-next, calls-end}
-use Rattle.layplan_text.proofs.WeekLaws.{refused-by}
+use Rattle.lines.proofs.Reading.{passed, refused-by, Left, left-start, left-stop, left-next, left-end}
+use Rattle.layplan_text.specs.Week.{callsOk}
+use Rattle.layplan_text.proofs.CallLaws.{calls-judge}
 use Rattle.layplan_text.proofs.judge_calls.Statement.{statement}
 use Rattle.layplan_text.proofs.judge_calls.Tie as tie
 
 abbrev Inv-loop : tie.InvT-loop
-Inv-loop text at q i₀ e₀ i e = CallsLeft text at q i e
+Inv-loop text at q i₀ e₀ i e = Left (λ k x. callsOk k x text) 56 at q i e
 
 abbrev μ-loop : tie.MeasureT-loop
 μ-loop text at q i₀ e₀ i e = q - i
 
 loop-holds : tie.Need-loop-holds Inv-loop μ-loop
-loop-holds c = calls-start _ _ _
+loop-holds c = left-start _ _ _ _
 
 returns : tie.Need-returns Inv-loop μ-loop
-returns c = refused-by _ _ (c .before .judge-call .ensures) (c .if1 .taken) (calls-stop (c .before .before .loop-test .taken) (c .before .before .before .loop .inv))
+returns c = refused-by _ _ (c .before .judge-call .ensures) (c .if1 .taken) (left-stop (calls-judge _) (c .before .before .before .loop .inv) (c .before .before .loop-test .taken))
 
 loop-again : tie.Need-loop-again Inv-loop μ-loop
-loop-again c = calls-next (c .before .before .loop-test .taken) (c .before .before .before .loop .inv) (passed _ (c .before .judge-call .ensures) (c .if1 .left))
+loop-again c = left-next (calls-judge _) (c .before .before .before .loop .inv) (c .before .before .loop-test .taken) (passed _ (c .before .judge-call .ensures) (c .if1 .left))
 
 returns-2 : tie.Need-returns-2 Inv-loop μ-loop
-returns-2 c = ap textRefusal (calls-end (c .loop-test .left) (c .before .loop .inv))
+returns-2 c = ap textRefusal (left-end (calls-judge _) (c .before .loop .inv) (c .loop-test .left))
 
 pub judge-calls-spec : {M : Type 1} → statement M
 judge-calls-spec =

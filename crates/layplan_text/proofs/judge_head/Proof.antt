@@ -5,9 +5,9 @@ use borrow.Author.Needs.{needs}
 use borrow.Author.Tests.{not-true, not-false}
 use Rattle.model.proofs.Tests.{of-true}
 use Rattle.lines.specs.Lines.{textRefusal, lineOk}
-use Rattle.lines.proofs.Reading.{passed}
+use Rattle.lines.proofs.Reading.{passed, refused-by}
 use Rattle.layplan_text.specs.Week.{headOk}
-use Rattle.layplan_text.proofs.WeekLaws.{refused-by, fields-three, no-prices, no-limits, no-sizes, head-decided}
+use Rattle.layplan_text.proofs.WeekLaws.{fields-three, no-prices, no-limits, no-sizes, head-decided}
 use Rattle.layplan_text.proofs.judge_head.Statement.{statement}
 use Rattle.layplan_text.proofs.judge_head.Tie as tie
 

@@ -11,9 +11,9 @@ use lib.ListN.{length}
 use Rattle.model.specs.Bounds.{mostDeliveries, mostCalls}
 use Rattle.model.proofs.Tests.{of-true}
 use Rattle.lines.specs.Lines.{textRefusal, linesOk}
-use Rattle.lines.proofs.Reading.{passed}
+use Rattle.lines.proofs.Reading.{passed, refused-by}
 use Rattle.layplan_text.specs.Week.{callsOk, headOk, weekOk}
-use Rattle.layplan_text.proofs.WeekLaws.{Head, head, refused-by, no-head, no-deliveries, no-calls, week-decided}
+use Rattle.layplan_text.proofs.WeekLaws.{Head, head, no-head, no-deliveries, no-calls, week-decided}
 use Rattle.layplan_text.proofs.judge_week.Statement.{statement}
 use Rattle.layplan_text.proofs.judge_week.Tie as tie
 

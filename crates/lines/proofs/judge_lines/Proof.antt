@@ -1,35 +1,35 @@
 -- `lines::judge_lines` meets its contract. The loop's invariant: the lines that are left, judged from here on, decide. A good line leaves those behind it. Assumes nothing.
-use Prim.Native.Nat.{_-_}
-use mathlib.Core.Path.{ap, _∙_}
+use Prim.Native.Nat.{_+_, _-_, _*_, _≤_}
+use mathlib.Core.Path.{ap}
 use native.Mathlib.Omega.{arith}
 use borrow.Author.Needs.{needs}
-use Rattle.lines.specs.Lines.{textRefusal}
-use Rattle.lines.proofs.Reading.{passed, failed, LinesLeft, lines-start, lines-stop, lines-next, lines-end}
+use Rattle.lines.specs.Lines.{textRefusal, lineLength, linesOk}
+use Rattle.lines.proofs.Reading.{passed, refused-by, Left, left-start, left-stop, left-next, left-end, lines-judge}
 use Rattle.lines.proofs.judge_lines.Statement.{statement}
 use Rattle.lines.proofs.judge_lines.Tie as tie
 
 abbrev Inv-loop : tie.InvT-loop
-Inv-loop text at n m stride i₀ e₀ i e = LinesLeft text at n m i e
+Inv-loop text at n m stride i₀ e₀ i e = Left (λ k x. linesOk n k x text) (lineLength n) at m i e × (e ≤ at + 56 * i)
 
 abbrev μ-loop : tie.MeasureT-loop
 μ-loop text at n m stride i₀ e₀ i e = m - i
 
 loop-holds : tie.Need-loop-holds Inv-loop μ-loop
-loop-holds c = lines-start _ _ _ _
+loop-holds c = (left-start _ _ _ _, omega arith)
 
 returns : tie.Need-returns Inv-loop μ-loop
 returns c =
-    let q = c .before .judge-line .ensures in
-    let f = failed _ q (c .if1 .taken) in
-    q ∙ ap textRefusal (f ∙ lines-stop (c .before .before .loop-test .taken) (c .before .before .before .loop .inv) f)
+    refused-by _ _ (c .before .judge-line .ensures) (c .if1 .taken)
+    (left-stop (lines-judge _ _) (c .before .before .before .loop .inv .0) (c .before .before .loop-test .taken))
 
 loop-again : tie.Need-loop-again Inv-loop μ-loop
-loop-again c =
-    lines-next (c .before .before .before .before .before .pre .1) (c .before .before .loop-test .taken) (c .before .before .before .loop .inv)
-    (passed _ (c .before .judge-line .ensures) (c .if1 .left))
+loop-again c = (
+  left-next (lines-judge _ _) (c .before .before .before .loop .inv .0) (c .before .before .loop-test .taken) (passed _ (c .before .judge-line .ensures) (c .if1 .left)),
+  omega (arith, c .before .before .before .before .before .pre .1),
+)
 
 returns-2 : tie.Need-returns-2 Inv-loop μ-loop
-returns-2 c = ap textRefusal (lines-end (c .loop-test .left) (c .before .loop .inv))
+returns-2 c = ap textRefusal (left-end (lines-judge _ _) (c .before .loop .inv .0) (c .loop-test .left))
 
 pub judge-lines-spec : {M : Type 1} → statement M
 judge-lines-spec =
