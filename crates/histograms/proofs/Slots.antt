@@ -83,7 +83,8 @@ room-kept hs k v f (suc n) h =
     ∙ ap (λ (b : Bool). ltb (getD hs f 0) mostCount && b) (room-kept hs k v (f + 1) n (omega arith))
 
 below-million : (x : ℕ) → ltb x mostCount ≡ leb x (mostCount - 1)
-below-million x = same-test (ltb x mostCount) (leb x (mostCount - 1)) (λ t. le→leb x (mostCount - 1) (omega (arith, ltb→lt x mostCount t))) (λ t. lt→ltb x mostCount (omega (arith, leb→le x (mostCount - 1) t)))
+below-million x =
+    same-test _ _ (λ t. le→leb x (mostCount - 1) (omega (arith, ltb→lt x mostCount t))) (λ t. lt→ltb x mostCount (omega (arith, leb→le x (mostCount - 1) t)))
 
 -- the test of the part that is lent
 room-part : (hs : List ℕ) (f n : ℕ) → f + n ≤ length hs → roomAt hs (upFrom f n) ≡ every (λ (x : ℕ). leb x (mostCount - 1)) (take n (drop f hs))
@@ -161,8 +162,8 @@ module _ (L : ℕ) where
     pub stop : t ≡ 3 * L + b
 
   module _ {hs : List ℕ} {a b j k f t : ℕ} (w : Span hs a b j k f t) where
-    pub span-inside : (j < k) × (k < length hs) × (f ≤ t) × (t ≤ length hs)
-    span-inside = (omega (arith, w .rises, w .below, w .first, w .last), omega (arith, w .below, w .long, w .last), omega (arith, w .rises, w .from, w .stop), omega (arith, w .below, w .long, w .stop))
+    pub span-inside : (j < length hs) × (j < k) × (k < length hs) × (f ≤ t) × (t ≤ length hs)
+    span-inside = omega (arith, w .rises, w .below, w .long, w .first, w .last, w .from, w .stop)
 
     span-are : spanSlots L a b ≡ j ∷ k ∷ upFrom f (t - f)
     span-are =
@@ -173,8 +174,8 @@ module _ (L : ℕ) where
     pub span-room : roomAt hs (spanSlots L a b) ≡ roomAt hs (j ∷ k ∷ upFrom f (t - f))
     span-room = ap (roomAt hs) span-are
 
-    pub span-part : roomAt hs (upFrom f (t - f)) ≡ every (λ (x : ℕ). leb x (mostCount - 1)) (take (t - f) (drop f hs))
-    span-part = room-part hs f (t - f) (omega (arith, span-inside .2, span-inside .3))
+    pub span-part : (r b : Bool) → r ≡ every (λ (x : ℕ). leb x (mostCount - 1)) (take (t - f) (drop f hs)) → r ≡ b → roomAt hs (upFrom f (t - f)) ≡ b
+    span-part r b e h = room-part hs f (t - f) (omega (arith, span-inside)) ∙ sym e ∙ h
 
     module _ {ls ms : List ℕ} (e : ls ≡ plusOne hs j) (g : ms ≡ plusOne ls k) where
       -- with both ends raised, those between have the room that they had
@@ -188,7 +189,7 @@ module _ (L : ℕ) where
           ∙ ap (λ (m : List ℕ). roomAt m (upFrom f (t - f))) e
           ∙ room-kept hs j _ f (t - f) (omega (arith, w .rises, w .below, w .first, w .from))
           ∙ r in
-          (i .2, omega (arith, i .3, n), of-true _ q)
+          (i .3, omega (arith, i .4, n), of-true _ q)
 
       pub span-raised : (ns : List ℕ) → ns ≡ raiseSlots ms (upFrom f (t - f)) → ns ≡ raiseSlots hs (spanSlots L a b)
       span-raised ns r = raise-on hs ls ns j _ e (raise-on ls ms ns k _ g r) ∙ ap (raiseSlots hs) (sym span-are)

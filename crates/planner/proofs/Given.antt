@@ -21,11 +21,11 @@ use Rattle.model.specs.Layouts.{layoutOk, separatesNone, longestPartition}
 use Rattle.model.specs.Plan.{permittedLayouts}
 use Rattle.model.specs.Questions.{setChecks, applyChecks, costChecks, plannerChecks}
 use Rattle.model.specs.Lent.{setOf}
-use Rattle.model.proofs.Tests.{and-fst, and-snd, is-true, yes-first, first-passed}
+use Rattle.model.proofs.Tests.{and-fst, and-snd, is-true, yes-first}
 use Rattle.checks.proofs.Answers.{failed-first}
 use Rattle.histograms.proofs.Counts.{counts-long}
 use Rattle.sets.specs.Sized.{Sized, setRefusalOf, countedChecks}
-use Rattle.sets.proofs.Sets.{whole, set-passed, set-first, blocks-least, blocks-most}
+use Rattle.sets.proofs.Sets.{whole, numbered, passed-first, set-first, blocks-least, blocks-most}
 use Rattle.block_costs.specs.Terms.{PricesPass, Counted}
 use Rattle.planner.specs.Given.{givenChecks, Marked}
 
@@ -86,12 +86,8 @@ module _ (L : ℕ) (s : Set) where
 
   -- what comes after the checks of a layout
   pub apply-passed : (ends : List ℕ) (cs : List Check) → firstFailed (applyChecks L s ends) ≡ 0 → firstFailed (applyChecks L s ends ++ cs) ≡ firstFailed cs
-  unfolding applyChecks
-  apply-passed ends cs h =
-      let c5 = set-first L s _ h in
-      let c6 = yes-first 5 (layoutOk s ends) _ (c5 .1) in
-      let c8 = yes-first 7 (valuesOk s) _ (c6 .1) in
-      set-passed L s _ (c5 .0) ∙ first-passed 6 _ _ (c6 .0) ∙ first-passed 8 _ _ (c8 .0)
+  unfolding applyChecks numbered
+  apply-passed ends cs = passed-first (applyChecks L s ends) cs tt
 
 -- what the checks of a plan and of a cost have in common
 pub record Given (L : ℕ) (p : PriceCard) (s : Set) (hs : List ℕ) : Type 0 where
@@ -134,13 +130,8 @@ module _ (L : ℕ) (p : PriceCard) (s : Set) (hs : List ℕ) where
 
       pub plan-passed : firstFailed (givenChecks L p l s hs) ≡ 0
           → firstFailed (plannerChecks L p l s hs needed room) ≡ firstFailed (ask 11 (not (eqb (length (permittedLayouts p l s)) 0)) ∷ ask 15 (leb needed room) ∷ [])
-      unfolding plannerChecks
-      plan-passed h =
-          let c1 = yes-first 0 (pricesOk p && limitsOk l) _ h in
-          let c5 = set-first L s _ (c1 .1) in
-          let c8 = yes-first 7 (valuesOk s) _ (c5 .1) in
-          let c9 = yes-first 8 (countsOk L hs) _ (c8 .1) in
-          first-passed 1 _ _ (c1 .0) ∙ set-passed L s _ (c5 .0) ∙ first-passed 8 _ _ (c8 .0) ∙ first-passed 9 _ _ (c9 .0)
+      unfolding plannerChecks numbered
+      plan-passed = passed-first (givenChecks L p l s hs) _ tt
 
 -- the limits
 module _ (p : PriceCard) (l : Limits) where

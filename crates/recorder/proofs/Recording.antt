@@ -17,7 +17,7 @@ use Rattle.model.specs.Histograms.{position, slot, histogramsSize, raises, rang
 use Rattle.model.specs.Lent.{Even}
 use Rattle.model.specs.Questions.{recorderChecks}
 use Rattle.model.specs.Recorder.{recorderRefusal, recordCall}
-use Rattle.model.proofs.Tests.{yes-first, first-passed, is-true}
+use Rattle.model.proofs.Tests.{yes-first, is-true}
 use Rattle.model.proofs.Deliveries.{rows-part, length-rows, first-among}
 use Rattle.model.proofs.SetLaws.{spot-of, block-rises}
 use Rattle.checks.proofs.Answers.{failed-first}
@@ -25,7 +25,7 @@ use Rattle.histograms.specs.Raising.{recorded, raiseSlots, roomAt, raisedAt, sp
 use Rattle.histograms.proofs.Counts.{counts-long}
 use Rattle.histograms.proofs.Slots.{room-slots, raise-slots}
 use Rattle.sets.specs.Sized.{countedChecks}
-use Rattle.sets.proofs.Sets.{Whole, whole, set-passed, set-first, blocks-least, blocks-most}
+use Rattle.sets.proofs.Sets.{Whole, whole, numbered, passed-first, set-first, blocks-least, blocks-most}
 
 -- The set has the delivery.
 
@@ -86,7 +86,7 @@ module _ (L : ℕ) where
       then-raised = by-room (roomAt hs ks) refl
 
     then-passed : firstFailed ahead ≡ 0 → Passed s hs c
-    unfolding recorderRefusal recorderChecks
+    unfolding recorderRefusal recorderChecks numbered
     then-passed h =
         let r = set-first L s _ h in
         let c7 = yes-first 6 (ordered c) _ (r .1) in
@@ -99,9 +99,7 @@ module _ (L : ℕ) where
           in-order = c7 .0;
           below = λ g b e. omega (arith, e, spot-of s (blocks-least (w .sized)) g .within, blocks-most (w .sized));
           rising = block-rises s (blocks-least (w .sized));
-          answers =
-              λ ks k.
-              then-raised ks k (set-passed L s _ (r .0) ∙ first-passed 7 _ _ (c7 .0) ∙ first-passed 8 _ _ (c8 .0) ∙ first-passed 9 _ _ (c9 .0));
+          answers = λ ks k. then-raised ks k (passed-first ahead (ten ∷ []) tt h);
         }
 
     pub decided : (n : ℕ) (p q : Bool) → ordered c ≡ p → q ≡ offeredOk c → n ≡ firstFailed (countedChecks L s hs p q) → Decided s hs c n

@@ -1,12 +1,14 @@
 -- The checks of an unpartitioned set, and of a layout of its blocks, test by test. Assumes nothing.
 use Prim.Native.Nat.{ℕ, _+_, _-_, _*_, _≤_, _<_}
-use mathlib.Core.Path.{_≡_, sym, ap, _∙_}
-use mathlib.Core.Bool.{true, false, not, _&&_}
-use mathlib.Core.List.{List, _++_}
+use mathlib.Core.Path.{_≡_, refl, sym, ap, _∙_}
+use mathlib.Core.Bool.{Bool, true, false, cond, not, _&&_}
+use mathlib.Core.List.{List, [], _∷_, _++_}
 use native.Mathlib.Omega.{arith}
+use native.Mathlib.Decide.{ℕ-discrete}
 use borrow.Author.Tests.{lt-leb, le-leb, le-ltb, lt-ltb, eq-eqb, ne-eqb}
-use lib.Dec.{leb, eqb, leb→le}
+use lib.Dec.{T, leb, eqb, leb→le}
 use lib.ListN.{length, getD, take}
+use lib.Seq.{length-take-le}
 use Rattle.model.specs.Bounds.{mostBlockLength}
 use Rattle.model.specs.Lists.{every, rising, ceilDiv}
 use Rattle.model.specs.Checks.{Check, firstFailed}
@@ -15,13 +17,36 @@ use Rattle.model.specs.Blocks.{Set, blocks, blockLengthOk, slotsOk, slicesOk, u
 use Rattle.model.specs.Layouts.{endOf, separatesNone, isLayout, layoutOk}
 use Rattle.model.specs.Lent.{setOf, Even}
 use Rattle.model.specs.Questions.{setChecks}
-use Rattle.model.proofs.Tests.{and-fst, and-snd, of-true, yes-first, first-passed}
+use Rattle.model.proofs.Tests.{and-fst, and-snd, of-true, yes-first}
 use Rattle.model.proofs.ListLaws.{ceil-some, ceil-within}
 use Rattle.model.proofs.Deliveries.{rows-part}
 use Rattle.model.proofs.SetLaws.{sliced}
 use Rattle.sets.specs.Sized.{Sized, setRefusalOf}
 use Rattle.checks.specs.Values.{allValuesOk}
-use Rattle.checks.proofs.Answers.{none-failed, every-rows}
+use Rattle.checks.proofs.Answers.{failed-first, every-rows}
+
+-- A list of checks that begins with a list that passes. No check has the number 0.
+
+unfoldable pub numbered : List Check → Bool
+numbered [] = true
+numbered (c ∷ cs) = leb 1 (c .number) && numbered cs
+
+pub passed-first : (as' bs : List Check) → T (numbered as') → firstFailed as' ≡ 0 → firstFailed (as' ++ bs) ≡ firstFailed bs
+unfolding firstFailed numbered
+passed-first [] bs n h = refl
+passed-first (c ∷ cs) bs n h = go (c .holds) h (passed-first cs bs (and-snd (leb 1 (c .number)) (numbered cs) n))
+  where
+    go : (b : Bool) → cond b (firstFailed cs) (c .number) ≡ 0 → (firstFailed cs ≡ 0 → firstFailed (cs ++ bs) ≡ firstFailed bs)
+        → cond b (firstFailed (cs ++ bs)) (c .number) ≡ firstFailed bs
+    go true z ih = ih z
+    go false z ih = absurd (omega (arith, leb→le 1 (c .number) (and-fst (leb 1 (c .number)) (numbered cs) n)))
+
+pub passed-both : (as' bs : List Check) → T (numbered as') → firstFailed (as' ++ bs) ≡ 0 → (firstFailed as' ≡ 0) × (firstFailed bs ≡ 0)
+passed-both as' bs n h = go (ℕ-discrete (firstFailed as') 0)
+  where
+    go : Dec (firstFailed as' ≡ 0) → (firstFailed as' ≡ 0) × (firstFailed bs ≡ 0)
+    go (yes e) = (e, sym (passed-first as' bs n e) ∙ h)
+    go (no f) = absurd (f (failed-first as' bs f ∙ h))
 
 -- Check 4.
 
@@ -49,6 +74,15 @@ pub record Whole (L : ℕ) (s : Set) : Type 0 where
   pub sized : Sized L (s .block) (s .used) (length (s .growers))
   pub even : Even (s .growers) (s .weights) (s .yields)
 
+-- they have passed: the rest of a list answers
+pub record SetPassed (L : ℕ) (s : Set) : Type 0 where
+  pub whole-set : Whole L s
+  pub rest : (cs : List Check) → firstFailed cs ≡ firstFailed (setChecks L s ++ cs)
+
+pub record SetDecided (L : ℕ) (s : Set) (n : ℕ) : Type 0 where
+  pub refused : (cs : List Check) → (n ≡ 0 → ⊥) → n ≡ firstFailed (setChecks L s ++ cs)
+  pub passed : n ≡ 0 → SetPassed L s
+
 module _ (L : ℕ) (s : Set) where
   pub whole : setRefusalOf L s ≡ 0 → Whole L s
   unfolding blockLengthOk slotsOk slicesOk usedOk
@@ -74,22 +108,17 @@ module _ (L : ℕ) (s : Set) where
       }
 
   -- a list of checks that begins with them
-  pub set-passed : (cs : List Check) → setRefusalOf L s ≡ 0 → firstFailed (setChecks L s ++ cs) ≡ firstFailed cs
-  set-passed cs h =
-      let c2 = yes-first 1 (blockLengthOk (s .block)) _ h in
-      let c3 = yes-first 2 (slicesOk (s .growers) (s .weights) (s .yields)) _ (c2 .1) in
-      let c4 = yes-first 3 (usedOk L s) _ (c3 .1) in
-      let c5 = yes-first 4 (growersOk s) _ (c4 .1) in
-      first-passed 2 _ _ (c2 .0) ∙ first-passed 3 _ _ (c3 .0) ∙ first-passed 4 _ _ (c4 .0) ∙ first-passed 5 _ _ (c5 .0)
-
-  -- such a list is passed
   pub set-first : (cs : List Check) → firstFailed (setChecks L s ++ cs) ≡ 0 → (setRefusalOf L s ≡ 0) × (firstFailed cs ≡ 0)
-  set-first cs h =
-      let c2 = yes-first 1 (blockLengthOk (s .block)) _ h in
-      let c3 = yes-first 2 (slicesOk (s .growers) (s .weights) (s .yields)) _ (c2 .1) in
-      let c4 = yes-first 3 (usedOk L s) _ (c3 .1) in
-      let c5 = yes-first 4 (growersOk s) _ (c4 .1) in
-      (first-passed 2 _ _ (c2 .0) ∙ first-passed 3 _ _ (c3 .0) ∙ first-passed 4 _ _ (c4 .0) ∙ first-passed 5 _ _ (c5 .0) ∙ sym none-failed, c5 .1)
+  unfolding numbered
+  set-first cs = passed-both (setChecks L s) cs tt
+
+  -- what their answer n decides of such a list
+  pub set-decided : (n : ℕ) → n ≡ setRefusalOf L s → SetDecided L s n
+  unfolding numbered
+  set-decided n e = record {
+    refused = λ cs h. e ∙ failed-first (setChecks L s) cs (λ z. h (e ∙ z));
+    passed = λ z. record { whole-set = whole (sym e ∙ z); rest = λ cs. sym (passed-first (setChecks L s) cs tt (sym e ∙ z)) };
+  }
 
 -- no more blocks than the block limit, and at least one
 module _ {L b m c : ℕ} (z : Sized L b m c) where
@@ -101,9 +130,13 @@ module _ {L b m c : ℕ} (z : Sized L b m c) where
 
 -- Check 8: the rows are tested by their weights and their yields.
 
-pub values-law : (b m : ℕ) (g w y : List ℕ) → length (take m w) ≡ length (take m g) → length (take m y) ≡ length (take m g) → allValuesOk (take m w) (take m y) ≡ valuesOk (setOf b m g w y)
+pub values-law : (b m : ℕ) (g w y : List ℕ) → m ≤ length g → Even g w y → allValuesOk (take m w) (take m y) ≡ valuesOk (setOf b m g w y)
 unfolding valuesOk
-values-law b m g w y p q = every-rows (take m g) (take m w) (take m y) p q ∙ ap (every inRange) (rows-part m 0 g w y)
+values-law b m g w y h v =
+    let n = length-take-le m g h in
+    let l = length-take-le m w (omega (arith, v .weights)) in
+    let k = length-take-le m y (omega (arith, v .yields)) in
+    every-rows (take m g) (take m w) (take m y) (omega arith) (omega arith) ∙ ap (every inRange) (rows-part m 0 g w y)
 
 -- Check 6 of a layout.
 

@@ -1,4 +1,4 @@
--- `histograms::counts_ok` meets its contract. Assumes nothing.
+-- `histograms::counts_ok` meets its contract: the length is tested first, and then each count. Assumes nothing.
 use mathlib.Core.Path.{_∙_}
 use borrow.Author.Needs.{needs}
 use Rattle.model.specs.Bounds.{blockLimit}

@@ -1,4 +1,5 @@
--- `histograms::raise_each` meets its contract. Assumes nothing.
+-- `histograms::raise_each` meets its contract. The loop's invariant (`Rest`): raising the slots from `i` on gives what raising all would have given, and
+-- each of them has room. Assumes nothing.
 use Prim.Native.Nat.{_-_}
 use native.Mathlib.Omega.{arith}
 use borrow.Author.Needs.{needs}

@@ -24,7 +24,7 @@ mul-if1 : tie.Need-mul-if1
 mul-if1 c = omega (arith, inside c)
 
 slice-read-if1 : tie.Need-slice-read-if1
-slice-read-if1 c = omega (arith, inside (c .before))
+slice-read-if1 c = inside (c .before)
 
 raise-requires : tie.Need-raise-requires
 raise-requires c κs = (inside (c .before .before .before), c .before .if1 .taken)
@@ -34,10 +34,9 @@ same-length c = search needs
 
 returns : tie.Need-returns
 returns c =
-    let b₁ = c .before .before .before .before in
-    let b₂ = b₁ .before .before in
-    all-raised _ _ _ (room-yes _ _ _ (b₁ .if1 .taken) ∙ room-none _) (raise-on _ _ _ _ _ (c .before .before .raise .ensures) (raise-none _))
-    ∙ the-slot b₂
+    let t = c .before .before .before .before in
+    all-raised _ _ _ (room-yes _ _ _ (t .if1 .taken) ∙ room-none _) (raise-on _ _ _ _ _ (c .before .before .raise .ensures) (raise-none _))
+    ∙ the-slot (t .before .before)
 
 returns-2 : tie.Need-returns-2
 returns-2 c = not-raised _ _ (room-no _ _ _ (c .if1 .left)) ∙ the-slot (c .before .before)

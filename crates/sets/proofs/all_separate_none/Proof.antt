@@ -1,4 +1,4 @@
--- `sets::all_separate_none` meets its contract. Assumes nothing.
+-- `sets::all_separate_none` meets its contract. The loop's invariant: every end before `i` separates no equal growers (`Flagged`). Assumes nothing.
 use Prim.Native.Nat.{_-_}
 use mathlib.Core.Path.{sym, _∙_}
 use native.Mathlib.Omega.{arith}
@@ -33,9 +33,8 @@ separates-none-requires c κs = search needs
 
 returns : tie.Need-returns Inv-loop μ-loop
 returns c =
-    let b₁ = c .before .before .before in
-    let b₂ = b₁ .before in
-    λ ws ys. flag-bad _ _ _ _ (b₁ .loop-test .taken) (b₂ .loop .inv) (sym (c .before .separates-none .ensures [] []) ∙ not-true _ (c .if1 .taken)) .so-far
+    let t = c .before .before .before in
+    λ ws ys. flag-bad _ _ _ _ (t .loop-test .taken) (t .before .loop .inv) (sym (c .before .separates-none .ensures [] []) ∙ not-true _ (c .if1 .taken)) .so-far
 
 add-i : tie.Need-add-i Inv-loop μ-loop
 add-i c = search needs
@@ -45,9 +44,8 @@ loop-less c = omega arith
 
 loop-again : tie.Need-loop-again Inv-loop μ-loop
 loop-again c =
-    let b₁ = c .before .before .before in
-    let b₂ = b₁ .before in
-    flag-good _ _ _ _ (b₁ .loop-test .taken) (b₂ .loop .inv) (sym (c .before .separates-none .ensures [] []) ∙ not-false _ (c .if1 .left))
+    let t = c .before .before .before in
+    flag-good _ _ _ _ (t .loop-test .taken) (t .before .loop .inv) (sym (c .before .separates-none .ensures [] []) ∙ not-false _ (c .if1 .left))
 
 returns-2 : tie.Need-returns-2 Inv-loop μ-loop
 returns-2 c = λ ws ys. flag-end _ _ _ _ (c .loop-test .left) (c .before .loop .inv)

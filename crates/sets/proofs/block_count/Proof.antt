@@ -1,4 +1,4 @@
--- `sets::block_count` meets its contract. Assumes nothing.
+-- `sets::block_count` meets its contract: the quotient rounded up is computed as it is defined. Assumes nothing.
 use mathlib.Core.Path.{refl}
 use borrow.Author.Needs.{needs}
 use Rattle.model.specs.Lists.{ceilDiv}

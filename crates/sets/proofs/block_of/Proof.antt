@@ -1,4 +1,5 @@
--- `sets::block_of` meets its contract. Assumes nothing.
+-- `sets::block_of` meets its contract. The loop's invariant: every block before `i` ends with a smaller grower; the block where it stops is then the one.
+-- Assumes nothing.
 use Prim.Native.Nat.{_-_}
 use mathlib.Core.Path.{sym}
 use native.Mathlib.Omega.{arith}
@@ -31,7 +32,9 @@ cast-result : tie.Need-cast-result Inv-loop μ-loop
 cast-result c = search needs
 
 returns : tie.Need-returns Inv-loop μ-loop
-returns c = λ ws ys. seek-found _ _ _ _ _ _ (c .before .before .before .loop .inv) ws ys (c .before .before .loop-test .taken) (rw (sym (c .before .last-grower .ensures [] [])) (c .if1 .taken))
+returns c =
+    let t = c .before .before in
+    λ ws ys. seek-found _ _ _ _ _ _ (t .before .loop .inv) ws ys (t .loop-test .taken) (rw (sym (c .before .last-grower .ensures [] [])) (c .if1 .taken))
 
 add-i : tie.Need-add-i Inv-loop μ-loop
 add-i c = search needs
@@ -40,7 +43,9 @@ loop-less : tie.Need-loop-less Inv-loop μ-loop
 loop-less c = omega arith
 
 loop-again : tie.Need-loop-again Inv-loop μ-loop
-loop-again c = seek-next _ _ _ _ _ _ (c .before .before .before .loop .inv) (c .before .before .loop-test .taken) (rw (sym (c .before .last-grower .ensures [] [])) (c .if1 .left))
+loop-again c =
+    let t = c .before .before in
+    seek-next _ _ _ _ _ _ (t .before .loop .inv) (t .loop-test .taken) (rw (sym (c .before .last-grower .ensures [] [])) (c .if1 .left))
 
 cast-result-2 : tie.Need-cast-result-2 Inv-loop μ-loop
 cast-result-2 c = search needs

@@ -1,4 +1,4 @@
--- `sets::block_start` meets its contract. Assumes nothing.
+-- `sets::block_start` meets its contract: a block number and a block length in their bounds have a product that fits. Assumes nothing.
 use Prim.Native.Nat.{_*_, _≤_}
 use native.Mathlib.Omega.{arith}
 use borrow.Author.Needs.{needs}

@@ -1,74 +1,72 @@
--- `sets::counted_refusal` meets its contract: each test that is passed leaves the rest of the list to answer. Assumes nothing.
-use Prim.Native.Nat.{ℕ}
-use mathlib.Core.Path.{_≡_, sym, _∙_}
+-- `sets::counted_refusal` meets its contract: `set_refusal` decides checks 2 to 5 of the list; past them 7, 8 (the set's values, then the offered ones) and 9
+-- are left to answer, each once those before it were passed. Assumes nothing.
+use mathlib.Core.Path.{_≡_, refl, sym, _∙_}
 use mathlib.Core.Bool.{_&&_}
-use mathlib.Core.List.{List, _∷_, _++_}
+use mathlib.Core.List.{List}
 use borrow.Author.Needs.{needs}
 use borrow.Author.Tests.{not-true, not-false}
+use lib.ListN.{drop}
 use Rattle.model.specs.Bounds.{blockLimit}
-use Rattle.model.specs.Checks.{Check, ask, firstFailed}
+use Rattle.model.specs.Checks.{Check, firstFailed}
 use Rattle.model.specs.Blocks.{Set, valuesOk}
-use Rattle.model.specs.Questions.{setChecks}
 use Rattle.model.specs.Lent.{setOf}
-use Rattle.checks.proofs.Answers.{fails, passes, none-failed, failed-first, and-no, and-yes}
-use Rattle.sets.specs.Sized.{setRefusalOf}
-use Rattle.sets.proofs.Sets.{whole, set-passed}
+use Rattle.checks.proofs.Answers.{fails, passes, none-failed, and-no, and-yes}
+use Rattle.sets.specs.Sized.{countedChecks}
+use Rattle.sets.proofs.Sets.{SetDecided, set-decided}
 use Rattle.sets.proofs.counted_refusal.Statement.{statement}
 use Rattle.sets.proofs.counted_refusal.Tie as tie
 
+abbrev start : tie.Else1 → tie.Start
+start c = c .before .before .before .before .before .before
+
 abbrev the-set : tie.Start → Set
-the-set c = let a = c .args in setOf (a .block) (a .used) (a .g .now) (a .w .now) (a .y .now)
+the-set s = let a = s .args in setOf (a .block) (a .used) (a .g .now) (a .w .now) (a .y .now)
 
-abbrev at-start : tie.Else1 → tie.Start
-at-start c = c .before .before .before .before .before .before
+abbrev checks : tie.Else1 → List Check
+checks c = let s = start c in countedChecks blockLimit (the-set s) (s .args .h .now) (s .args .ordered) (s .args .offered)
 
--- past 5
-set-ok : (c : tie.Else1) → setRefusalOf blockLimit (the-set (at-start c)) ≡ 0
-set-ok c = sym (c .before .set-refusal .ensures) ∙ c .if1 .left
+decision : (c : tie.After-set-refusal) → SetDecided blockLimit (the-set (c .before .before .before .before .before)) (c .set-refusal .result)
+decision c = set-decided blockLimit _ _ (c .set-refusal .ensures)
 
-past-set : (c : tie.Else1) (n : ℕ) (cs : List Check) → n ≡ firstFailed cs → n ≡ firstFailed (setChecks blockLimit (the-set (at-start c)) ++ cs)
-past-set c n cs e = e ∙ sym (set-passed blockLimit (the-set (at-start c)) cs (set-ok c))
+past-set : (c : tie.Else1) → firstFailed (drop 4 (checks c)) ≡ firstFailed (checks c)
+past-set c = decision (c .before) .passed (c .if1 .left) .rest _
 
--- past 7
-past-order : (c : tie.Else2) (n : ℕ) (cs : List Check) → n ≡ firstFailed cs
-    → n ≡ firstFailed (setChecks blockLimit (the-set (at-start (c .before))) ++ ask 7 (at-start (c .before) .args .ordered) ∷ cs)
-past-order c n cs e = past-set (c .before) n _ (passes 7 n _ cs (not-false _ (c .if2 .left)) e)
+past-order : (c : tie.Else2) → firstFailed (drop 5 (checks (c .before))) ≡ firstFailed (checks (c .before))
+past-order c = passes 7 _ _ _ (not-false _ (c .if2 .left)) refl ∙ past-set (c .before)
 
--- both questions of 8, the set's values and the offered ones
-values : (c : tie.Else3) → valuesOk (the-set (at-start (c .before .before .before))) && (at-start (c .before .before .before) .args .offered) ≡ at-start (c .before .before .before) .args .offered
+-- the set's values passed: 8 is left to the offered ones
+values : (c : tie.Else3) → (let s = start (c .before .before .before) in valuesOk (the-set s) && s .args .offered ≡ s .args .offered)
 values c = sym (and-yes _ _ (sym (c .before .set-values-ok .ensures _) ∙ not-false _ (c .if3 .left)))
 
-past-values : (c : tie.Else4) (n : ℕ) (cs : List Check) → n ≡ firstFailed cs
-    → (let s = at-start (c .before .before .before .before) in
-    n ≡ firstFailed (setChecks blockLimit (the-set s) ++ ask 7 (s .args .ordered) ∷ ask 8 (valuesOk (the-set s) && s .args .offered) ∷ cs))
-past-values c n cs e = past-order (c .before .before .before) n _ (passes 8 n _ cs (values (c .before) ∙ not-false _ (c .if4 .left)) e)
+past-values : (c : tie.Else4) → (let cs = checks (c .before .before .before .before) in firstFailed (drop 6 cs) ≡ firstFailed cs)
+past-values c = passes 8 _ _ _ (values (c .before) ∙ not-false _ (c .if4 .left)) refl ∙ past-order (c .before .before .before)
 
 set-refusal-requires : tie.Need-set-refusal-requires
 set-refusal-requires c κs = search needs
 
 returns : tie.Need-returns
-returns c = c .before .set-refusal .ensures ∙ failed-first _ _ (λ e. c .if1 .taken (c .before .set-refusal .ensures ∙ e))
+returns c = decision (c .before) .refused _ (c .if1 .taken)
 
 returns-2 : tie.Need-returns-2
-returns-2 c = past-set (c .before) 7 _ (fails 7 _ _ (not-true _ (c .if2 .taken)))
+returns-2 c = fails 7 _ _ (not-true _ (c .if2 .taken)) ∙ past-set (c .before)
 
 set-values-ok-requires : tie.Need-set-values-ok-requires
-set-values-ok-requires c κs = let w = whole blockLimit (the-set (at-start (c .before))) (set-ok (c .before)) in (w .sized .used-fits, w .even)
+set-values-ok-requires c κs = let e = c .before in let w = decision (e .before) .passed (e .if1 .left) .whole-set in (w .sized .used-fits, w .even)
 
 returns-3 : tie.Need-returns-3
-returns-3 c = past-order (c .before .before) 8 _ (fails 8 _ _ (sym (and-no _ _ (sym (c .before .set-values-ok .ensures _) ∙ not-true _ (c .if3 .taken)))))
+returns-3 c = fails 8 _ _ (sym (and-no _ _ (sym (c .before .set-values-ok .ensures _) ∙ not-true _ (c .if3 .taken)))) ∙ past-order (c .before .before)
 
 returns-4 : tie.Need-returns-4
-returns-4 c = past-order (c .before .before .before) 8 _ (fails 8 _ _ (values (c .before) ∙ not-true _ (c .if4 .taken)))
+returns-4 c = fails 8 _ _ (values (c .before) ∙ not-true _ (c .if4 .taken)) ∙ past-order (c .before .before .before)
 
 counts-ok-requires : tie.Need-counts-ok-requires
 counts-ok-requires c κs = search needs
 
 returns-5 : tie.Need-returns-5
-returns-5 c = past-values (c .before .before) 9 _ (fails 9 _ _ (sym (c .before .counts-ok .ensures) ∙ not-true _ (c .if5 .taken)))
+returns-5 c = fails 9 _ _ (sym (c .before .counts-ok .ensures) ∙ not-true _ (c .if5 .taken)) ∙ past-values (c .before .before)
 
 returns-6 : tie.Need-returns-6
-returns-6 c = past-values (c .before .before) 0 _ (passes 9 0 _ _ (sym (c .before .counts-ok .ensures) ∙ not-false _ (c .if5 .left)) none-failed)
+returns-6 c = passes 9 0 _ _ (sym (c .before .counts-ok .ensures) ∙ not-false _ (c .if5 .left)) none-failed ∙ past-values (c .before .before)
 
 pub counted-refusal-spec : {M : Type 1} → statement M
 counted-refusal-spec =

@@ -1,4 +1,4 @@
--- `sets::last_grower` meets its contract. Assumes nothing.
+-- `sets::last_grower` meets its contract: a block stops past at least one used slot, so the slot before its stop is read. Assumes nothing.
 use Prim.Native.Nat.{ℕ, _-_}
 use mathlib.Core.Path.{ap}
 use native.Mathlib.Omega.{arith}

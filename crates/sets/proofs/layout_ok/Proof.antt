@@ -1,31 +1,27 @@
--- `sets::layout_ok` meets its contract. Assumes nothing.
+-- `sets::layout_ok` meets its contract: each of the four tests of check 6 is decided by one law once those before it were passed. Assumes nothing.
 use Prim.Native.Nat.{_-_}
-use mathlib.Core.Path.{sym, _∙_}
+use mathlib.Core.Path.{_≡_, sym, _∙_}
+use mathlib.Core.Bool.{true}
 use native.Mathlib.Omega.{arith}
 use borrow.Author.Needs.{needs}
 use borrow.Author.Tests.{not-true, not-false}
 use lib.ListN.{length}
-use Rattle.model.specs.Lent.{setOf}
+use Rattle.model.specs.Lists.{rising}
 use Rattle.sets.proofs.Sets.{layout-empty, layout-falls, layout-short, layout-parts}
 use Rattle.sets.proofs.layout_ok.Statement.{statement}
 use Rattle.sets.proofs.layout_ok.Tie as tie
 
+rises : (c : tie.Else2) → rising (c .before .before .before .before .before .args .ends .now) ≡ true
+rises c = sym (c .before .strictly-rising .ensures) ∙ not-false _ (c .if2 .left)
+
 returns : tie.Need-returns
-returns c =
-    λ ws ys.
-    let g = c .before .before .before .args in
-    let s = setOf (g .block) (g .used) (g .g .now) ws ys in
-    layout-empty s (g .ends .now) (c .if1 .taken)
+returns c = λ ws ys. layout-empty _ _ (c .if1 .taken)
 
 strictly-rising-requires : tie.Need-strictly-rising-requires
 strictly-rising-requires c κs = search needs
 
 returns-2 : tie.Need-returns-2
-returns-2 c =
-    λ ws ys.
-    let g = c .before .before .before .before .before .args in
-    let s = setOf (g .block) (g .used) (g .g .now) ws ys in
-    layout-falls s (g .ends .now) (c .before .before .if1 .left) (sym (c .before .strictly-rising .ensures) ∙ not-true _ (c .if2 .taken))
+returns-2 c = λ ws ys. layout-falls _ _ (c .before .before .if1 .left) (sym (c .before .strictly-rising .ensures) ∙ not-true _ (c .if2 .taken))
 
 mul-if3 : tie.Need-mul-if3
 mul-if3 c = search needs
@@ -34,14 +30,10 @@ shared-slice-read-if3 : tie.Need-shared-slice-read-if3
 shared-slice-read-if3 c = search needs
 
 cast-if3 : tie.Need-cast-if3
-cast-if3 c =
-    let g = c .before .before .before .before .before .before .args in
-    omega (arith, c .shared-slice-known3 .given (length (g .ends .now) - 1))
+cast-if3 c = omega (arith, c .shared-slice-known3 .given (length (c .before .before .before .before .before .before .args .ends .now) - 1))
 
 add-if3 : tie.Need-add-if3
-add-if3 c =
-    let g = c .before .before .before .before .before .before .args in
-    omega (arith, c .shared-slice-known3 .given (length (g .ends .now) - 1))
+add-if3 c = omega (arith, c .shared-slice-known3 .given (length (c .before .before .before .before .before .before .args .ends .now) - 1))
 
 block-count-requires : tie.Need-block-count-requires
 block-count-requires c κs = search needs
@@ -51,28 +43,16 @@ cast-if3-2 c = search needs
 
 returns-3 : tie.Need-returns-3
 returns-3 c =
-    let b₁ = c .before .before .before in
-    let b₂ = b₁ .before in
-    let b₃ = b₂ .before in
-    let b₄ = b₃ .before .before .before in
-    λ ws ys.
-    let g = b₄ .args in
-    let s = setOf (g .block) (g .used) (g .g .now) ws ys in
-    layout-short s (g .ends .now) (b₃ .if1 .left) (sym (b₂ .strictly-rising .ensures) ∙ not-false _ (b₁ .if2 .left)) (λ e. c .if3 .taken (e ∙ sym (c .before .block-count .ensures)))
+    let e = c .before .before .before in
+    λ ws ys. layout-short _ _ (e .before .before .if1 .left) (rises e) (λ z. c .if3 .taken (z ∙ sym (c .before .block-count .ensures)))
 
 all-separate-none-requires : tie.Need-all-separate-none-requires
 all-separate-none-requires c κs = search needs
 
 returns-4 : tie.Need-returns-4
 returns-4 c =
-    let b₁ = c .before .before .before .before in
-    let b₂ = b₁ .before in
-    let b₃ = b₂ .before in
-    let b₄ = b₃ .before .before .before in
-    λ ws ys.
-    let g = b₄ .args in
-    let s = setOf (g .block) (g .used) (g .g .now) ws ys in
-    c .all-separate-none .ensures ws ys ∙ layout-parts s (g .ends .now) (b₃ .if1 .left) (sym (b₂ .strictly-rising .ensures) ∙ not-false _ (b₁ .if2 .left)) (c .before .if3 .left ∙ c .before .before .block-count .ensures)
+    let e = c .before .before .before .before in
+    λ ws ys. c .all-separate-none .ensures ws ys ∙ layout-parts _ _ (e .before .before .if1 .left) (rises e) (c .before .if3 .left ∙ c .before .before .block-count .ensures)
 
 pub layout-ok-spec : {M : Type 1} → statement M
 layout-ok-spec =

@@ -1,4 +1,4 @@
--- `sets::separates_none` meets its contract. Assumes nothing.
+-- `sets::separates_none` meets its contract: an end past the used slots separates nothing, another the growers on its two sides. Assumes nothing.
 use borrow.Author.Needs.{needs}
 use Rattle.model.specs.Lent.{setOf}
 use Rattle.sets.proofs.Sets.{ends-all, ends-between}
@@ -12,10 +12,7 @@ block-start-requires : tie.Need-block-start-requires
 block-start-requires c κs = search needs
 
 returns : tie.Need-returns
-returns c =
-    λ ws ys.
-    let g = c .before .before .before .args in
-    ends-all (setOf (g .block) (g .used) (g .g .now) ws ys) (g .e) _ (c .before .block-start .ensures) (c .if1 .taken)
+returns c = λ ws ys. ends-all (setOf _ _ (c .before .before .before .args .g .now) ws ys) _ _ (c .before .block-start .ensures) (c .if1 .taken)
 
 sub-p : tie.Need-sub-p
 sub-p c = search needs
@@ -34,9 +31,8 @@ shared-slice-read-result-2 c = search needs
 
 returns-2 : tie.Need-returns-2
 returns-2 c =
-    λ ws ys.
-    let g = c .before .before .before .before .before .args in
-    ends-between (setOf (g .block) (g .used) (g .g .now) ws ys) (g .e) _ (c .before .before .before .block-start .ensures) (c .before .before .if1 .left)
+    let s = c .before .before .before in
+    λ ws ys. ends-between (setOf _ _ (s .before .before .args .g .now) ws ys) _ _ (s .block-start .ensures) (c .before .before .if1 .left)
 
 pub separates-none-spec : {M : Type 1} → statement M
 separates-none-spec =

@@ -1,4 +1,4 @@
--- `sets::set_values_ok` meets its contract. Assumes nothing.
+-- `sets::set_values_ok` meets its contract: three prefixes of one length, whose rows `values-law` tests by weight and yield. Assumes nothing.
 use mathlib.Core.Path.{sym, _∙_}
 use native.Mathlib.Omega.{arith}
 use borrow.Author.Needs.{needs}
@@ -17,11 +17,7 @@ values-ok-requires : tie.Need-values-ok-requires
 values-ok-requires c κs = search needs
 
 returns : tie.Need-returns
-returns c =
-    let b₁ = c .before .before .before .before .before .before in
-    λ n.
-    let g = b₁ .args in
-    c .values-ok .ensures ∙ values-law n (g .used) (g .g .now) (g .w .now) (g .y .now) (length-take-le (g .used) (g .w .now) (omega arith) ∙ sym (length-take-le (g .used) (g .g .now) (omega arith))) (length-take-le (g .used) (g .y .now) (omega arith) ∙ sym (length-take-le (g .used) (g .g .now) (omega arith)))
+returns c = let p = c .before .before .before .before .before .before .pre in λ n. c .values-ok .ensures ∙ values-law n _ _ _ _ (p .0) (p .1)
 
 pub set-values-ok-spec : {M : Type 1} → statement M
 set-values-ok-spec =

@@ -1,4 +1,4 @@
--- `sets::used_ok` meets its contract. Assumes nothing.
+-- `sets::used_ok` meets its contract: check 4's three comparisons, in order. Assumes nothing.
 use borrow.Author.Needs.{needs}
 use Rattle.sets.proofs.Sets.{used-none, used-over, used-last}
 use Rattle.sets.proofs.used_ok.Statement.{statement}
