@@ -67,12 +67,11 @@ module _ (L : ℕ) where
     pub unused-both : T bothZero → T (every (eqb 0) (unusedNumbers L ns))
     unfolding unusedNumbers
     unused-both t =
-        let a = and-fst (every (eqb 0) (take ((2 + L) - (2 + k)) (drop (2 + k) ns))) (every (eqb 0) (take ((2 + 2 * L) - ((2 + L) + k)) (drop ((2 + L) + k) ns))) t in
-        let b = and-snd (every (eqb 0) (take ((2 + L) - (2 + k)) (drop (2 + k) ns))) (every (eqb 0) (take ((2 + 2 * L) - ((2 + L) + k)) (drop ((2 + L) + k) ns))) t in
-        every-append (eqb 0) (drop k (take L (drop 2 ns))) (drop k (drop L (drop 2 ns))) (rw unused-lengths at a) (rw unused-fences at b)
+        let z = rw (unused-lengths, unused-fences) at t in
+        every-append (eqb 0) _ _ (and-fst (every (eqb 0) (drop k (take L (drop 2 ns)))) _ z) (and-snd (every (eqb 0) (drop k (take L (drop 2 ns)))) _ z)
 
     pub unused-parts : T (every (eqb 0) (unusedNumbers L ns)) → T bothZero
     unfolding unusedNumbers
     unused-parts t =
         let r = every-split (eqb 0) (drop k (take L (drop 2 ns))) (drop k (drop L (drop 2 ns))) t in
-        rw (unused-lengths, unused-fences) (and-mk (every (eqb 0) (drop k (take L (drop 2 ns)))) (every (eqb 0) (drop k (drop L (drop 2 ns)))) (r .0) (r .1))
+        rw (unused-lengths, unused-fences) (and-mk (every (eqb 0) (drop k (take L (drop 2 ns)))) _ (r .0) (r .1))

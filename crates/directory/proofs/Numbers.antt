@@ -90,6 +90,10 @@ module _ (L : ℕ) (ns : List ℕ) (t : ℕ) (h : HasPartition L ns t) where
   pub has-room : t < L
   has-room = omega (arith, h .there, dir-few L ns (h .shaped))
 
+  -- its length is one of the numbers
+  pub has-place : 2 + t < length ns
+  has-place = omega (arith, has-size, has-room)
+
   pub has-onward : onward (directoryOf L ns) t ≤ L
   has-onward = omega (arith, dir-count L ns (h .shaped), dir-few L ns (h .shaped))
 

@@ -13,7 +13,7 @@ use Rattle.model.specs.Bounds.{mostBlockLength}
 use Rattle.model.specs.Lists.{every, rising, ceilDiv}
 use Rattle.model.specs.Checks.{Check, firstFailed}
 use Rattle.model.specs.Deliveries.{inRange}
-use Rattle.model.specs.Blocks.{Set, blocks, blockLengthOk, slotsOk, slicesOk, usedOk, growersOk, valuesOk}
+use Rattle.model.specs.Blocks.{Set, blocks, blockLengthOk, slotsOk, slicesOk, usedOk, valuesOk}
 use Rattle.model.specs.Layouts.{endOf, separatesNone, isLayout, layoutOk}
 use Rattle.model.specs.Lent.{setOf, Even}
 use Rattle.model.specs.Questions.{setChecks}

@@ -1,4 +1,4 @@
--- `directory::block` meets its contract. Assumes nothing.
+-- `directory::block` meets its contract: the number at the block length's place is read as `directoryOf` reads it. Assumes nothing.
 use mathlib.Core.Path.{refl}
 use borrow.Author.Needs.{needs}
 use Rattle.model.specs.Directory.{directoryOf}

@@ -1,4 +1,4 @@
--- `directory::count` meets its contract. Assumes nothing.
+-- `directory::count` meets its contract: the number at the count's place is read, and fits. Assumes nothing.
 use native.Mathlib.Omega.{arith}
 use borrow.Author.Needs.{needs}
 use Rattle.directory.proofs.count.Statement.{statement}

@@ -1,15 +1,13 @@
--- `directory::directory_block_ok` meets its contract. Assumes nothing.
+-- `directory::directory_block_ok` meets its contract: a slice of another length passes check 2, another by its block length. Assumes nothing.
 use Rattle.model.specs.Bounds.{blockLimit}
 use Rattle.directory.proofs.Shapes.{no-directory, directory-block}
 use mathlib.Core.Path.{_∙_}
 use borrow.Author.Needs.{needs}
-use Rattle.model.specs.Directory.{directoryBlockOk}
 use Rattle.directory.proofs.directory_block_ok.Statement.{statement}
 use Rattle.directory.proofs.directory_block_ok.Tie as tie
 
 returns : tie.Need-returns
-unfolding directoryBlockOk
-returns c = let g = c .before .before .args in no-directory blockLimit (g .directory .now) (c .if1 .taken)
+returns c = no-directory blockLimit _ (c .if1 .taken)
 
 shared-slice-read-block-length-ok : tie.Need-shared-slice-read-block-length-ok
 shared-slice-read-block-length-ok c = search needs
@@ -18,8 +16,7 @@ block-length-ok-requires : tie.Need-block-length-ok-requires
 block-length-ok-requires c κs = search needs
 
 returns-2 : tie.Need-returns-2
-unfolding directoryBlockOk
-returns-2 c = let g = c .before .before .before .before .args in c .block-length-ok .ensures ∙ directory-block blockLimit (g .directory .now) (c .before .before .if1 .left)
+returns-2 c = c .block-length-ok .ensures ∙ directory-block blockLimit _ (c .before .before .if1 .left)
 
 pub directory-block-ok-spec : {M : Type 1} → statement M
 directory-block-ok-spec =

@@ -1,36 +1,32 @@
 -- `directory::grow` meets its contract: one number stored is one length changed. Assumes nothing.
-use Prim.Native.Nat.{ℕ, _+_, _<_}
+use Prim.Native.Nat.{ℕ, _+_}
 use mathlib.Core.Path.{ap, _∙_}
 use native.Mathlib.Omega.{arith}
 use borrow.Author.Needs.{needs}
-use lib.ListN.{length, set}
+use lib.ListN.{set}
 use Rattle.model.specs.Bounds.{blockLimit}
 use Rattle.model.specs.Directory.{directoryOf, withLengths}
-use Rattle.directory.proofs.Numbers.{has-size, has-room, has-length, has-stored, dir-fits}
+use Rattle.directory.proofs.Numbers.{has-place, has-length, has-stored, dir-fits}
 use Rattle.directory.proofs.grow.Statement.{statement}
 use Rattle.directory.proofs.grow.Tie as tie
 
--- the partition's length is one of the numbers
-inside : (c : tie.Start) → 2 + c .args .partition < length (c .args .directory .now)
-inside c = let p = c .pre in omega (arith, has-size blockLimit _ _ p, has-room blockLimit _ _ p)
-
 add-i : tie.Need-add-i
-add-i c = omega (arith, inside c)
+add-i c = omega (arith, has-place blockLimit _ _ (c .pre))
 
 mul-directory : tie.Need-mul-directory
-mul-directory c = omega (arith, inside c)
+mul-directory c = omega (arith, has-place blockLimit _ _ (c .pre))
 
 slice-read-directory : tie.Need-slice-read-directory
-slice-read-directory c = omega (arith, inside (c .before))
+slice-read-directory c = omega (arith, has-place blockLimit _ _ (c .before .pre))
 
 add-directory : tie.Need-add-directory
 add-directory c = let p = c .before .pre in omega (arith, has-length blockLimit _ _ p, dir-fits blockLimit _ (p .shaped) (c .before .args .partition))
 
 mul-directory-2 : tie.Need-mul-directory-2
-mul-directory-2 c = omega (arith, inside (c .before))
+mul-directory-2 c = omega (arith, has-place blockLimit _ _ (c .before .pre))
 
 slice-write-directory : tie.Need-slice-write-directory
-slice-write-directory c = omega (arith, inside (c .before))
+slice-write-directory c = omega (arith, has-place blockLimit _ _ (c .before .pre))
 
 same-length : tie.Need-same-length
 same-length c = search needs

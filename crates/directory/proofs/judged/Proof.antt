@@ -1,4 +1,5 @@
--- `directory::judged` meets its contract. Assumes nothing.
+-- `directory::judged` meets its contract: each test that fails contradicts one part of a proper directory (`Shaped`), and all together make it; the survey's
+-- sum and place are then those of the directory's lengths and fences. Assumes nothing.
 use Prim.Native.Nat.{_≤_}
 use mathlib.Core.Path.{_≡_, sym, ap, _∙_}
 use native.Mathlib.Omega.{arith}
@@ -18,7 +19,7 @@ refused-requires : tie.Need-refused-requires
 refused-requires c κs = search needs
 
 returns : tie.Need-returns
-returns c = let g = c .before .before .before .args in c .refused .ensures ∙ judged-not blockLimit (g .c) (g .directory .now) (g .grower) (λ s. c .before .if1 .taken (s .size))
+returns c = c .refused .ensures ∙ judged-not blockLimit _ _ _ (λ s. c .before .if1 .taken (s .size))
 
 shared-slice-read-k : tie.Need-shared-slice-read-k
 shared-slice-read-k c = search needs
@@ -30,16 +31,13 @@ refused-requires-2 : tie.Need-refused-requires-2
 refused-requires-2 c κs = search needs
 
 returns-2 : tie.Need-returns-2
-returns-2 c = let g = c .before .before .before .before .before .args in c .refused2 .ensures ∙ judged-not blockLimit (g .c) (g .directory .now) (g .grower) (λ s. let h = s .some in omega arith)
+returns-2 c = c .refused2 .ensures ∙ judged-not blockLimit _ _ _ (λ s. let h = s .some in omega arith)
 
 refused-requires-3 : tie.Need-refused-requires-3
 refused-requires-3 c κs = search needs
 
 returns-3 : tie.Need-returns-3
-returns-3 c =
-    let b₁ = c .before .before .before .before .before .before in
-    let g = b₁ .args in
-    c .refused3 .ensures ∙ judged-not blockLimit (g .c) (g .directory .now) (g .grower) (λ s. let h = s .few in omega arith)
+returns-3 c = c .refused3 .ensures ∙ judged-not blockLimit _ _ _ (λ s. let h = s .few in omega arith)
 
 add-a : tie.Need-add-a
 add-a c = search needs
@@ -79,9 +77,8 @@ refused-requires-4 c κs = search needs
 
 returns-4 : tie.Need-returns-4
 returns-4 c =
-    let b₁ = c .before .before .before .before .before .before .before .before .before .before in
-    let g = b₁ .args in
-    c .refused4 .ensures ∙ judged-not blockLimit (g .c) (g .directory .now) (g .grower) (λ s. no-such (unused-parts blockLimit (g .directory .now) (s .size) (s .few) (s .unused)) (sym (c .before .before .zeros .ensures) ∙ not-true _ (c .before .if4 .taken)))
+    let not-zero = sym (c .before .before .zeros .ensures) ∙ not-true _ (c .before .if4 .taken) in
+    c .refused4 .ensures ∙ judged-not blockLimit _ _ _ (λ s. no-such (unused-parts blockLimit _ (s .size) (s .few) (s .unused)) not-zero)
 
 sub-surveyed : tie.Need-sub-surveyed
 sub-surveyed c = search needs
@@ -109,20 +106,18 @@ refused-requires-5 c κs = search needs
 
 returns-5 : tie.Need-returns-5
 returns-5 c =
-    let b₁ = c .before .before .before in
-    let b₂ = b₁ .before .before .before .before .before .before .before .before .before .before .before .before in
-    let g = b₂ .args in
-    c .refused5 .ensures ∙ judged-not blockLimit (g .c) (g .directory .now) (g .grower) (λ s. no-such (s .rises) (ap rising (sym (fences-part blockLimit (g .directory .now) (s .size) (s .few))) ∙ sym (b₁ .surveyed .ensures .0) ∙ not-true _ (c .before .if5 .taken)))
+    let falls = sym (c .before .before .before .surveyed .ensures .0) ∙ not-true _ (c .before .if5 .taken) in
+    c .refused5 .ensures ∙ judged-not blockLimit _ _ _ (λ s. no-such (s .rises) (ap rising (sym (fences-part blockLimit _ (s .size) (s .few))) ∙ falls))
 
 refused-requires-6 : tie.Need-refused-requires-6
 refused-requires-6 c κs = search needs
 
 returns-6 : tie.Need-returns-6
 returns-6 c =
-    let b₁ = c .before .before .before .before .before in
-    let b₂ = b₁ .before .before .before .before .before .before .before .before .before .before .before .before in
-    let g = b₂ .args in
-    c .refused6 .ensures ∙ judged-not blockLimit (g .c) (g .directory .now) (g .grower) (λ s. let e = b₁ .surveyed .ensures .1 ∙ ap sumOf (lengths-part blockLimit (g .directory .now) (s .size) (s .few)) in let h = s .room in omega arith)
+    let v = c .before .before .before .before .before in
+    let ns = v .before .before .before .before .before .before .before .before .before .before .before .before .args .directory .now in
+    let sum = v .surveyed .ensures .1 in
+    c .refused6 .ensures ∙ judged-not blockLimit _ _ _ (λ s. let h = s .room in omega (arith, sum ∙ ap sumOf (lengths-part blockLimit ns (s .size) (s .few))))
 
 returns-7 : tie.Need-returns-7
 returns-7 c =

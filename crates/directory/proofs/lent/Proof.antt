@@ -1,13 +1,17 @@
--- `directory::lent` meets its contract. Assumes nothing.
-use mathlib.Core.Path.{refl, sym, _∙_}
+-- `directory::lent` meets its contract: the shape of the first check that fails, and past 2 and 3 what `judged` says of 6. Assumes nothing.
+use mathlib.Core.Path.{_≡_, refl, sym, _∙_}
+use mathlib.Core.Bool.{true}
 use borrow.Author.Needs.{needs}
 use borrow.Author.Tests.{not-true, not-false}
-use lib.ListN.{length}
 use Rattle.model.specs.Bounds.{blockLimit}
+use Rattle.model.specs.Directory.{directoryBlockOk}
 use Rattle.checks.proofs.Answers.{fails, passes}
 use Rattle.directory.proofs.Shapes.{shape-refused, shape-judged}
 use Rattle.directory.proofs.lent.Statement.{statement}
 use Rattle.directory.proofs.lent.Tie as tie
+
+block-ok : (c : tie.Else1) → directoryBlockOk blockLimit (c .before .before .before .before .before .before .args .directory .now) ≡ true
+block-ok c = sym (c .before .directory-block-ok .ensures) ∙ not-false _ (c .if1 .left)
 
 directory-block-ok-requires : tie.Need-directory-block-ok-requires
 directory-block-ok-requires c κs = search needs
@@ -17,9 +21,8 @@ refused-requires c κs = search needs
 
 returns : tie.Need-returns
 returns c =
-    let b₁ = c .before .before .before .before .before .before .before in
-    let g = b₁ .args in
-    c .refused .ensures ∙ shape-refused blockLimit (g .directory .now) (g .grower) 1 _ (fails 2 _ _ (sym (c .before .before .directory-block-ok .ensures) ∙ not-true _ (c .before .if1 .taken)))
+    let e = sym (c .before .before .directory-block-ok .ensures) ∙ not-true _ (c .before .if1 .taken) in
+    c .refused .ensures ∙ shape-refused blockLimit _ _ 1 _ (fails 2 _ _ e)
 
 slices-ok-requires : tie.Need-slices-ok-requires
 slices-ok-requires c κs = search needs
@@ -29,22 +32,16 @@ refused-requires-2 c κs = search needs
 
 returns-2 : tie.Need-returns-2
 returns-2 c =
-    let b₁ = c .before .before .before in
-    let b₂ = b₁ .before in
-    let b₃ = b₂ .before .before .before .before .before in
-    let g = b₃ .args in
-    c .refused2 .ensures ∙ shape-refused blockLimit (g .directory .now) (g .grower) 2 _ (passes 2 3 _ _ (sym (b₂ .directory-block-ok .ensures) ∙ not-false _ (b₁ .if1 .left)) (fails 3 _ _ (sym (c .before .before .slices-ok .ensures) ∙ not-true _ (c .before .if2 .taken))))
+    let e = sym (c .before .before .slices-ok .ensures) ∙ not-true _ (c .before .if2 .taken) in
+    c .refused2 .ensures ∙ shape-refused blockLimit _ _ 2 _ (passes 2 3 _ _ (block-ok (c .before .before .before)) (fails 3 _ _ e))
 
 judged-requires : tie.Need-judged-requires
 judged-requires c κs = search needs
 
 returns-3 : tie.Need-returns-3
 returns-3 c =
-    let b₁ = c .before .before .before in
-    let b₂ = b₁ .before in
-    let b₃ = b₂ .before .before .before .before .before in
-    let g = b₃ .args in
-    c .judged .ensures ∙ shape-judged blockLimit (g .directory .now) (g .grower) (length (g .g .now)) _ (sym (passes 2 _ _ _ (sym (b₂ .directory-block-ok .ensures) ∙ not-false _ (b₁ .if1 .left)) (passes 3 _ _ _ (sym (c .before .before .slices-ok .ensures) ∙ not-false _ (c .before .if2 .left)) refl)))
+    let e = sym (c .before .before .slices-ok .ensures) ∙ not-false _ (c .before .if2 .left) in
+    c .judged .ensures ∙ shape-judged blockLimit _ _ _ _ (sym (passes 2 _ _ _ (block-ok (c .before .before .before)) (passes 3 _ _ _ e refl)))
 
 pub lent-spec : {M : Type 1} → statement M
 lent-spec =

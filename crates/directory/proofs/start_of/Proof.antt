@@ -1,20 +1,15 @@
 -- `directory::start_of` meets its contract: the sum of the lengths ahead. Assumes nothing.
-use Prim.Native.Nat.{_+_, _<_}
 use mathlib.Core.Path.{_∙_}
 use native.Mathlib.Omega.{arith}
 use borrow.Author.Needs.{needs}
-use lib.ListN.{length, length-take}
+use lib.ListN.{length-take}
 use Rattle.model.specs.Bounds.{blockLimit}
-use Rattle.directory.proofs.Numbers.{has-size, has-room, dir-ahead}
+use Rattle.directory.proofs.Numbers.{has-place, has-room, dir-ahead}
 use Rattle.directory.proofs.start_of.Statement.{statement}
 use Rattle.directory.proofs.start_of.Tie as tie
 
--- the partition's length is one of the numbers
-inside : (c : tie.Start) → 2 + c .args .partition < length (c .args .directory .now)
-inside c = let p = c .pre in omega (arith, has-size blockLimit _ _ p, has-room blockLimit _ _ p)
-
 add-e : tie.Need-add-e
-add-e c = omega (arith, inside (c .before))
+add-e c = omega (arith, has-place blockLimit _ _ (c .before .pre))
 
 sub-total : tie.Need-sub-total
 sub-total c = search needs
@@ -23,7 +18,7 @@ part-total-start : tie.Need-part-total-start
 part-total-start c = search needs
 
 part-total-end : tie.Need-part-total-end
-part-total-end c = omega (arith, inside (c .before))
+part-total-end c = omega (arith, has-place blockLimit _ _ (c .before .pre))
 
 total-requires : tie.Need-total-requires
 total-requires c κs = simp length-take (omega (arith, has-room blockLimit _ _ (c .before .before .pre)))
