@@ -19,7 +19,7 @@ use Rattle.layout_search.specs.Task.{Covers}
 use Rattle.layout_search.specs.Terms.{termsPerBlock, addsOf, takesOf}
 use Rattle.layout_search.proofs.SumLaws.{sum-none, sum-split, sum-cong}
 use Rattle.block_costs.specs.Terms.{Loaded}
-use Rattle.block_costs.proofs.TermLaws.{is-fixed, is-before, is-after, is-added, is-saved}
+use Rattle.block_costs.proofs.TermLaws.{is-term}
 use Rattle.block_costs.proofs.BlockCost.{block-cost}
 
 -- the first partition's blocks, and the others
@@ -31,7 +31,7 @@ place-in e i (f ∷ es) h = rw (le-leb i e h)
 
 place-past : (e i : ℕ) (es : List ℕ) → e < i → 1 ≤ length es → place (e ∷ es) i ≡ place es i + 1
 unfolding place
-place-past e i [] h k = let z : ⊥ = omega arith in absurd z
+place-past e i [] h k = absurd (omega arith)
 place-past e i (f ∷ es) h k = rw (lt-leb i e h)
 
 -- a block's price by its place, where the first partition begins at block a
@@ -48,7 +48,7 @@ at-past g a e i es h k = rw (place-past e i es h k, add-one (place es i)) (ap (g
 
 some-left : (f n : ℕ) (es : List ℕ) → Cut f es n → f < n → 1 ≤ length es
 unfolding Cut
-some-left f n [] c h = let z : ⊥ = omega (arith, c) in absurd z
+some-left f n [] c h = absurd (omega (arith, c))
 some-left f n (e ∷ es) c h = omega arith
 
 by-partitions : (g : ℕ → ℕ → ℕ → ℕ → ℕ) (n a : ℕ) (es : List ℕ) → Cut a es n → sum (atPlace g a es) a (n - a) ≡ spans g a es
@@ -91,8 +91,8 @@ module _ (L : ℕ) (c : PriceCard) (hs : List ℕ) (n : ℕ) (old terms : List �
       → Is (sumHistograms histograms (λ (h : Histogram). price c ends h i *ℤ pos (count L hs (at h i)))) (atPlace (addsOf terms) 0 ends i) (atPlace (λ i b f k. takesOf terms i k) 0 ends i)
   unfolding atPlace addsOf takesOf before
   at-block i g =
-      rw (is-fixed L c hs n old terms l i g, is-before L c hs n old terms l i g, is-after L c hs n old terms l i g, is-added L c hs n old terms l i g, is-saved L c hs n old terms l i g)
-      (block-cost L c ends hs i)
+      let e = is-term L c hs n old terms l i g in
+      rw (e 0 (omega arith), e 1 (omega arith), e 2 (omega arith), e 3 (omega arith), e 4 (omega arith)) (block-cost L c ends hs i)
 
   pub layout-cost : Cut 0 ends n → Is (costOf L c n ends hs) (spans (addsOf terms) 0 ends) (spans (λ i b f k. takesOf terms i k) 0 ends)
   unfolding costOf

@@ -11,31 +11,16 @@ use Rattle.model.specs.declared.PriceCard.{PriceCard}
 use Rattle.model.specs.Histograms.{Histogram, pq, rs, re, sc, de, ins, udf, utf, udb, utb, at, count, slot}
 use Rattle.model.specs.Bounds.{mostCount, mostPrice}
 use Rattle.layout_search.specs.Task.{searchLimit}
-use Rattle.layout_search.specs.Terms.{termsPerBlock, fixed, perBlockBefore, perBlockAfter, perPartitionAdded, perPartitionSaved, Holds}
+use Rattle.layout_search.specs.Terms.{termsPerBlock, Holds}
 use Rattle.block_costs.specs.Terms.{fixedOf, perBlockBeforeOf, perBlockAfterOf, perPartitionAddedOf, perPartitionSavedOf, pick, termAt, PricesPass, Counted, Loaded}
 
-module _ (L : ℕ) (c : PriceCard) (hs : List ℕ) (i y : ℕ) (at-block : y / termsPerBlock ≡ i) where
-  abbrev nth : ℕ → ℕ → ℕ
-  nth k j = pick j (fixedOf L c hs k) (perBlockBeforeOf L c hs k) (perBlockAfterOf L c hs k) (perPartitionAddedOf L c hs k) (perPartitionSavedOf L c hs k)
+-- term j of block i
+abbrev pub nth : ℕ → PriceCard → List ℕ → ℕ → ℕ → ℕ
+nth L c hs i j = pick j (fixedOf L c hs i) (perBlockBeforeOf L c hs i) (perBlockAfterOf L c hs i) (perPartitionAddedOf L c hs i) (perPartitionSavedOf L c hs i)
 
-  term-as : (j : ℕ) → y % termsPerBlock ≡ j → termAt L c hs y ≡ nth i j
-  unfolding termAt
-  term-as j v = ap₂ nth at-block v
-
-  pub term-fixed : y % termsPerBlock ≡ 0 → fixedOf L c hs i ≡ termAt L c hs y
-  term-fixed v = sym (term-as 0 v)
-
-  pub term-before : y % termsPerBlock ≡ 1 → perBlockBeforeOf L c hs i ≡ termAt L c hs y
-  term-before v = sym (term-as 1 v)
-
-  pub term-after : y % termsPerBlock ≡ 2 → perBlockAfterOf L c hs i ≡ termAt L c hs y
-  term-after v = sym (term-as 2 v)
-
-  pub term-added : y % termsPerBlock ≡ 3 → perPartitionAddedOf L c hs i ≡ termAt L c hs y
-  term-added v = sym (term-as 3 v)
-
-  pub term-saved : y % termsPerBlock ≡ 4 → perPartitionSavedOf L c hs i ≡ termAt L c hs y
-  term-saved v = sym (term-as 4 v)
+pub term-is : (L : ℕ) (c : PriceCard) (hs : List ℕ) (y i j : ℕ) → y / termsPerBlock ≡ i → y % termsPerBlock ≡ j → nth L c hs i j ≡ termAt L c hs y
+unfolding termAt
+term-is L c hs y i j e f = sym (ap₂ (nth L c hs) e f)
 
 -- a price times a sum of counts is small
 pub small : (p c l m : ℕ) → p ≤ l * mostPrice → c ≤ m * mostCount → p * c ≤ l * mostPrice * (m * mostCount)
@@ -85,9 +70,10 @@ module _ (L : ℕ) (c : PriceCard) (hs : List ℕ) (i : ℕ) (q : PricesPass c) 
 
 -- loading, place by place
 pub loaded-start : (L : ℕ) (c : PriceCard) (hs old : List ℕ) → Loaded L c hs 0 old old
-loaded-start L c hs old = record { long = refl; here = λ x g. let z : ⊥ = omega arith in absurd z }
+loaded-start L c hs old = record { long = refl; here = λ x g. absurd (omega arith) }
 
-pub loaded-more : (L : ℕ) (c : PriceCard) (hs : List ℕ) (y v : ℕ) (old terms : List ℕ) → Loaded L c hs y old terms → y < length old → v ≡ termAt L c hs y → Loaded L c hs (y + 1) old (set terms y v)
+pub loaded-more : (L : ℕ) (c : PriceCard) (hs : List ℕ) (y v : ℕ) (old terms : List ℕ) → Loaded L c hs y old terms → y < length old
+    → v ≡ termAt L c hs y → Loaded L c hs (y + 1) old (set terms y v)
 loaded-more L c hs y v old terms l g e = record { long = length-set terms y v ∙ l .long; here = λ x k. go x k (ℕ-discrete x y) }
   where
     go : (x : ℕ) → x < y + 1 → Dec (x ≡ y) → getD (set terms y v) x 0 ≡ termAt L c hs x
@@ -96,34 +82,19 @@ loaded-more L c hs y v old terms l g e = record { long = length-set terms y v �
 
 -- what was loaded
 module _ (L : ℕ) (c : PriceCard) (hs : List ℕ) (n : ℕ) (old terms : List ℕ) (l : Loaded L c hs (n * termsPerBlock) old terms) (i : ℕ) (g : i < n) where
-  at-place : (j : ℕ) → j < termsPerBlock → getD terms (i * termsPerBlock + j) 0 ≡ termAt L c hs (i * termsPerBlock + j)
-  at-place j h = l .here (i * termsPerBlock + j) (omega arith)
-
-  pub is-fixed : fixed terms i ≡ fixedOf L c hs i
-  is-fixed = at-place 0 (omega arith) ∙ sym (term-fixed L c hs i (i * termsPerBlock + 0) (omega arith) (omega arith))
-
-  pub is-before : perBlockBefore terms i ≡ perBlockBeforeOf L c hs i
-  is-before = at-place 1 (omega arith) ∙ sym (term-before L c hs i (i * termsPerBlock + 1) (omega arith) (omega arith))
-
-  pub is-after : perBlockAfter terms i ≡ perBlockAfterOf L c hs i
-  is-after = at-place 2 (omega arith) ∙ sym (term-after L c hs i (i * termsPerBlock + 2) (omega arith) (omega arith))
-
-  pub is-added : perPartitionAdded terms i ≡ perPartitionAddedOf L c hs i
-  is-added = at-place 3 (omega arith) ∙ sym (term-added L c hs i (i * termsPerBlock + 3) (omega arith) (omega arith))
-
-  pub is-saved : perPartitionSaved terms i ≡ perPartitionSavedOf L c hs i
-  is-saved = at-place 4 (omega arith) ∙ sym (term-saved L c hs i (i * termsPerBlock + 4) (omega arith) (omega arith))
+  pub is-term : (j : ℕ) → j < termsPerBlock → getD terms (i * termsPerBlock + j) 0 ≡ nth L c hs i j
+  is-term j h = l .here (i * termsPerBlock + j) (omega arith) ∙ sym (term-is L c hs (i * termsPerBlock + j) i j (omega arith) (omega arith))
 
 pub loaded-holds : (L : ℕ) (c : PriceCard) (hs : List ℕ) (n : ℕ) (old terms : List ℕ) → Loaded L c hs (n * termsPerBlock) old terms → PricesPass c → Counted L hs → n ≤ searchLimit
     → n * termsPerBlock ≤ length old → Holds terms n
 loaded-holds L c hs n old terms l q k few room = record {
   few = few;
   long = omega (arith, l .long);
-  fixed-most = λ i g. omega (arith, is-fixed L c hs n old terms l i g, fixed-small L c hs i q k);
-  before-most = λ i g. omega (arith, is-before L c hs n old terms l i g, before-small L c hs i q k);
-  after-most = λ i g. omega (arith, is-after L c hs n old terms l i g, after-small L c hs i q k);
-  added-most = λ i g. omega (arith, is-added L c hs n old terms l i g, added-small L c hs i q k);
-  saved-most = λ i g. omega (arith, is-saved L c hs n old terms l i g, saved-small L c hs i q k);
+  fixed-most = λ i g. omega (arith, is-term L c hs n old terms l i g 0 (omega arith), fixed-small L c hs i q k);
+  before-most = λ i g. omega (arith, is-term L c hs n old terms l i g 1 (omega arith), before-small L c hs i q k);
+  after-most = λ i g. omega (arith, is-term L c hs n old terms l i g 2 (omega arith), after-small L c hs i q k);
+  added-most = λ i g. omega (arith, is-term L c hs n old terms l i g 3 (omega arith), added-small L c hs i q k);
+  saved-most = λ i g. omega (arith, is-term L c hs n old terms l i g 4 (omega arith), saved-small L c hs i q k);
 }
 
 -- products of a price and a sum of counts

@@ -68,8 +68,8 @@ set-in-front l k t v h m =
 
 set-length : (L : ℕ) (ns : List ℕ) (t v : ℕ) → length ns ≡ directorySize L → getD ns 1 0 ≤ L → t < getD ns 1 0 → set ns (2 + t) v ≡ withLengths (set (directoryOf L ns .lengths) t v) ns
 unfolding withLengths directoryOf
-set-length L [] t v e h k = let z : ⊥ = omega arith in absurd z
-set-length L (b ∷ []) t v e h k = let z : ⊥ = omega arith in absurd z
+set-length L [] t v e h k = absurd (omega arith)
+set-length L (b ∷ []) t v e h k = absurd (omega arith)
 set-length L (b ∷ c ∷ r) t v e h k =
     let q : 2 + t ≡ suc (suc t) = omega arith in
     let n : length (set (take c r) t v) ≡ c = length-set (take c r) t v ∙ length-take-le c r (omega arith) in

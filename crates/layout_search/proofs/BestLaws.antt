@@ -13,9 +13,9 @@ use Rattle.layout_search.specs.Table.{Low, Hit, Near, Best, Scan, Cand, 
 
 pub scan-start : (t : Task) (a k : ℕ) → Scan t a k a (2 ^ 62)
 scan-start t a k = record {
-  low = λ d es h l p. let z : ⊥ = omega (arith, l .0) in absurd z;
-  hit = λ h. let z : ⊥ = omega arith in absurd z;
-  near = λ h. let z : ⊥ = omega arith in absurd z;
+  low = λ d es h l p. absurd (omega (arith, l .0));
+  hit = λ h. absurd (omega arith);
+  near = λ h. absurd (omega arith);
 }
 
 -- one more end, given what is known of layouts that end there
@@ -41,8 +41,8 @@ scan-without t a k e m s f = record {
 scan-drop : (t : Task) (a k e m x : ℕ) → Scan t a k e m → ((es : List ℕ) → Layout t a (e ∷ es) → length es ≡ k → ⊥) → 2 ^ 62 ≤ x → x < m → Scan t a k (e + 1) x
 scan-drop t a k e m x s f h g = record {
   low = more t a k e m x s (λ u. omega arith) (λ es l p. absurd (f es l p));
-  hit = λ u. let z : ⊥ = omega arith in absurd z;
-  near = λ u. let z : ⊥ = omega arith in absurd z;
+  hit = λ u. absurd (omega arith);
+  near = λ u. absurd (omega arith);
 }
 
 cand-low : (t : Task) (a k e y x : ℕ) → Cand t a k e y x → (es : List ℕ) → Layout t a (e ∷ es) → length es ≡ k → Low t a x (e ∷ es)
@@ -80,7 +80,7 @@ scan-take t a k e m y x s c h = record {
 }
 
 done-low : (t : Task) (a k m : ℕ) → Scan t a k (t .n) m → (es : List ℕ) → Layout t a es → length es ≡ k + 1 → Low t a m es
-done-low t a k m s [] l p = let z : ⊥ = omega arith in absurd z
+done-low t a k m s [] l p = absurd (omega arith)
 done-low t a k m s (e ∷ es) l p = s .low e es (l .1) l (omega arith)
 
 pub scan-done : (t : Task) (a k m : ℕ) → Scan t a k (t .n) m → Best t a (k + 1) m
@@ -90,25 +90,25 @@ scan-done t a k m s = record { low = done-low t a k m s; hit = s .hit; near = s 
 
 last-low : (t : Task) (es : List ℕ) → Layout t (t .n) es → length es ≡ 0 → Low t (t .n) (2 ^ 60) es
 last-low t [] l p = (omega arith, omega arith)
-last-low t (e ∷ es) l p = let z : ⊥ = omega arith in absurd z
+last-low t (e ∷ es) l p = absurd (omega arith)
 
 pub best-end : (t : Task) → Best t (t .n) 0 (2 ^ 60)
 best-end t = record { low = last-low t; hit = λ h. ([], refl, refl, refl); near = λ h. (omega arith, omega arith) }
 
 none-low : (t : Task) (a : ℕ) → a < t .n → (es : List ℕ) → Layout t a es → length es ≡ 0 → Low t a (2 ^ 62) es
-none-low t a h [] l p = let z : ⊥ = omega (arith, l) in absurd z
-none-low t a h (e ∷ es) l p = let z : ⊥ = omega arith in absurd z
+none-low t a h [] l p = absurd (omega (arith, l))
+none-low t a h (e ∷ es) l p = absurd (omega arith)
 
 pub best-none : (t : Task) (a : ℕ) → a < t .n → Best t a 0 (2 ^ 62)
-best-none t a h = record { low = none-low t a h; hit = λ g. let z : ⊥ = omega arith in absurd z; near = λ g. let z : ⊥ = omega arith in absurd z }
+best-none t a h = record { low = none-low t a h; hit = λ g. absurd (omega arith); near = λ g. absurd (omega arith) }
 
 -- no blocks are laid out in some partitions
 past-low : (t : Task) (k : ℕ) → 0 < k → (es : List ℕ) → Layout t (t .n) es → length es ≡ k → Low t (t .n) (2 ^ 62) es
-past-low t k h [] l p = let z : ⊥ = omega (arith, p) in absurd z
-past-low t k h (e ∷ es) l p = let z : ⊥ = omega (arith, l .0, l .1) in absurd z
+past-low t k h [] l p = absurd (omega (arith, p))
+past-low t k h (e ∷ es) l p = absurd (omega (arith, l .0, l .1))
 
 pub best-past : (t : Task) (k : ℕ) → 0 < k → Best t (t .n) k (2 ^ 62)
-best-past t k h = record { low = past-low t k h; hit = λ g. let z : ⊥ = omega arith in absurd z; near = λ g. let z : ⊥ = omega arith in absurd z }
+best-past t k h = record { low = past-low t k h; hit = λ g. absurd (omega arith); near = λ g. absurd (omega arith) }
 
 -- one end tried
 

@@ -14,7 +14,7 @@ pub record Tried (t : Task) (val : ℕ → ℕ → ℕ) (a k e m b : ℕ) : Type
   pub first : m < 2 ^ 62 → First t a k b (val k (b + 1)) m
 
 pub tried-start : (t : Task) (val : ℕ → ℕ → ℕ) (a k b : ℕ) → Tried t val a k a (2 ^ 62) b
-tried-start t val a k b = record { scan = scan-start t a k; first = λ h. let z : ⊥ = omega arith in absurd z }
+tried-start t val a k b = record { scan = scan-start t a k; first = λ h. absurd (omega arith) }
 
 module _ (t : Task) (val : ℕ → ℕ → ℕ) (a k e m b x : ℕ) (s : Tried t val a k e m b) (o : Offer t a k e (val k (e + 1)) x) where
   pub tried-keep : m ≤ x → Tried t val a k (e + 1) m b
@@ -28,7 +28,7 @@ module _ (t : Task) (val : ℕ → ℕ → ℕ) (a k e m b x : ℕ) (s : Tried t
   }
     where
       go : Offer t a k e (val k (e + 1)) x → x < 2 ^ 62 → Cand t a k e (val k (e + 1)) x
-      go (nothing q f) g = let z : ⊥ = omega arith in absurd z
+      go (nothing q f) g = absurd (omega arith)
       go (offered c) g = c
 
 pub tried-done : (t : Task) (val : ℕ → ℕ → ℕ) (a k e m b : ℕ) → Tried t val a k e m b → e ≡ t .n → Chose t val a k m b

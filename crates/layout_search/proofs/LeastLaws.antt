@@ -30,7 +30,7 @@ InOrder t a es ds = Layout t a ds → Layout t a es → length ds ≡ length es 
 -- of equal costs the earliest layout comes first
 earliest-first : (t : Task) (a : ℕ) (es ds : List ℕ) → Earliest t a es → InOrder t a es ds
 earliest-first t a [] ds x l m p q = tt
-earliest-first t a (e ∷ es) [] x l m p q = let z : ⊥ = omega (arith, p) in absurd z
+earliest-first t a (e ∷ es) [] x l m p q = absurd (omega (arith, p))
 earliest-first t a (e ∷ es) (d ∷ ds) x l m p q = decide-intro e d _ (go (earliest-first t (e + 1) es ds (x .1)) (decLt e d) (decLt d e))
   where
     same : length ds ≡ length es
@@ -46,7 +46,7 @@ earliest-first t a (e ∷ es) (d ∷ ds) x l m p q = decide-intro e d _ (go (ear
 
     go : InOrder t (e + 1) es ds → Dec (e < d) → Dec (d < e) → (e < d) ⊎ ((e ≡ d) × T (endsBefore es ds))
     go ih (yes h) k = inl h
-    go ih (no h) (yes k) = let g = x .0 d ds k l same in let z : ⊥ = omega (arith, q) in absurd z
+    go ih (no h) (yes k) = let g = x .0 d ds k l same in absurd (omega (arith, q))
     go ih (no h) (no k) = let r : e ≡ d = omega arith in inr (r, tail r ih)
 
 -- the table's numbers for up to `top` partitions, and b: the fewest partitions whose number is least
@@ -80,7 +80,7 @@ module _ (t : Task) (most top : ℕ) (val : ℕ → ℕ → ℕ) (b : ℕ) (w : 
       go : Dec (adds t 0 es + takes t 0 ds < adds t 0 ds + takes t 0 es) → Dec (b < length ds) → Dec (length ds < b) → Ahead t es ds
       go (yes h) g k = inl h
       go (no h) (yes g) k = inr (omega (arith, x, y, z), inl (omega arith))
-      go (no h) (no g) (yes k) = let v = w .early (length ds) k in let z : ⊥ = omega (arith, x, y) in absurd z
+      go (no h) (no g) (yes k) = let v = w .early (length ds) k in absurd (omega (arith, x, y))
       go (no h) (no g) (no k) =
           let e : length ds ≡ length es = omega arith in
           let f : adds t 0 es + takes t 0 ds ≡ adds t 0 ds + takes t 0 es = omega (arith, x, y, z) in
@@ -118,8 +118,8 @@ module _ (t : Task) (most top : ℕ) (val : ℕ → ℕ → ℕ) (b : ℕ) (w : 
         low = w .low (length z) (in-top z (l .allowed))
 
         cases : Ahead t z (hit .0) → Dec (length z < b) → length z ≡ b
-        cases (inl u) d = let x : ⊥ = omega (arith, hit .3, y, low) in absurd x
-        cases (inr u) (yes d) = let x : ⊥ = omega (arith, hit .3, y, w .early (length z) d, u .0) in absurd x
+        cases (inl u) d = absurd (omega (arith, hit .3, y, low))
+        cases (inr u) (yes d) = absurd (omega (arith, hit .3, y, w .early (length z) d, u .0))
         cases (inr (u, inl v)) (no d) = omega (arith, hit .2)
         cases (inr (u, inr v)) (no d) = omega (arith, hit .2, v .0)
 

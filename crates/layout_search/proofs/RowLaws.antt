@@ -83,7 +83,7 @@ pub record Filling (t : Task) (k a : ℕ) (old new : List ℕ) : Type 0 where
   pub here : (j : ℕ) → j < a → Best t j (k + 1) (getD new (k * t .n + j) 0)
 
 pub filling-start : (t : Task) (k : ℕ) (old : List ℕ) → Filling t k 0 old old
-filling-start t k old = record { count = omega arith; kept = record { long = refl; same = λ i h. refl }; here = λ j h. let z : ⊥ = omega arith in absurd z }
+filling-start t k old = record { count = omega arith; kept = record { long = refl; same = λ i h. refl }; here = λ j h. absurd (omega arith) }
 
 module _ (t : Task) (k a v : ℕ) (old new : List ℕ) (f : Filling t k a old new) (h : a < t .n) (room : (k + 1) * t .n ≤ length old) (b : Best t a (k + 1) v) where
   inside : k * t .n + a < length new
@@ -99,7 +99,7 @@ module _ (t : Task) (k a v : ℕ) (old new : List ℕ) (f : Filling t k a old ne
   pub filling-more : Filling t k (a + 1) old (set new (k * t .n + a) v)
   filling-more = record {
     count = omega arith;
-    kept = record { long = length-set new _ v ∙ f .kept .long; same = λ i g. getD-set-other new (k * t .n + a) i v 0 (λ q. let z : ⊥ = omega arith in absurd z) ∙ f .kept .same i g };
+    kept = record { long = length-set new _ v ∙ f .kept .long; same = λ i g. getD-set-other new (k * t .n + a) i v 0 (λ q. absurd (omega arith)) ∙ f .kept .same i g };
     here = here-more;
   }
 
@@ -123,7 +123,7 @@ rows-more t k old new r s w j h = go (ℕ-discrete j (k + 1))
 -- the least of the first column, fewest partitions first
 
 pub lowest-start : (val : ℕ → ℕ) (m : ℕ) → m ≡ val 0 → Lowest val 0 0 m
-lowest-start val m h = record { is = sym h; inside = omega arith; low = λ i g. let z : ⊥ = omega arith in absurd z; early = λ i g. let z : ⊥ = omega arith in absurd z }
+lowest-start val m h = record { is = sym h; inside = omega arith; low = λ i g. absurd (omega arith); early = λ i g. absurd (omega arith) }
 
 module _ (val : ℕ → ℕ) (j b m x : ℕ) (l : Lowest val j b m) (h : x ≡ val j) where
   low-more : (y : ℕ) → y ≤ m → y ≤ x → (i : ℕ) → i < j + 1 → y ≤ val i
@@ -187,7 +187,7 @@ last t a m b h = go (b .hit h .0) (b .hit h .1) (b .hit h .2) (b .hit h .3)
   where
     go : (es : List ℕ) → Layout t a es → length es ≡ 0 → m + takes t a es ≡ 2 ^ 60 + adds t a es → (a ≡ t .n) × (m ≡ 2 ^ 60)
     go [] l p q = (l, omega arith)
-    go (e ∷ es) l p q = let z : ⊥ = omega arith in absurd z
+    go (e ∷ es) l p q = absurd (omega arith)
 
 pub walked-done : (t : Task) (table : List ℕ) (k i a : ℕ) (old out : List ℕ) → Walked t table k i a old out → k ≤ i → k ≤ length old → Written t table k old out
 walked-done t table k i a old out w h room =

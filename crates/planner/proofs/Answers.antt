@@ -47,7 +47,7 @@ module _ (p : PriceCard) (l : Limits) (s : Set) where
     where
       go : (xs : List (List ℕ)) → List·Memᴰ es xs → not (eqb (length xs) 0) ≡ true
       go [] m = absurd (List·Memᴰ·not-nil m)
-      go (x ∷ xs) m = ap (λ (b : Bool). not b) (ne-eqb (suc (length xs)) 0 (λ e. let z : ⊥ = omega arith in absurd z))
+      go (x ∷ xs) m = ap (λ (b : Bool). not b) (ne-eqb (suc (length xs)) 0 (λ e. absurd (omega arith)))
 
 -- the last two checks
 last-two : (a b : Bool) (n : ℕ) → cond a (cond b 0 15) 11 ≡ n → firstFailed (ask 11 a ∷ ask 15 b ∷ []) ≡ n

@@ -146,7 +146,7 @@ module _ (p : PriceCard) (l : Limits) where
 -- the flags, one after the other
 module _ (block used : ℕ) (growers : List ℕ) where
   pub marked-start : (old : List Bool) → Marked block used growers 0 old old
-  marked-start old = record { long = refl; here = λ x g. let z : ⊥ = omega arith in absurd z }
+  marked-start old = record { long = refl; here = λ x g. absurd (omega arith) }
 
   pub marked-more : (i : ℕ) (v : Bool) (old fits : List Bool) → Marked block used growers i old fits → i < length old
       → v ≡ separatesNone (setOf block used growers [] []) i → Marked block used growers (i + 1) old (set fits i v)

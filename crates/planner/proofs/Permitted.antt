@@ -57,7 +57,7 @@ module _ (L : ℕ) (p : PriceCard) (l : Limits) (s : Set) (hs old terms : List �
       (and-mk (separatesNone s e) (every (separatesNone s) es) (subst T (marks e (l .1)) (b .1)) (r .0), and-mk (short (e + 1 - a)) (every short (blockCounts (e + 1) es)) (b .0) (r .1))
 
   not-empty : (es : List ℕ) → Layout task 0 es → 1 ≤ length es
-  not-empty [] l = let z : ⊥ = omega (arith, l, some) in absurd z
+  not-empty [] l = absurd (omega (arith, l, some))
   not-empty (e ∷ es) l = omega arith
 
   layout-cuts : (es : List ℕ) → Layout task 0 es → Cut 0 es (blocks s)

@@ -1,4 +1,4 @@
--- `block_costs::count` meets its contract. Assumes nothing.
+-- `block_costs::count` meets its contract: the slot is the entry's, and check 9 bounds what it holds. Assumes nothing.
 use Prim.Native.Nat.{ℕ}
 use mathlib.Core.Path.{ap, _∙_}
 use native.Mathlib.Omega.{arith}

@@ -1,4 +1,4 @@
--- `block_costs::fixed` meets its contract. Assumes nothing.
+-- `block_costs::fixed` meets its contract: four products of a price and the counts of two histograms, each small; `four-products` adds them up. Assumes nothing.
 use native.Mathlib.Omega.{arith}
 use Rattle.model.specs.Histograms.{slot, position}
 use Rattle.block_costs.specs.Terms.{fixedOf}

@@ -1,4 +1,4 @@
--- `block_costs::load` meets its contract. Assumes nothing.
+-- `block_costs::load` meets its contract. The loop's invariant (`Loaded`): the places before `y` hold their terms, and the slice is as long as it was. Assumes nothing.
 use Prim.Native.Nat.{_≤_, _*_, _-_}
 use mathlib.Core.Path.{_≡_}
 use native.Mathlib.Omega.{arith}

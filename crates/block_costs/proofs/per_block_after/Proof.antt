@@ -1,4 +1,4 @@
--- `block_costs::per_block_after` meets its contract. Assumes nothing.
+-- `block_costs::per_block_after` meets its contract: one product of a price and the sum of five counts, none of which wraps; `product-is` takes the sum to the definition's. Assumes nothing.
 use native.Mathlib.Omega.{arith}
 use Rattle.model.specs.Histograms.{slot, position}
 use Rattle.block_costs.specs.Terms.{perBlockAfterOf}

@@ -1,4 +1,4 @@
--- `block_costs::per_partition_added` meets its contract. Assumes nothing.
+-- `block_costs::per_partition_added` meets its contract: one product of a price and the sum of four counts, none of which wraps; `product-is` takes the sum to the definition's. Assumes nothing.
 use native.Mathlib.Omega.{arith}
 use Rattle.model.specs.Histograms.{slot, position}
 use Rattle.block_costs.specs.Terms.{perPartitionAddedOf}

@@ -1,4 +1,4 @@
--- `block_costs::product` meets its contract. Assumes nothing.
+-- `block_costs::product` meets its contract: the bounds' product bounds the product. Assumes nothing.
 use Prim.Native.Nat.{ℕ, _*_}
 use mathlib.Core.Path.{ap}
 use native.Mathlib.Omega.{arith}

@@ -1,4 +1,4 @@
--- `layout_search::best_of` meets its contract. Assumes nothing.
+-- `layout_search::best_of` meets its contract. The loop's invariant (`Tried`): `m` is the least number offered by the ends before `e`, and `first` the first end that offers it. Assumes nothing.
 use native.Mathlib.Omega.{arith}
 use Prim.Native.Nat.{_-_, _≤_}
 use Rattle.layout_search.specs.Table.{valOf}

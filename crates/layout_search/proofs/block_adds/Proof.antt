@@ -1,4 +1,4 @@
--- `layout_search::block_adds` meets its contract. Assumes nothing.
+-- `layout_search::block_adds` meets its contract: three products and a sum of terms that `Holds` keeps small, so that nothing wraps. Assumes nothing.
 use Prim.Native.Nat.{ℕ, _+_, _^_, _≤_}
 use mathlib.Core.Path.{ap, ap₂}
 use native.Mathlib.Omega.{arith}

@@ -1,4 +1,4 @@
--- `layout_search::block_takes` meets its contract. Assumes nothing.
+-- `layout_search::block_takes` meets its contract: one product of a term that `Holds` keeps small. Assumes nothing.
 use native.Mathlib.Omega.{arith}
 use borrow.Author.Needs.{needs}
 use Rattle.layout_search.specs.Terms.{takesOf}

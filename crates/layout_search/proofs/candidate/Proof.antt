@@ -1,4 +1,5 @@
--- `layout_search::candidate` meets its contract. Assumes nothing.
+-- `layout_search::candidate` meets its contract. An end that may not stand, or a rest without a layout, offers none; otherwise the rest's number and the price, which stay near
+-- the base, add up to the offer. Assumes nothing.
 use native.Mathlib.Omega.{arith}
 use mathlib.Core.Path.{refl, sym, _∙_}
 use Prim.Native.Nat.{_+_}

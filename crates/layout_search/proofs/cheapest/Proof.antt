@@ -1,4 +1,5 @@
--- `layout_search::cheapest` meets its contract. Assumes nothing.
+-- `layout_search::cheapest` meets its contract. The filled table and the fewest partitions settle which layout is least (`Settled`); the three answers follow: none, no room for
+-- its ends, or the ends that `write_ends` leaves and the number's cost. Assumes nothing.
 use Prim.Native.Nat.{ℕ, _^_}
 use mathlib.Core.Path.{refl, ap, _∙_}
 use mathlib.Core.List.{List}

@@ -1,4 +1,4 @@
--- `layout_search::fill` meets its contract. Assumes nothing.
+-- `layout_search::fill` meets its contract. The loop's invariant: rows up to `k` are right (`Rows`), since `fill_row` makes the next by the last and keeps those before. Assumes nothing.
 use native.Mathlib.Omega.{arith}
 use mathlib.Core.Path.{_≡_, refl, _∙_}
 use Prim.Native.Nat.{_+_, _-_, _≤_}

@@ -1,6 +1,7 @@
--- `layout_search::fill_row` meets its contract. Assumes nothing.
+-- `layout_search::fill_row` meets its contract. The loop's invariant (`Filling`): the row's numbers before `a` are the best by the row before, which the stores leave as it was. Assumes nothing.
 use native.Mathlib.Omega.{arith}
-use Prim.Native.Nat.{_+_, _-_}
+use Prim.Native.Nat.{_+_, _-_, _<_}
+use lib.ListN.{length}
 use Rattle.layout_search.proofs.RowLaws.{Filling, filling-start, filling-more, filling-done, row-kept, row-place, rows-below}
 use Rattle.layout_search.specs.Terms.{taskOf}
 use Rattle.layout_search.proofs.fill_row.Statement.{statement}
@@ -12,17 +13,24 @@ Inv-loop terms fits longest n table₀ k a₀ table a = Filling (taskOf terms fi
 abbrev μ-loop : tie.MeasureT-loop
 μ-loop terms fits longest n table₀ k a₀ table a = n - a
 
+-- the place in the table
+inside : (c : tie.After-index Inv-loop μ-loop) → c .index .result < length (c .before .before .before .before .loop .table)
+inside c =
+    let a = c .before .before .before .before .before .before .before .before .args in
+    let loop = c .before .before .before .before .loop in
+    omega (arith, row-place (a .n) (a .k) (loop .a) (omega arith), loop .inv .kept .long, c .index .ensures)
+
 loop-holds : tie.Need-loop-holds Inv-loop μ-loop
 loop-holds c = filling-start _ _ _
 
 best-of-requires : tie.Need-best-of-requires Inv-loop μ-loop
 best-of-requires c κs =
-    let a = c .before .before .before .before .before .before .args in
     let s = c .before .before .before .before .before .before in
+    let a = s .args in
     let l = c .before .before .loop in (
       s .pre .0,
       (
-        omega (arith, rows-below (s .args .n) (s .args .k) (s .args .k + 1) (omega arith), l .inv .kept .long),
+        omega (arith, rows-below (a .n) (a .k) (a .k + 1) (omega arith), l .inv .kept .long),
         row-kept (taskOf (a .terms .now) (a .fits .now) (a .longest) (a .n)) _ _ _ _ (l .inv .kept) (omega arith) (s .pre .1 .1),
       ),
     )
@@ -31,16 +39,10 @@ index-requires : tie.Need-index-requires Inv-loop μ-loop
 index-requires c κs = omega arith
 
 mul-table : tie.Need-mul-table Inv-loop μ-loop
-mul-table c =
-    let a = c .before .before .before .before .before .before .before .before .args in
-    let loop = c .before .before .before .before .loop in
-    omega (arith, row-place (a .n) (a .k) (loop .a) (omega arith), loop .inv .kept .long, c .index .ensures)
+mul-table c = omega (arith, inside c)
 
 slice-write-table : tie.Need-slice-write-table Inv-loop μ-loop
-slice-write-table c =
-    let a = c .before .before .before .before .before .before .before .before .args in
-    let loop = c .before .before .before .before .loop in
-    omega (arith, row-place (a .n) (a .k) (loop .a) (omega arith), loop .inv .kept .long, c .index .ensures)
+slice-write-table c = omega (arith, inside c)
 
 add-a : tie.Need-add-a Inv-loop μ-loop
 add-a c = omega arith

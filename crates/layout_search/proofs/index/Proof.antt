@@ -1,4 +1,4 @@
--- `layout_search::index` meets its contract. Assumes nothing.
+-- `layout_search::index` meets its contract: a row number and a column number in their bounds give a place that fits. Assumes nothing.
 use Prim.Native.Nat.{_*_, _≤_}
 use native.Mathlib.Omega.{arith}
 use native.Mathlib.Nat.{mul-le-mul}
@@ -7,15 +7,14 @@ use Rattle.layout_search.specs.Task.{searchLimit}
 use Rattle.layout_search.proofs.index.Statement.{statement}
 use Rattle.layout_search.proofs.index.Tie as tie
 
+few : (s : tie.Start) → s .args .k * s .args .n ≤ searchLimit * searchLimit
+few s = mul-le-mul {n₂ = searchLimit} {m₂ = searchLimit} (omega arith) (omega arith)
+
 mul-result : tie.Need-mul-result
-mul-result c =
-    let x : c .args .k * c .args .n ≤ searchLimit * searchLimit = mul-le-mul {n₂ = searchLimit} {m₂ = searchLimit} (omega arith) (omega arith) in
-    omega arith
+mul-result c = omega (arith, few c)
 
 add-result : tie.Need-add-result
-add-result c =
-    let x : c .args .k * c .args .n ≤ searchLimit * searchLimit = mul-le-mul {n₂ = searchLimit} {m₂ = searchLimit} (omega arith) (omega arith) in
-    omega arith
+add-result c = omega (arith, few c)
 
 returns : tie.Need-returns
 returns c = search needs

@@ -1,4 +1,4 @@
--- `layout_search::layout_number` meets its contract. Assumes nothing.
+-- `layout_search::layout_number` meets its contract. The loop's invariant (`Costing`): `s` is the base and the prices of the partitions before `p`, and stays near the base. Assumes nothing.
 use Prim.Native.Nat.{_-_}
 use native.Mathlib.Omega.{arith}
 use lib.ListN.{length}

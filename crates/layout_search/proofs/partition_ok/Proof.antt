@@ -1,4 +1,4 @@
--- `layout_search::partition_ok` meets its contract. Assumes nothing.
+-- `layout_search::partition_ok` meets its contract: the two tests of `partitionOk`, its length first. Assumes nothing.
 use lib.ListN.{getD}
 use mathlib.Core.Bool.{false}
 use native.Mathlib.Omega.{arith}

@@ -1,4 +1,4 @@
--- `layout_search::price` meets its contract. Assumes nothing.
+-- `layout_search::price` meets its contract. The loop's invariant (`Run`): `s` is the base and what the blocks before `i` add, less what they take; each is small, so nothing wraps. Assumes nothing.
 use Prim.Native.Nat.{_+_, _-_, _^_}
 use native.Mathlib.Omega.{arith}
 use Rattle.layout_search.proofs.SumLaws.{Run, run-start, run-more, run-done}

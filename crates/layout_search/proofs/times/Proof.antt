@@ -1,4 +1,4 @@
--- `layout_search::times` meets its contract. Assumes nothing.
+-- `layout_search::times` meets its contract: the bounds' product bounds the product. Assumes nothing.
 use mathlib.Core.Path.{refl}
 use Prim.Native.Nat.{_*_, _^_, _≤_}
 use native.Mathlib.Omega.{arith}
@@ -7,15 +7,14 @@ use Rattle.layout_search.specs.Task.{searchLimit}
 use Rattle.layout_search.proofs.times.Statement.{statement}
 use Rattle.layout_search.proofs.times.Tie as tie
 
+few : (s : tie.Start) → s .args .x * s .args .y ≤ 2 ^ 33 * searchLimit
+few s = mul-le-mul {n₂ = 2 ^ 33} {m₂ = searchLimit} (omega arith) (omega arith)
+
 mul-result : tie.Need-mul-result
-mul-result c =
-    let x : c .args .x * c .args .y ≤ 2 ^ 33 * searchLimit = mul-le-mul {n₂ = 2 ^ 33} {m₂ = searchLimit} (omega arith) (omega arith) in
-    omega arith
+mul-result c = omega (arith, few c)
 
 returns : tie.Need-returns
-returns c =
-    let x : c .args .x * c .args .y ≤ 2 ^ 33 * searchLimit = mul-le-mul {n₂ = 2 ^ 33} {m₂ = searchLimit} (omega arith) (omega arith) in
-    (refl, omega arith)
+returns c = (refl, omega (arith, few c))
 
 pub times-spec : {M : Type 1} → statement M
 times-spec = tie.close (tie.spec mul-result returns)

@@ -1,4 +1,4 @@
--- `layout_search::unbiased` meets its contract. Assumes nothing.
+-- `layout_search::unbiased` meets its contract: a number below 2 ^ 62 less the base fits, and is the difference. Assumes nothing.
 use borrow.Author.Needs.{needs}
 use Rattle.layout_search.proofs.Bias.{unbiased-fits, unbiased-is}
 use Rattle.layout_search.proofs.unbiased.Statement.{statement}

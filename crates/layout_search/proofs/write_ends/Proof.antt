@@ -1,6 +1,7 @@
--- `layout_search::write_ends` meets its contract. Assumes nothing.
+-- `layout_search::write_ends` meets its contract. The loop's invariant (`Walked`): the first `i` ends are those of the first least layout, and the table's number for the rest is
+-- theirs; the best first end of the rest is the next. Assumes nothing.
 use native.Mathlib.Omega.{arith}
-use Prim.Native.Nat.{_-_}
+use Prim.Native.Nat.{_-_, _<_}
 use Rattle.layout_search.proofs.RowLaws.{Walked, walked-start, walked-first, walked-more, walked-done, rows-below}
 use Rattle.layout_search.specs.Terms.{taskOf}
 use Rattle.layout_search.proofs.write_ends.Statement.{statement}
@@ -11,6 +12,12 @@ Inv-loop terms fits longest n table k out₀ a₀ i₀ out a i = Walked (taskOf 
 
 abbrev μ-loop : tie.MeasureT-loop
 μ-loop terms fits longest n table k out₀ a₀ i₀ out a i = k - i
+
+-- the next end is one of the blocks
+below : (c : tie.After-best-of Inv-loop μ-loop) → c .best-of .result .first < c .before .before .before .before .before .before .before .args .n
+below c =
+    let given = c .before .before .before .before .before .before .before .pre in
+    walked-first _ _ _ _ _ _ _ _ _ (c .before .before .loop .inv) (c .before .loop-test .taken) (given .1 .1 .0) (c .best-of .ensures) .cand .inside
 
 loop-holds : tie.Need-loop-holds Inv-loop μ-loop
 loop-holds c = walked-start _ _ _ _ (c .before .before .before .before .pre .1 .1 .1)
@@ -33,12 +40,7 @@ best-of-requires c κs =
     )
 
 cast-out : tie.Need-cast-out Inv-loop μ-loop
-cast-out c =
-    let given = c .before .before .before .before .before .before .before .before .pre in
-    let loop = c .before .before .before .loop in
-    let loop-test = c .before .before .loop-test in
-    omega
-    (arith, (walked-first _ _ _ _ _ _ _ _ _ (loop .inv) (loop-test .taken) (given .1 .1 .0) (c .before .best-of .ensures)) .cand .inside)
+cast-out c = omega (arith, below (c .before))
 
 mul-out : tie.Need-mul-out Inv-loop μ-loop
 mul-out c = omega arith
@@ -47,13 +49,7 @@ slice-write-out : tie.Need-slice-write-out Inv-loop μ-loop
 slice-write-out c = omega arith
 
 add-a : tie.Need-add-a Inv-loop μ-loop
-add-a c =
-    let given = c .before .before .before .before .before .before .before .before .before .pre in
-    let loop = c .before .before .before .before .loop in
-    let loop-test = c .before .before .before .loop-test in
-    let best-of = c .before .before .best-of in
-    omega
-    (arith, (walked-first _ _ _ _ _ _ _ _ _ (loop .inv) (loop-test .taken) (given .1 .1 .0) (best-of .ensures)) .cand .inside)
+add-a c = omega (arith, below (c .before .before))
 
 add-i : tie.Need-add-i Inv-loop μ-loop
 add-i c = omega arith
@@ -63,12 +59,11 @@ loop-less c = omega arith
 
 loop-again : tie.Need-loop-again Inv-loop μ-loop
 loop-again c =
-    let given = c .before .before .before .before .before .before .before .before .before .pre in
-    let loop = c .before .before .before .before .loop in
-    let loop-test = c .before .before .before .loop-test in
-    let best-of = c .before .before .best-of in
-    walked-more _ _ _ _ _ _ _ _ (loop .inv) (omega arith) (omega arith)
-    (walked-first _ _ _ _ _ _ _ _ _ (loop .inv) (loop-test .taken) (given .1 .1 .0) (best-of .ensures))
+    let b = c .before .before in
+    let v = b .before .before .loop .inv in
+    let given = b .before .before .before .before .before .before .before .pre in
+    walked-more _ _ _ _ _ _ _ _ v (omega arith) (omega arith)
+    (walked-first _ _ _ _ _ _ _ _ _ v (b .before .loop-test .taken) (given .1 .1 .0) (b .best-of .ensures))
 
 same-length : tie.Need-same-length Inv-loop μ-loop
 same-length c = c .before .loop .inv .long
