@@ -4,14 +4,13 @@ use mathlib.Core.List.{List}
 use Prim.Native.Nat.{ℕ, _+_, _*_, _/_, _%_, _^_, _≤_, _<_}
 use native.Mathlib.Omega.{arith}
 use native.Mathlib.Nat.{mul-le-mul}
-use native.Mathlib.Decide.{ℕ-discrete}
 use lib.ListN.{length, getD, set, length-set}
-use lib.Seq.{getD-set-same, getD-set-other}
 use Rattle.model.specs.declared.PriceCard.{PriceCard}
 use Rattle.model.specs.Histograms.{Histogram, pq, rs, re, sc, de, ins, udf, utf, udb, utb, at, count, slot}
 use Rattle.model.specs.Bounds.{mostCount, mostPrice}
 use Rattle.layout_search.specs.Task.{searchLimit}
 use Rattle.layout_search.specs.Terms.{termsPerBlock, Holds}
+use Rattle.layout_search.proofs.RowLaws.{stored-more}
 use Rattle.block_costs.specs.Terms.{fixedOf, perBlockBeforeOf, perBlockAfterOf, perPartitionAddedOf, perPartitionSavedOf, pick, termAt, PricesPass, Counted, Loaded}
 
 -- term j of block i
@@ -74,11 +73,7 @@ loaded-start L c hs old = record { long = refl; here = λ x g. absurd (omega ari
 
 pub loaded-more : (L : ℕ) (c : PriceCard) (hs : List ℕ) (y v : ℕ) (old terms : List ℕ) → Loaded L c hs y old terms → y < length old
     → v ≡ termAt L c hs y → Loaded L c hs (y + 1) old (set terms y v)
-loaded-more L c hs y v old terms l g e = record { long = length-set terms y v ∙ l .long; here = λ x k. go x k (ℕ-discrete x y) }
-  where
-    go : (x : ℕ) → x < y + 1 → Dec (x ≡ y) → getD (set terms y v) x 0 ≡ termAt L c hs x
-    go x k (yes d) = rw d (getD-set-same terms y v 0 (omega (arith, l .long)) ∙ e)
-    go x k (no d) = getD-set-other terms y x v 0 d ∙ l .here x (omega arith)
+loaded-more L c hs y v old terms l g e = record { long = length-set terms y v ∙ l .long; here = stored-more _ 0 v y terms (omega (arith, l .long)) e (l .here) }
 
 -- what was loaded
 module _ (L : ℕ) (c : PriceCard) (hs : List ℕ) (n : ℕ) (old terms : List ℕ) (l : Loaded L c hs (n * termsPerBlock) old terms) (i : ℕ) (g : i < n) where

@@ -16,6 +16,15 @@ use Rattle.layout_search.specs.Table.{Best, First, Chose, Chosen, valOf,
 use Rattle.layout_search.proofs.BestLaws.{best-end, best-none, best-past}
 use Rattle.layout_search.proofs.FirstLaws.{chose-first}
 
+-- one place more of a list that a loop fills
+pub stored-more : {A : Type 0} (f : ℕ → A) (d v : A) (i : ℕ) (l : List A) → i < length l → v ≡ f i → ((x : ℕ) → x < i → getD l x d ≡ f x)
+    → (x : ℕ) → x < i + 1 → getD (set l i v) x d ≡ f x
+stored-more f d v i l h e b x k = go (ℕ-discrete x i)
+  where
+    go : Dec (x ≡ i) → getD (set l i v) x d ≡ f x
+    go (yes q) = rw q (getD-set-same l i v d h ∙ e)
+    go (no q) = getD-set-other l i x v d q ∙ b x (omega arith)
+
 neq : (x y : ℕ) → eqb x y ≡ false → x ≡ y → ⊥
 neq x y e h = subst T (ap (eqb x) h ∙ e) (eqb-refl x)
 

@@ -4,11 +4,9 @@ use mathlib.Core.Path.{_≡_, refl, ap, _∙_}
 use mathlib.Core.Bool.{Bool, true, false, not, _&&_}
 use mathlib.Core.List.{List, [], _∷_, _++_}
 use native.Mathlib.Omega.{arith}
-use native.Mathlib.Decide.{ℕ-discrete}
 use borrow.Author.Tests.{lt-leb, le-leb}
 use lib.Dec.{T, leb, eqb, leb→le}
 use lib.ListN.{length, getD, set, length-set}
-use lib.Seq.{getD-set-same, getD-set-other}
 use Rattle.model.specs.declared.PriceCard.{PriceCard}
 use Rattle.model.specs.declared.Limits.{Limits}
 use Rattle.model.specs.Bounds.{mostCount, mostPrice}
@@ -26,6 +24,7 @@ use Rattle.checks.proofs.Answers.{failed-first}
 use Rattle.histograms.proofs.Counts.{counts-long}
 use Rattle.sets.specs.Sized.{Sized, setRefusalOf, countedChecks}
 use Rattle.sets.proofs.Sets.{whole, numbered, passed-first, set-first, blocks-least, blocks-most}
+use Rattle.layout_search.proofs.RowLaws.{stored-more}
 use Rattle.block_costs.specs.Terms.{PricesPass, Counted}
 use Rattle.planner.specs.Given.{givenChecks, Marked}
 
@@ -150,8 +149,4 @@ module _ (block used : ℕ) (growers : List ℕ) where
 
   pub marked-more : (i : ℕ) (v : Bool) (old fits : List Bool) → Marked block used growers i old fits → i < length old
       → v ≡ separatesNone (setOf block used growers [] []) i → Marked block used growers (i + 1) old (set fits i v)
-  marked-more i v old fits l g e = record { long = length-set fits i v ∙ l .long; here = λ x k. go x k (ℕ-discrete x i) }
-    where
-      go : (x : ℕ) → x < i + 1 → Dec (x ≡ i) → getD (set fits i v) x false ≡ separatesNone (setOf block used growers [] []) x
-      go x k (yes d) = rw d (getD-set-same fits i v false (omega (arith, l .long)) ∙ e)
-      go x k (no d) = getD-set-other fits i x v false d ∙ l .here x (omega arith)
+  marked-more i v old fits l g e = record { long = length-set fits i v ∙ l .long; here = stored-more _ false v i fits (omega (arith, l .long)) e (l .here) }

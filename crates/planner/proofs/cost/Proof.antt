@@ -1,4 +1,4 @@
--- `planner::cost` meets its contract. Assumes nothing.
+-- `planner::cost` meets its contract. Past the checks, the layout covers the blocks whose terms `load` leaves, and `cost-answered` takes its number to its cost. Assumes nothing.
 use Prim.Native.Nat.{_≤_}
 use mathlib.Core.Path.{_≡_, sym, _∙_}
 use native.Mathlib.Omega.{arith}

@@ -1,13 +1,11 @@
--- `planner::cost_refusal` meets its contract: each test that is passed leaves the rest of the list to answer. Assumes nothing.
-use Prim.Native.Nat.{ℕ}
-use mathlib.Core.Path.{_≡_, sym, _∙_}
-use mathlib.Core.List.{List, [], _∷_, _++_}
+-- `planner::cost_refusal` meets its contract: past check 1, `layout_refusal` decides 2 to 8, and past them 9 is left to answer. Assumes nothing.
+use mathlib.Core.Path.{_≡_, refl, sym, _∙_}
+use mathlib.Core.List.{List, [], _∷_}
 use borrow.Author.Needs.{needs}
 use borrow.Author.Tests.{not-true, not-false}
+use lib.ListN.{drop}
 use Rattle.model.specs.Bounds.{blockLimit}
 use Rattle.model.specs.Checks.{Check, ask, firstFailed}
-use Rattle.model.specs.Prices.{pricesOk}
-use Rattle.model.specs.Blocks.{Set}
 use Rattle.model.specs.Questions.{applyChecks, costChecks}
 use Rattle.model.specs.Lent.{setOf}
 use Rattle.checks.proofs.Answers.{fails, passes, none-failed, failed-first}
@@ -15,28 +13,24 @@ use Rattle.planner.proofs.Given.{apply-passed}
 use Rattle.planner.proofs.cost_refusal.Statement.{statement}
 use Rattle.planner.proofs.cost_refusal.Tie as tie
 
-abbrev the-set : tie.Start → Set
-the-set c = let a = c .args in setOf (a .block) (a .used) (a .growers .now) (a .weights .now) (a .yields .now)
+abbrev checks : tie.Else1 → List Check
+checks c =
+    let a = c .before .before .before .before .before .before .before .args in
+    costChecks blockLimit (a .card) (setOf (a .block) (a .used) (a .growers .now) (a .weights .now) (a .yields .now)) (a .ends .now) (a .histograms .now)
 
-abbrev at-start : tie.Else1 → tie.Start
-at-start c = c .before .before .before .before .before .before .before
+past-prices : (c : tie.Else1) → firstFailed (drop 1 (checks c)) ≡ firstFailed (checks c)
+unfolding costChecks
+past-prices c = passes 1 _ _ _ (sym (c .before .prices-ok .ensures) ∙ not-false _ (c .if1 .left)) refl
 
--- past 1
-past-prices : (c : tie.Else1) (n : ℕ) (cs : List Check) → n ≡ firstFailed cs → n ≡ firstFailed (ask 1 (pricesOk (at-start c .args .card)) ∷ cs)
-past-prices c n cs e = passes 1 n _ cs (sym (c .before .prices-ok .ensures) ∙ not-false _ (c .if1 .left)) e
-
--- past 8
-past-layout : (c : tie.Else2) (n : ℕ) (cs : List Check) → n ≡ firstFailed cs
-    → (let s = at-start (c .before .before) in n ≡ firstFailed (ask 1 (pricesOk (s .args .card)) ∷ applyChecks blockLimit (the-set s) (s .args .ends .now) ++ cs))
-past-layout c n cs e =
-    let s = at-start (c .before .before) in
-    past-prices (c .before .before) n _ (e ∙ sym (apply-passed blockLimit (the-set s) (s .args .ends .now) cs (sym (c .before .layout-refusal .ensures) ∙ c .if2 .left)))
+past-layout : (c : tie.Else2) → (let cs = checks (c .before .before) in firstFailed (drop 7 cs) ≡ firstFailed cs)
+unfolding applyChecks costChecks
+past-layout c = sym (apply-passed blockLimit _ _ _ (sym (c .before .layout-refusal .ensures) ∙ c .if2 .left)) ∙ past-prices (c .before .before)
 
 prices-ok-requires : tie.Need-prices-ok-requires
 prices-ok-requires c κs = search needs
 
 returns : tie.Need-returns
-unfolding applyChecks costChecks
+unfolding costChecks
 returns c = fails 1 _ _ (sym (c .before .prices-ok .ensures) ∙ not-true _ (c .if1 .taken))
 
 layout-refusal-requires : tie.Need-layout-refusal-requires
@@ -46,18 +40,18 @@ returns-2 : tie.Need-returns-2
 unfolding applyChecks costChecks
 returns-2 c =
     let e = c .before .layout-refusal .ensures in
-    past-prices (c .before .before) _ _ (e ∙ failed-first _ (ask 9 _ ∷ []) (λ z. c .if2 .taken (e ∙ z)))
+    e ∙ failed-first _ (ask 9 _ ∷ []) (λ z. c .if2 .taken (e ∙ z)) ∙ past-prices (c .before .before)
 
 counts-ok-requires : tie.Need-counts-ok-requires
 counts-ok-requires c κs = search needs
 
 returns-3 : tie.Need-returns-3
-unfolding applyChecks costChecks
-returns-3 c = past-layout (c .before .before) 9 _ (fails 9 _ _ (sym (c .before .counts-ok .ensures) ∙ not-true _ (c .if3 .taken)))
+unfolding costChecks
+returns-3 c = fails 9 _ _ (sym (c .before .counts-ok .ensures) ∙ not-true _ (c .if3 .taken)) ∙ past-layout (c .before .before)
 
 returns-4 : tie.Need-returns-4
-unfolding applyChecks costChecks
-returns-4 c = past-layout (c .before .before) 0 _ (passes 9 0 _ _ (sym (c .before .counts-ok .ensures) ∙ not-false _ (c .if3 .left)) none-failed)
+unfolding costChecks
+returns-4 c = passes 9 0 _ _ (sym (c .before .counts-ok .ensures) ∙ not-false _ (c .if3 .left)) none-failed ∙ past-layout (c .before .before)
 
 pub cost-refusal-spec : {M : Type 1} → statement M
 cost-refusal-spec =

@@ -1,4 +1,4 @@
--- `planner::given_ok` meets its contract. Assumes nothing.
+-- `planner::given_ok` meets its contract: the prices are tested first, and then the limits. Assumes nothing.
 use mathlib.Core.Path.{sym, _∙_}
 use borrow.Author.Tests.{not-true, not-false}
 use Rattle.checks.proofs.Answers.{and-no, and-yes}

@@ -1,4 +1,4 @@
--- `planner::limits_ok` meets its contract. Assumes nothing.
+-- `planner::limits_ok` meets its contract: the read limit is tested first, and then the insert limit. Assumes nothing.
 use borrow.Author.Tests.{lt-leb, le-leb}
 use Rattle.model.specs.Prices.{limitsOk}
 use Rattle.checks.proofs.Answers.{and-no, and-yes}

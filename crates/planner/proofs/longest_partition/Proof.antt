@@ -1,4 +1,4 @@
--- `planner::longest_partition` meets its contract. Assumes nothing.
+-- `planner::longest_partition` meets its contract: the quotient of what the read limit leaves, or 0 where it leaves nothing. Assumes nothing.
 use Prim.Native.Nat.{_-_}
 use native.Mathlib.Omega.{arith}
 use native.Mathlib.Nat.{div-le-self}
@@ -16,13 +16,10 @@ cast-result c =
     omega (arith, div-le-self (a .limits .read - a .card .rr) (a .card .sr))
 
 returns : tie.Need-returns
-returns c =
-    let a = c .before .before .before .before .before .before .args in
-    let if1 = c .before .before .before .if1 in
-    longest-some (a .card) (a .limits) (if1 .taken)
+returns c = longest-some _ _ (c .before .before .before .if1 .taken)
 
 returns-2 : tie.Need-returns-2
-returns-2 c = longest-none (c .before .before .before .args .card) (c .before .before .before .args .limits) (omega arith)
+returns-2 c = let a = c .before .before .before .args in longest-none (a .card) (a .limits) (omega arith)
 
 pub longest-partition-spec : {M : Type 1} → statement M
 longest-partition-spec = tie.close (tie.spec div-result cast-result returns returns-2)

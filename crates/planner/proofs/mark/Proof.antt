@@ -1,4 +1,4 @@
--- `planner::mark` meets its contract. Assumes nothing.
+-- `planner::mark` meets its contract. The loop's invariant (`Marked`): the flags before `i` say where an end may stand, and the slice is as long as it was. Assumes nothing.
 use Prim.Native.Nat.{_≤_, _-_}
 use mathlib.Core.Path.{_≡_}
 use mathlib.Core.List.{[]}

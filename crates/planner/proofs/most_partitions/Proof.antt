@@ -1,4 +1,4 @@
--- `planner::most_partitions` meets its contract. Assumes nothing.
+-- `planner::most_partitions` meets its contract: the quotient less one, and 0 stays 0. Assumes nothing.
 use Prim.Native.Nat.{_+_}
 use native.Mathlib.Omega.{arith}
 use native.Mathlib.Nat.{div-le-self}

@@ -1,4 +1,4 @@
--- `planner::plan` meets its contract. Assumes nothing.
+-- `planner::plan` meets its contract. Past the checks, what `load` and `mark` leave is the search's task, and `answered-plan` takes the search's answer to the model's. Assumes nothing.
 use Prim.Native.Nat.{_*_, _≤_}
 use mathlib.Core.Path.{_≡_, sym, _∙_}
 use native.Mathlib.Omega.{arith}

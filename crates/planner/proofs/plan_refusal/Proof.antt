@@ -1,4 +1,4 @@
--- `planner::plan_refusal` meets its contract. Assumes nothing.
+-- `planner::plan_refusal` meets its contract: past check 1 the others are those of `counted_refusal`, which here asks nothing of an order or an offer. Assumes nothing.
 use mathlib.Core.Path.{sym, _∙_}
 use borrow.Author.Needs.{needs}
 use borrow.Author.Tests.{not-true, not-false}

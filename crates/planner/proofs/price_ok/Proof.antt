@@ -1,4 +1,4 @@
--- `planner::price_ok` meets its contract. Assumes nothing.
+-- `planner::price_ok` meets its contract: the least is tested first, and then the most. Assumes nothing.
 use native.Mathlib.Omega.{arith}
 use Rattle.model.specs.Bounds.{mostPrice}
 use Rattle.checks.proofs.Answers.{below, up-to}
