@@ -1,28 +1,60 @@
-//! Times the calls of the compiled library and of the second implementation
-//! side by side, and checks on the way that both give the same answers.
+//! Times the compiled library: its calls beside the second implementation's,
+//! a price card for the machine, and weeks of calls beside other structures.
+//! What stands side by side is checked to answer the same.
 
+mod calibrate;
 mod columns;
 mod plans;
+mod race;
+mod sets;
 mod snapshots;
+mod sqlite;
+mod sse2;
+mod structures;
 mod timing;
+mod week;
+mod weeks;
+
+use second::BLOCK_LENGTH_LIMIT;
+
+fn heading(call: &str, size: &str, other: &str) {
+    println!(
+        "{call:<14}{size:>4}{:>14}{:>14}{:>8}",
+        "ns ours",
+        format!("ns {other}"),
+        "ratio"
+    );
+}
+
+fn calls() {
+    heading("call", "K", "second");
+    [1, 8, 64].into_iter().for_each(columns::run);
+    [1, 64].into_iter().for_each(snapshots::run);
+    println!();
+    heading("call", "K", "SSE2");
+    [1, 64].into_iter().for_each(sse2::run);
+    println!();
+    heading("call", "N", "second");
+    [8, 16, 32, 64].into_iter().for_each(plans::run);
+}
 
 fn main() {
-    println!(
-        "{:<14}{:>4}{:>14}{:>14}{:>8}",
-        "call", "K", "ns ours", "ns second", "ratio"
-    );
-    for partitions in [1, 8, 64] {
-        columns::run(partitions);
+    let arguments: Vec<String> = std::env::args().skip(1).collect();
+    let arguments: Vec<&str> = arguments.iter().map(String::as_str).collect();
+    match arguments[..] {
+        [] | ["calls"] => calls(),
+        ["calibrate"] => calibrate::survey(),
+        ["calibrate", block] => match block.parse() {
+            Ok(block @ 1..=BLOCK_LENGTH_LIMIT) => calibrate::run(block),
+            _ => fail("the block length is 1 to 4096"),
+        },
+        ["weeks"] => weeks::run(),
+        ["cards"] => weeks::cards(),
+        _ => fail("bench [calls | calibrate [BLOCK_LENGTH] | weeks | cards]"),
     }
-    for partitions in [1, 64] {
-        snapshots::run(partitions);
-    }
-    println!();
-    println!(
-        "{:<14}{:>4}{:>14}{:>14}{:>8}",
-        "call", "N", "ns ours", "ns second", "ratio"
-    );
-    for blocks in [8, 16, 32, 64] {
-        plans::run(blocks);
-    }
+}
+
+fn fail(message: &str) -> ! {
+    eprintln!("{message}");
+    std::process::exit(2);
 }
