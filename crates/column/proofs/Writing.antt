@@ -54,12 +54,17 @@ by-number : (n : ℕ) (P : Type 0) → (n ≡ 0 → P) → ((n ≡ 0 → ⊥) �
 by-number zero P f g = f refl
 by-number (suc n) P f g = g (λ e. omega arith)
 
+-- what the ripple did by the lengths ls it was lent, it did by the lengths ns they are
+pub by-lengths : (f : List ℕ → ℕ → List ℕ → List ℕ) (d : Delivery) (g w y g₁ w₁ y₁ ls ns : List ℕ) → ls ≡ ns
+    → (g₁ ≡ f ls (d .grower) g) × (w₁ ≡ f ls (d .weight) w) × (y₁ ≡ f ls (d .«oil_yield») y)
+    → (g₁ ≡ f ns (d .grower) g) × (w₁ ≡ f ns (d .weight) w) × (y₁ ≡ f ns (d .«oil_yield») y)
+by-lengths f d g w y g₁ w₁ y₁ ls ns e m = rw e at m
+
 -- The column afterwards, slice by slice.
-pub column-is : (f : ℕ → List ℕ → List ℕ) (d : Delivery) (ls : List ℕ) (c : Column) (ns g w y : List ℕ)
-    → ns ≡ withLengths ls (c .directory) → g ≡ f (d .grower) (c .growers) → w ≡ f (d .weight) (c .weights) → y ≡ f (d .«oil_yield») (c .yields)
-    → columnOf ns g w y ≡ moveSlices f d ls c
+pub column-is : (f : ℕ → List ℕ → List ℕ) (d : Delivery) (ls : List ℕ) (c : Column) (ns g w y : List ℕ) → ns ≡ withLengths ls (c .directory)
+    → (g ≡ f (d .grower) (c .growers)) × (w ≡ f (d .weight) (c .weights)) × (y ≡ f (d .«oil_yield») (c .yields)) → columnOf ns g w y ≡ moveSlices f d ls c
 unfolding moveSlices
-column-is f d ls c ns g w y en eg ew ey = rw (en, eg, ew, ey)
+column-is f d ls c ns g w y en m = rw (en, m .0, m .1, m .2)
 
 module _ (L : ℕ) where
   -- One length changed.
@@ -151,8 +156,8 @@ module _ (L : ℕ) where
           (λ e. ap (λ (x : Shape). x .refusal) (rw e at w) ∙ sym e)
           (λ e. ap (λ (x : Shape). x .refusal) (rw (ne-eqb (columnRefusal L c (insert d)) 0 e) at w))
 
-      pub insert-refused : (o .refusal ≡ 0 → ⊥) → _≡_ {A = Called} (record { answer = withoutTotals (o .refusal) noCounts; column = c }) (columnCall L c (insert d))
-      insert-refused h = refused-call L c (insert d) (o .refusal) (sym opened-refusal) h (λ e. never-missing (sym opened-refusal ∙ e))
+      pub insert-refused : (r : Answer) → r ≡ withoutTotals (o .refusal) noCounts → (o .refusal ≡ 0 → ⊥) → _≡_ {A = Called} (record { answer = r; column = c }) (columnCall L c (insert d))
+      insert-refused r i h = rw i (refused-call L c (insert d) (o .refusal) (sym opened-refusal) h (λ e. never-missing (sym opened-refusal ∙ e)))
 
       pub record Open : Type 0 where
         pub accepted : columnRefusal L c (insert d) ≡ 0
@@ -180,10 +185,14 @@ module _ (L : ℕ) where
                 (λ p. absurd (omega (arith, e, insert-refusal c d l false (hasFreeSlot L c) p refl)));
           }
 
-      pub insert-done : Open → (after : Column) (n : ℕ) (r : Answer) → after ≡ putOf L c (target L c (d .grower)) d → n ≡ onward (directoryOf L (c .directory)) (target L c (d .grower))
+      -- the partition is there, with room
+      pub open-ready : Open → Ready L c (o .target) (o .start) × (o .used ≡ sumOf (lengthsOf L c)) × (o .used < length (c .growers))
+      open-ready a = rw (a .target-is, a .start-is, a .used-is) (ready c (d .grower) (a .lent), refl, a .free)
+
+      pub insert-done : Open → (after : Column) (n : ℕ) (r : Answer) → after ≡ putOf L c (o .target) d → n ≡ onward (directoryOf L (c .directory)) (o .target)
           → r ≡ withoutTotals 0 (counts (1 + n) 0 (1 + n)) → _≡_ {A = Called} (record { answer = r; column = after }) (columnCall L c (insert d))
       unfolding callTotals callCounts columnAfter
-      insert-done a after n r e f i = rw (i, e, f) (accepted-call L c (insert d) (a .accepted))
+      insert-done a after n r e f i = rw (i, e, f, a .target-is) (accepted-call L c (insert d) (a .accepted))
 
   -- delete and move.
 
@@ -203,13 +212,15 @@ module _ (L : ℕ) where
     unfolding locatedOf
     located-counts h = ap (λ (x : Located). x .counts) (rw (ne-eqb (columnRefusal L c (delete d)) 0 (λ e. h (located-refusal ∙ e))) at w)
 
-    pub delete-refused : (f .refusal ≡ 0 → ⊥) → _≡_ {A = Called} (record { answer = withoutTotals (f .refusal) (f .counts); column = c }) (columnCall L c (delete d))
-    unfolding columnCall refusedCounts missCounts
-    delete-refused h = rw (located-counts h, located-refusal, ne-eqb (columnRefusal L c (delete d)) 0 (λ e. h (located-refusal ∙ e)))
+    -- the answer of a refused delete or move
+    module _ (r : Answer) (i : r ≡ withoutTotals (f .refusal) (f .counts)) (h : f .refusal ≡ 0 → ⊥) where
+      pub delete-refused : _≡_ {A = Called} (record { answer = r; column = c }) (columnCall L c (delete d))
+      unfolding columnCall refusedCounts missCounts
+      delete-refused = rw (i, located-counts h, located-refusal, ne-eqb (columnRefusal L c (delete d)) 0 (λ e. h (located-refusal ∙ e)))
 
-    pub move-refused : (g : ℕ) → (f .refusal ≡ 0 → ⊥) → _≡_ {A = Called} (record { answer = withoutTotals (f .refusal) (f .counts); column = c }) (columnCall L c (move d g))
-    unfolding columnCall refusedCounts missCounts
-    move-refused g h = rw (located-counts h, located-refusal, move-refusal c d g, ne-eqb (columnRefusal L c (delete d)) 0 (λ e. h (located-refusal ∙ e)))
+      pub move-refused : (g : ℕ) → _≡_ {A = Called} (record { answer = r; column = c }) (columnCall L c (move d g))
+      unfolding columnCall refusedCounts missCounts
+      move-refused g = rw (i, located-counts h, located-refusal, move-refusal c d g, ne-eqb (columnRefusal L c (delete d)) 0 (λ e. h (located-refusal ∙ e)))
 
     pub record Found : Type 0 where
       pub accepted : columnRefusal L c (delete d) ≡ 0
@@ -245,14 +256,18 @@ module _ (L : ℕ) where
     unfolding scanNear scanCounts
     scan-small a = subst (λ (n : Counts). (n .rr ≤ 1) × (n .«rw» ≤ 0)) (sym (a .counts-are)) (reads-small _)
 
-    pub delete-done : Found → (after : Column) (n : ℕ) (r : Answer) → after ≡ takenOf L c (target L c (d .grower)) (slotOf L c d) → n ≡ onward (directoryOf L (c .directory)) (target L c (d .grower))
-        → r ≡ withoutTotals 0 (andAlso (f .counts) n (1 + n)) → _≡_ {A = Called} (record { answer = r; column = after }) (columnCall L c (delete d))
-    unfolding callTotals callCounts columnAfter
-    delete-done a after n r e i j = rw (j, e, i, a .counts-are) (accepted-call L c (delete d) (a .accepted))
+    -- the partition and the slot are there
+    pub found-ready : Found → Ready L c (f .target) (f .start) × (f .slot < getD (lengthsOf L c) (f .target) 0)
+    found-ready a = rw (a .target-is, a .start-is, a .slot-is) (ready c (d .grower) (a .lent), a .inside)
 
-    pub move-done : (g : ℕ) → Found → (after : Column) (n : ℕ) (r : Answer)
-        → after ≡ shiftedOf L c (target L c (d .grower)) (slotOf L c d) (target L c g) (delivery g (d .weight) (d .«oil_yield»))
-        → n ≡ apart (target L c (d .grower)) (target L c g)
-        → r ≡ withoutTotals 0 (andAlso (f .counts) (1 + n) (2 + n)) → _≡_ {A = Called} (record { answer = r; column = after }) (columnCall L c (move d g))
-    unfolding callTotals callCounts columnAfter
-    move-done g a after n r e i j = rw (j, e, i, a .counts-are) (accepted-call L c (move d g) (move-refusal c d g ∙ a .accepted))
+    -- what an accepted delete or move leaves and answers
+    module _ (a : Found) (after : Column) (n : ℕ) (k : Counts) (r : Answer) (i : r ≡ withoutTotals 0 k) where
+      pub delete-done : after ≡ takenOf L c (f .target) (f .slot) → n ≡ onward (directoryOf L (c .directory)) (f .target) → k ≡ andAlso (f .counts) n (1 + n)
+          → _≡_ {A = Called} (record { answer = r; column = after }) (columnCall L c (delete d))
+      unfolding callTotals callCounts columnAfter
+      delete-done e m j = rw (i, j, e, m, a .counts-are, a .target-is, a .slot-is) (accepted-call L c (delete d) (a .accepted))
+
+      pub move-done : (g u : ℕ) → u ≡ target L c g → after ≡ shiftedOf L c (f .target) (f .slot) u (delivery g (d .weight) (d .«oil_yield»)) → n ≡ apart (f .target) u
+          → k ≡ andAlso (f .counts) (1 + n) (2 + n) → _≡_ {A = Called} (record { answer = r; column = after }) (columnCall L c (move d g))
+      unfolding callTotals callCounts columnAfter
+      move-done g u v e m j = rw (i, j, e, m, a .counts-are, a .target-is, a .slot-is, v) (accepted-call L c (move d g) (move-refusal c d g ∙ a .accepted))

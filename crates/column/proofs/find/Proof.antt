@@ -8,9 +8,6 @@ use Rattle.column.proofs.Answering.{find-is-range}
 use Rattle.column.proofs.find.Statement.{statement}
 use Rattle.column.proofs.find.Tie as tie
 
-range-requires : tie.Need-range-requires
-range-requires c κs = search needs
-
 returns : tie.Need-returns
 returns c =
     let b = c .before .before .before .before .before in
@@ -19,4 +16,4 @@ returns c =
     c .range .ensures ∙ find-is-range blockLimit col (g .grower)
 
 pub find-spec : {M : Type 1} → statement M
-find-spec = tie.close (tie.spec range-requires returns)
+find-spec = tie.close (tie.spec (λ c κs. search needs) returns)

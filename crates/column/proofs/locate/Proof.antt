@@ -37,20 +37,8 @@ near-at c =
     let b₁ = c .before .before .before in
     let w = shaped b₁ in near blockLimit _ _ (w .passed) _ _ (w .target) (w .start) _ (c .length-of .ensures)
 
-lent-requires : tie.Need-lent-requires
-lent-requires c κs = search needs
-
-not-located-requires : tie.Need-not-located-requires
-not-located-requires c κs = search needs
-
 returns : tie.Need-returns
 returns c = c .not-located .ensures ∙ located-lent blockLimit _ _ _ (refusal (c .before .before)) (c .before .if1 .taken)
-
-in-range-requires : tie.Need-in-range-requires
-in-range-requires c κs = search needs
-
-not-located-requires-2 : tie.Need-not-located-requires-2
-not-located-requires-2 c κs = search needs
 
 returns-2 : tie.Need-returns-2
 returns-2 c =
@@ -68,35 +56,17 @@ add-e c = let k = near-at (c) in omega (arith, k .inside, k .most, k .even .weig
 mul-search-part : tie.Need-mul-search-part
 mul-search-part c = let k = near-at (c) in omega (arith, k .inside, k .most, k .even .weights, k .even .yields)
 
-sub-search-part : tie.Need-sub-search-part
-sub-search-part c = search needs
-
-part-search-part-start : tie.Need-part-search-part-start
-part-search-part-start c = search needs
-
 part-search-part-end : tie.Need-part-search-part-end
 part-search-part-end c = let k = near-at (c) in omega (arith, k .inside, k .most, k .even .weights, k .even .yields)
 
 mul-search-part-2 : tie.Need-mul-search-part-2
 mul-search-part-2 c = let k = near-at (c .before) in omega (arith, k .inside, k .most, k .even .weights, k .even .yields)
 
-sub-search-part-2 : tie.Need-sub-search-part-2
-sub-search-part-2 c = search needs
-
-part-search-part-start-2 : tie.Need-part-search-part-start-2
-part-search-part-start-2 c = search needs
-
 part-search-part-end-2 : tie.Need-part-search-part-end-2
 part-search-part-end-2 c = let k = near-at (c .before) in omega (arith, k .inside, k .most, k .even .weights, k .even .yields)
 
 mul-search-part-3 : tie.Need-mul-search-part-3
 mul-search-part-3 c = let k = near-at (c .before .before) in omega (arith, k .inside, k .most, k .even .weights, k .even .yields)
-
-sub-search-part-3 : tie.Need-sub-search-part-3
-sub-search-part-3 c = search needs
-
-part-search-part-start-3 : tie.Need-part-search-part-start-3
-part-search-part-start-3 c = search needs
 
 part-search-part-end-3 : tie.Need-part-search-part-end-3
 part-search-part-end-3 c = let k = near-at (c .before .before) in omega (arith, k .inside, k .most, k .even .weights, k .even .yields)
@@ -139,25 +109,25 @@ pub locate-spec : {M : Type 1} → statement M
 locate-spec =
     tie.close
     (tie.spec
-    lent-requires
-    not-located-requires
+    (λ c κs. search needs)
+    (λ c κs. search needs)
     returns
-    in-range-requires
-    not-located-requires-2
+    (λ c κs. search needs)
+    (λ c κs. search needs)
     returns-2
     length-of-requires
     add-e
     mul-search-part
-    sub-search-part
-    part-search-part-start
+    (λ c. search needs)
+    (λ c. search needs)
     part-search-part-end
     mul-search-part-2
-    sub-search-part-2
-    part-search-part-start-2
+    (λ c. search needs)
+    (λ c. search needs)
     part-search-part-end-2
     mul-search-part-3
-    sub-search-part-3
-    part-search-part-start-3
+    (λ c. search needs)
+    (λ c. search needs)
     part-search-part-end-3
     block-requires
     search-part-requires

@@ -24,28 +24,13 @@ shaped c = carried blockLimit _ _ _ _ (c .before .lent .ensures) (c .if1 .left)
 refusal : (c : tie.After-lent) → c .lent .result .refusal ≡ firstFailed (lentChecks blockLimit (the-column (c .before .before .before .before .before)))
 refusal c = shape-refusal blockLimit _ _ _ _ (c .lent .ensures)
 
-lent-requires : tie.Need-lent-requires
-lent-requires c κs = search needs
-
-refused-requires : tie.Need-refused-requires
-refused-requires c κs = search needs
-
 returns : tie.Need-returns
 returns c = c .refused .ensures ∙ opened-lent blockLimit _ _ _ (refusal (c .before .before)) (c .before .if1 .taken)
-
-in-range-requires : tie.Need-in-range-requires
-in-range-requires c κs = search needs
-
-refused-requires-2 : tie.Need-refused-requires-2
-refused-requires-2 c κs = search needs
 
 returns-2 : tie.Need-returns-2
 returns-2 c =
     let b₁ = c .before .before .before in
     c .refused2 .ensures ∙ opened-range blockLimit _ _ (shaped b₁ .passed) (sym (c .before .before .in-range .ensures) ∙ not-true _ (c .before .if2 .taken))
-
-refused-requires-3 : tie.Need-refused-requires-3
-refused-requires-3 c κs = search needs
 
 returns-3 : tie.Need-returns-3
 returns-3 c =
@@ -65,12 +50,12 @@ pub open-spec : {M : Type 1} → statement M
 open-spec =
     tie.close
     (tie.spec
-    lent-requires
-    refused-requires
+    (λ c κs. search needs)
+    (λ c κs. search needs)
     returns
-    in-range-requires
-    refused-requires-2
+    (λ c κs. search needs)
+    (λ c κs. search needs)
     returns-2
-    refused-requires-3
+    (λ c κs. search needs)
     returns-3
     returns-4)

@@ -25,12 +25,6 @@ shaped-directory c =
     let b₁ = c .before .before .before .before in
     partition-directory blockLimit _ (b₁ .args .growers .now) (b₁ .args .grower) (shaped c .passed)
 
-lent-growers-requires : tie.Need-lent-growers-requires
-lent-growers-requires c κs = search needs
-
-no-partition-requires : tie.Need-no-partition-requires
-no-partition-requires c κs = search needs
-
 returns : tie.Need-returns
 returns c = c .no-partition .ensures ∙ partition-refused blockLimit _ _ _ _ (shape-refusal blockLimit _ _ _ _ (c .before .before .lent-growers .ensures)) (c .before .if1 .taken)
 
@@ -57,8 +51,8 @@ pub partition-spec : {M : Type 1} → statement M
 partition-spec =
     tie.close
     (tie.spec
-    lent-growers-requires
-    no-partition-requires
+    (λ c κs. search needs)
+    (λ c κs. search needs)
     returns
     length-of-requires
     cast-t9

@@ -9,27 +9,6 @@ use Rattle.column.proofs.Handing.{handed-inside, cut-out}
 use Rattle.column.proofs.partition_slice.Statement.{statement}
 use Rattle.column.proofs.partition_slice.Tie as tie
 
-partition-requires : tie.Need-partition-requires
-partition-requires c κs = search needs
-
-cast-a : tie.Need-cast-a
-cast-a c = search needs
-
-cast-e : tie.Need-cast-e
-cast-e c = search needs
-
-add-e : tie.Need-add-e
-add-e c = search needs
-
-mul-result : tie.Need-mul-result
-mul-result c = search needs
-
-sub-result : tie.Need-sub-result
-sub-result c = search needs
-
-part-result-start : tie.Need-part-result-start
-part-result-start c = search needs
-
 part-result-end : tie.Need-part-result-end
 part-result-end c =
     let b₁ = c .before .before in
@@ -47,12 +26,12 @@ pub partition-slice-spec : {M : Type 1} → statement M
 partition-slice-spec =
     tie.close
     (tie.spec
-    partition-requires
-    cast-a
-    cast-e
-    add-e
-    mul-result
-    sub-result
-    part-result-start
+    (λ c κs. search needs)
+    (λ c. search needs)
+    (λ c. search needs)
+    (λ c. search needs)
+    (λ c. search needs)
+    (λ c. search needs)
+    (λ c. search needs)
     part-result-end
     returns)

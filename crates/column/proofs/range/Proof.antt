@@ -26,17 +26,8 @@ shaped c = carried blockLimit _ _ _ _ (c .before .lent .ensures) (c .if1 .left)
 refusal : (c : tie.After-lent) → c .lent .result .refusal ≡ firstFailed (lentChecks blockLimit (the-column (c .before .before .before .before .before)))
 refusal c = shape-refusal blockLimit _ _ _ _ (c .lent .ensures)
 
-lent-requires : tie.Need-lent-requires
-lent-requires c κs = search needs
-
-refused-requires : tie.Need-refused-requires
-refused-requires c κs = search needs
-
 returns : tie.Need-returns
 returns c = c .refused .ensures ∙ ap (λ (x : Called). x .answer) (lent-no blockLimit _ (range _ _) _ (refusal (c .before .before)) (c .before .if1 .taken))
-
-refused-requires-2 : tie.Need-refused-requires-2
-refused-requires-2 c κs = search needs
 
 returns-2 : tie.Need-returns-2
 returns-2 c = c .refused2 .ensures ∙ range-backwards blockLimit _ (shaped (c .before .before) .passed) _ _ (c .before .if2 .taken)
@@ -46,17 +37,14 @@ read-requires c κs =
     let b₁ = c .before .before .before .before .before .before .before in
     let w = shaped (c .before) in (w .passed, c .if2 .left, w .target, w .start ∙ ap (startOf (lengthsOf blockLimit (the-column b₁))) (sym (w .target)))
 
-returns-3 : tie.Need-returns-3
-returns-3 c = search needs
-
 pub range-spec : {M : Type 1} → statement M
 range-spec =
     tie.close
     (tie.spec
-    lent-requires
-    refused-requires
+    (λ c κs. search needs)
+    (λ c κs. search needs)
     returns
-    refused-requires-2
+    (λ c κs. search needs)
     returns-2
     read-requires
-    returns-3)
+    (λ c. search needs))

@@ -58,9 +58,6 @@ scan-parts-requires c κs =
       (l .most, l .even),
     )
 
-refused-requires : tie.Need-refused-requires
-refused-requires c κs = search needs
-
 returns : tie.Need-returns
 returns c =
     let b₁ = c .before .before .before in
@@ -89,7 +86,7 @@ read-spec =
     lengths-requires
     block-requires
     scan-parts-requires
-    refused-requires
+    (λ c κs. search needs)
     returns
     reads-of-requires
     returns-2)

@@ -5,14 +5,8 @@ use Rattle.column.specs.Answers.{withoutTotals}
 use Rattle.column.proofs.refused.Statement.{statement}
 use Rattle.column.proofs.refused.Tie as tie
 
-none-requires : tie.Need-none-requires
-none-requires c κs = search needs
-
-without-totals-requires : tie.Need-without-totals-requires
-without-totals-requires c κs = search needs
-
 returns : tie.Need-returns
 returns c = c .without-totals .ensures ∙ ap (withoutTotals (c .before .before .args .refusal)) (c .before .none .ensures)
 
 pub refused-spec : {M : Type 1} → statement M
-refused-spec = tie.close (tie.spec none-requires without-totals-requires returns)
+refused-spec = tie.close (tie.spec (λ c κs. search needs) (λ c κs. search needs) returns)

@@ -5,11 +5,8 @@ use Rattle.model.specs.declared.Totals.{Totals}
 use Rattle.column.proofs.without_totals.Statement.{statement}
 use Rattle.column.proofs.without_totals.Tie as tie
 
-none-requires : tie.Need-none-requires
-none-requires c κs = search needs
-
 returns : tie.Need-returns
 returns c = ap (λ (t : Totals). record { refusal = c .before .args .refusal; counts = c .before .args .counts; totals = t }) (c .none .ensures)
 
 pub without-totals-spec : {M : Type 1} → statement M
-without-totals-spec = tie.close (tie.spec none-requires returns)
+without-totals-spec = tie.close (tie.spec (λ c κs. search needs) returns)
