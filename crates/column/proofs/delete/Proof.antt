@@ -1,7 +1,6 @@
 -- `column::delete`: `locate` puts every check and finds the slot. Where it accepts, partition and slot are there (`found-ready`), the counts are few,
 -- and what `take_out` leaves is the model's delete. Assumes nothing.
 use Prim.Native.Nat.{_≤_, _<_}
-use mathlib.Core.Path.{_≡_}
 use native.Mathlib.Omega.{arith}
 use borrow.Author.Needs.{needs}
 use lib.ListN.{getD}

@@ -1,4 +1,4 @@
--- `column::find` meets its contract. Assumes nothing.
+-- `column::find`: a find is a range from g to g (`find-is-range`). Assumes nothing.
 use mathlib.Core.Path.{_∙_}
 use borrow.Author.Needs.{needs}
 use Rattle.model.specs.Bounds.{blockLimit}

@@ -1,4 +1,4 @@
--- `column::partition_slice` meets its contract. Assumes nothing.
+-- `column::partition_slice`: the part is cut by the start and the count that `partition` answers, which lie in the growers (`handed-inside`); refused, both are 0. Assumes nothing.
 use mathlib.Core.Path.{ap, _∙_}
 use native.Mathlib.Omega.{arith}
 use borrow.Author.Needs.{needs}

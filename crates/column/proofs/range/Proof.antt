@@ -1,4 +1,5 @@
--- `column::range` meets its contract: the checks answer, and then the scan does. Assumes nothing.
+-- `column::range`: each early answer is the first check that fails; past them `read` is told lo's partition and its start as the directory's pass found them.
+-- Assumes nothing.
 use mathlib.Core.Path.{_≡_, sym, ap, _∙_}
 use borrow.Author.Needs.{needs}
 use Rattle.model.specs.Bounds.{blockLimit}
@@ -15,15 +16,17 @@ use Rattle.column.proofs.Answering.{lent-no}
 use Rattle.column.proofs.range.Statement.{statement}
 use Rattle.column.proofs.range.Tie as tie
 
-abbrev the-column : tie.Start → Column
-the-column c = let a = c .args in columnOf (a .directory .now) (a .growers .now) (a .weights .now) (a .yields .now)
+abbrev start : tie.After-lent → tie.Start
+start c = c .before .before .before .before .before
+
+abbrev the-column : tie.After-lent → Column
+the-column c = let a = start c .args in columnOf (a .directory .now) (a .growers .now) (a .weights .now) (a .yields .now)
 
 -- past checks 2, 3 and 6
-shaped : (c : tie.Else1)
-    → (let s = c .before .before .before .before .before .before in Carried blockLimit (lentChecks blockLimit (the-column s)) (s .args .directory .now) (s .args .lo) (c .before .lent .result))
+shaped : (c : tie.Else1) → let l = c .before in Carried blockLimit (lentChecks blockLimit (the-column l)) (start l .args .directory .now) (start l .args .lo) (l .lent .result)
 shaped c = carried blockLimit _ _ _ _ (c .before .lent .ensures) (c .if1 .left)
 
-refusal : (c : tie.After-lent) → c .lent .result .refusal ≡ firstFailed (lentChecks blockLimit (the-column (c .before .before .before .before .before)))
+refusal : (c : tie.After-lent) → c .lent .result .refusal ≡ firstFailed (lentChecks blockLimit (the-column c))
 refusal c = shape-refusal blockLimit _ _ _ _ (c .lent .ensures)
 
 returns : tie.Need-returns
@@ -34,8 +37,8 @@ returns-2 c = c .refused2 .ensures ∙ range-backwards blockLimit _ (shaped (c .
 
 read-requires : tie.Need-read-requires
 read-requires c κs =
-    let b₁ = c .before .before .before .before .before .before .before in
-    let w = shaped (c .before) in (w .passed, c .if2 .left, w .target, w .start ∙ ap (startOf (lengthsOf blockLimit (the-column b₁))) (sym (w .target)))
+    let w = shaped (c .before) in
+    (w .passed, c .if2 .left, w .target, w .start ∙ ap (startOf (lengthsOf blockLimit (the-column (c .before .before)))) (sym (w .target)))
 
 pub range-spec : {M : Type 1} → statement M
 range-spec =

@@ -1,4 +1,5 @@
--- `column::read` meets its contract: one scan of the partitions from lo's to hi's answers the range. Assumes nothing.
+-- `column::read`: one scan of the partitions from lo's to hi's answers the range (`scanned`): out of range is 8, and else its totals and its blocks, of which
+-- there is one at least. Assumes nothing.
 use Prim.Native.Nat.{_+_, _-_}
 use mathlib.Core.Path.{_≡_, _∙_}
 use native.Mathlib.Omega.{arith}
@@ -27,23 +28,16 @@ scanned : (c : tie.After-scan-parts)
     c .scan-parts .result
     ≡ scanOf (getD (s .args .directory .now) 0 0) (lengthsOf blockLimit k) lo (target blockLimit k (s .args .hi) + 1 - lo) (s .args .lo) (s .args .hi) (slots k))
 scanned c =
-    let b₁ = c .before .before .before in
-    let b₂ = b₁ .before .before .before .before .before in
-    rw (c .before .before .lengths .ensures, b₂ .pre .2, b₁ .partition-of .ensures, c .before .block .ensures ∙ block-is blockLimit _) at (c .scan-parts .ensures)
+    let p = c .before .before .before in
+    let s = p .before .before .before .before .before in
+    rw (c .before .before .lengths .ensures, s .pre .2, p .partition-of .ensures, c .before .block .ensures ∙ block-is blockLimit _) at (c .scan-parts .ensures)
 
-partition-of-requires : tie.Need-partition-of-requires
-partition-of-requires c κs = most-shaped blockLimit _ (lent (c .before .before .before .before))
-
-lengths-requires : tie.Need-lengths-requires
-lengths-requires c κs = numbered blockLimit _ (lent (c .before .before .before .before .before))
-
-block-requires : tie.Need-block-requires
-block-requires c κs = lent (c .before .before .before .before .before .before) .shape .size
+abbrev start : tie.After-scan-parts → tie.Start
+start c = c .before .before .before .before .before .before .before .before
 
 scan-parts-requires : tie.Need-scan-parts-requires
 scan-parts-requires c κs =
-    let b₁ = c .before .before .before .before .before .before .before in
-    let s = b₁ in
+    let s = c .before .before .before .before .before .before .before in
     let p = s .pre in
     let l = lent s in
     rw (c .before .lengths .ensures, c .before .before .partition-of .ensures, c .block .ensures ∙ block-is blockLimit _) (
@@ -60,31 +54,31 @@ scan-parts-requires c κs =
 
 returns : tie.Need-returns
 returns c =
-    let b₁ = c .before .before .before in
-    let b₂ = b₁ .before .before .before .before .before .before .before .before in
-    c .refused .ensures ∙ (let p = b₂ .pre in range-bad blockLimit _ (p .0) _ _ (p .1) _ (scanned b₁) (not-true _ (c .before .if1 .taken)))
+    let r = c .before .before .before in
+    let p = start r .pre in
+    c .refused .ensures ∙ range-bad blockLimit _ (p .0) _ _ (p .1) _ (scanned r) (not-true _ (c .before .if1 .taken))
 
 reads-of-requires : tie.Need-reads-of-requires
 reads-of-requires c κs =
-    let b₁ = c .before .before .before .before .before .before .before .before .before .before in
-    let s = b₁ in
-    let p = s .pre in
-    rw (good-scan _ _ _ _ _ _ _ _ (scanned (c .before .before)) (not-false _ (c .if1 .left)) .blocks)
-    (blocks-some _ (lengthsOf blockLimit (the-column s)) _ _ (targets-ordered blockLimit (the-column s) (p .0) _ _ (p .1)) (target-there blockLimit (the-column s) (p .0) _))
+    let r = c .before .before in
+    let p = start r .pre in
+    let k = the-column (start r) in
+    rw (good-scan _ _ _ _ _ _ _ _ (scanned r) (not-false _ (c .if1 .left)) .blocks)
+    (blocks-some _ (lengthsOf blockLimit k) _ _ (targets-ordered blockLimit k (p .0) _ _ (p .1)) (target-there blockLimit k (p .0) _))
 
 returns-2 : tie.Need-returns-2
 returns-2 c =
-    let b₁ = c .before .before .before .before in
-    let b₂ = b₁ .before .before .before .before .before .before .before .before in
-    let p = b₂ .pre in range-good blockLimit _ (p .0) _ _ (p .1) _ (scanned b₁) _ (not-false _ (c .before .before .if1 .left)) (c .before .reads-of .ensures)
+    let r = c .before .before .before .before in
+    let p = start r .pre in
+    range-good blockLimit _ (p .0) _ _ (p .1) _ (scanned r) _ (not-false _ (c .before .before .if1 .left)) (c .before .reads-of .ensures)
 
 pub read-spec : {M : Type 1} → statement M
 read-spec =
     tie.close
     (tie.spec
-    partition-of-requires
-    lengths-requires
-    block-requires
+    (λ c κs. most-shaped blockLimit _ (lent (c .before .before .before .before)))
+    (λ c κs. numbered blockLimit _ (lent (c .before .before .before .before .before)))
+    (λ c κs. lent (c .before .before .before .before .before .before) .shape .size)
     scan-parts-requires
     (λ c κs. search needs)
     returns

@@ -1,4 +1,4 @@
--- `column::refused` meets its contract. Assumes nothing.
+-- `column::refused`: the counts are those of `Counts::none`. Assumes nothing.
 use mathlib.Core.Path.{ap, _∙_}
 use borrow.Author.Needs.{needs}
 use Rattle.column.specs.Answers.{withoutTotals}

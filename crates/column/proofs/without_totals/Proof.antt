@@ -1,4 +1,4 @@
--- `column::without_totals` meets its contract. Assumes nothing.
+-- `column::without_totals`: the totals are those of `Totals::none`. Assumes nothing.
 use mathlib.Core.Path.{ap}
 use borrow.Author.Needs.{needs}
 use Rattle.model.specs.declared.Totals.{Totals}
