@@ -134,7 +134,7 @@ module _ (k a b c d : ℕ) where
   unfolding callBy
   by-move p q r s = rw (ne-eqb k 1 p, ne-eqb k 2 q, ne-eqb k 3 r, ne-eqb k 4 s)
 
--- The fields of a good line, one after the other.
+-- The fields of a good line of five.
 
 pub first-field : (t : List ℕ) (n at : ℕ) → T (lineOk (suc n) at t) → T (fieldOk at t)
 unfolding lineOk
@@ -143,6 +143,21 @@ first-field t n at o = and-fst (fieldOk at t) (lineOk n (at + 11) t) o
 pub later-fields : (t : List ℕ) (n at : ℕ) → T (lineOk (suc n) at t) → T (lineOk n (at + 11) t)
 unfolding lineOk
 later-fields t n at o = and-snd (fieldOk at t) (lineOk n (at + 11) t) o
+
+pub record FiveFields (t : List ℕ) (at : ℕ) : Type 0 where
+  pub kind : T (fieldOk at t)
+  pub first : T (fieldOk (at + 11) t)
+  pub second : T (fieldOk (at + 11 + 11) t)
+  pub third : T (fieldOk (at + 11 + 11 + 11) t)
+  pub fourth : T (fieldOk (at + 11 + 11 + 11 + 11) t)
+
+pub five-fields : (t : List ℕ) (at : ℕ) → T (lineOk 5 at t) → FiveFields t at
+five-fields t at o =
+    let o4 = later-fields t 4 at o in
+    let o3 = later-fields t 3 _ o4 in
+    let o2 = later-fields t 2 _ o3 in
+    let o1 = later-fields t 1 _ o2 in
+    record { kind = first-field t 4 at o; first = first-field t 3 _ o4; second = first-field t 2 _ o3; third = first-field t 1 _ o2; fourth = first-field t 0 _ o1 }
 
 -- One call's line.
 

@@ -112,9 +112,13 @@ threes-again : (rs : List (List ℕ)) → Rows 3 rs → map deliveryRow (map del
 threes-again [] no-rows = refl
 threes-again (ns ∷ rs) (row r o) = ap₂ (λ (a : List ℕ) (b : List (List ℕ)). a ∷ b) (row-three ns (r .count)) (threes-again rs o)
 
+-- number i of each delivery line, as the deliveries' own
+pub numbers-read : (f : Delivery → ℕ) (i : ℕ) → ((l : List ℕ) → f (deliveryOf l) ≡ nth i l) → (rs : List (List ℕ)) → map f (map deliveryOf rs) ≡ map (nth i) rs
+numbers-read f i h [] = refl
+numbers-read f i h (l ∷ rs) = ap₂ (λ (a : ℕ) (b : List ℕ). a ∷ b) (h l) (numbers-read f i h rs)
+
 pub growers-again : (rs : List (List ℕ)) → map growerOf (map deliveryOf rs) ≡ map (nth 0) rs
-growers-again [] = refl
-growers-again (ns ∷ rs) = ap (λ (l : List ℕ). nth 0 ns ∷ l) (growers-again rs)
+growers-again = numbers-read growerOf 0 (λ l. refl)
 
 -- The header.
 

@@ -3,7 +3,7 @@ use Prim.Native.Nat.{ℕ, _+_, _*_, _≤_, _<_}
 use mathlib.Core.Path.{_≡_, refl, sym, ap, ap₂, _∙_, subst}
 use mathlib.Core.Bool.{Bool, true, false, cond, _&&_}
 use mathlib.Core.Option.{Option, none, some}
-use mathlib.Core.List.{List, [], _∷_, _++_, map}
+use mathlib.Core.List.{List, _++_, map}
 use native.Mathlib.Omega.{arith}
 use borrow.Author.Tests.{ne-eqb, le-leb, lt-leb}
 use lib.Dec.{T, leb, leb→le}
@@ -21,6 +21,7 @@ use Rattle.model.specs.Snapshot.{Header, Book, deliveryOf, readBook, isBook, sl
 use Rattle.model.specs.Questions.{readChecks}
 use Rattle.model.specs.SnapshotCalls.{ReadResult, readCall, columnRead}
 use Rattle.model.proofs.Tests.{and-fst, and-snd, of-true}
+use Rattle.model.proofs.BookLaws.{numbers-read}
 use Rattle.directory.specs.Numbers.{Numbered}
 use Rattle.lines.specs.Lines.{textRefusal, columnAt, columnOk, linesOk, rowsAt}
 use Rattle.lines.proofs.Storing.{length-column, column-ok}
@@ -223,11 +224,6 @@ same-result : {d d' g g' w w' y y' : List ℕ} → d ≡ d' → g ≡ g' → w �
     → _≡_ {A = ReadResult} (record { refusal = 0; column = record { directory = d; growers = g; weights = w; yields = y } })
     (record { refusal = 0; column = record { directory = d'; growers = g'; weights = w'; yields = y' } })
 same-result p q r s = cc
-
--- number i of each delivery line, as the deliveries' own
-numbers-read : (f : Delivery → ℕ) (i : ℕ) → ((l : List ℕ) → f (deliveryOf l) ≡ nth i l) → (rs : List (List ℕ)) → map f (map deliveryOf rs) ≡ map (nth i) rs
-numbers-read f i h [] = refl
-numbers-read f i h (l ∷ rs) = ap₂ (λ (a : ℕ) (b : List ℕ). a ∷ b) (h l) (numbers-read f i h rs)
 
 module _ (L : ℕ) (t gs ws ys : List ℕ) where
   -- check 3

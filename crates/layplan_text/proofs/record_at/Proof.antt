@@ -1,7 +1,7 @@
 -- `layplan_text::record_at` meets its contract: the kind says which call of the recorder the line is. Assumes nothing.
 use borrow.Author.Needs.{needs}
 use Rattle.model.specs.Bounds.{blockLimit}
-use Rattle.layplan_text.proofs.CallLaws.{Four, first-field, later-fields, found-at, ranged-at, inserted-at, deleted-at, moved-at}
+use Rattle.layplan_text.proofs.CallLaws.{Four, five-fields, found-at, ranged-at, inserted-at, deleted-at, moved-at}
 use Rattle.layplan_text.proofs.record_at.Statement.{statement}
 use Rattle.layplan_text.proofs.record_at.Tie as tie
 
@@ -10,42 +10,37 @@ use Rattle.layplan_text.proofs.record_at.Tie as tie
 abbrev from : tie.After-spelled-at4 → tie.Start
 from c = c .before .before .before .before .before .before .before .before .before
 
-abbrev TheFour : tie.After-spelled-at4 → Type 0
-TheFour c =
-    Four (from c .args .text .now) (from c .args .at)
+four : (c : tie.After-spelled-at4)
+    → Four (from c .args .text .now) (from c .args .at)
     (c .before .before .before .spelled-at .result) (c .before .before .spelled-at2 .result) (c .before .spelled-at3 .result) (c .spelled-at4 .result)
-
-four : (c : tie.After-spelled-at4) → TheFour c
 four c = record { kind = c .before .before .before .spelled-at .ensures; first = c .before .before .spelled-at2 .ensures; second = c .before .spelled-at3 .ensures; third = c .spelled-at4 .ensures }
 
 spelled-at-requires : tie.Need-spelled-at-requires
-spelled-at-requires c κs = first-field _ 4 _ (c .before .before .before .before .before .pre .1)
+spelled-at-requires c κs = five-fields _ _ (c .before .before .before .before .before .pre .1) .kind
 
 spelled-at-requires-2 : tie.Need-spelled-at-requires-2
-spelled-at-requires-2 c κs = first-field _ 3 _ (later-fields _ 4 _ (c .before .before .before .before .before .before .pre .1))
+spelled-at-requires-2 c κs = five-fields _ _ (c .before .before .before .before .before .before .pre .1) .first
 
 spelled-at-requires-3 : tie.Need-spelled-at-requires-3
-spelled-at-requires-3 c κs = first-field _ 2 _ (later-fields _ 3 _ (later-fields _ 4 _ (c .before .before .before .before .before .before .before .pre .1)))
+spelled-at-requires-3 c κs = five-fields _ _ (c .before .before .before .before .before .before .before .pre .1) .second
 
 spelled-at-requires-4 : tie.Need-spelled-at-requires-4
-spelled-at-requires-4 c κs = first-field _ 1 _ (later-fields _ 2 _ (later-fields _ 3 _ (later-fields _ 4 _ (c .before .before .before .before .before .before .before .before .pre .1))))
+spelled-at-requires-4 c κs = five-fields _ _ (c .before .before .before .before .before .before .before .before .pre .1) .third
 
 returns : tie.Need-returns
-returns c = found-at blockLimit (four (c .before .before .before .before .before)) _ _ _ (c .before .before .before .before .if1 .taken) (c .before .before .record-find .ensures)
+returns c = let b = c .before .before .before .before in found-at blockLimit (four (b .before)) _ _ _ (b .if1 .taken) (c .before .before .record-find .ensures)
 
 returns-2 : tie.Need-returns-2
-returns-2 c = ranged-at blockLimit (four (c .before .before .before .before .before .before)) _ _ _ (c .before .before .before .before .if2 .taken) (c .before .before .record-range .ensures)
+returns-2 c = let b = c .before .before .before .before in ranged-at blockLimit (four (b .before .before)) _ _ _ (b .if2 .taken) (c .before .before .record-range .ensures)
 
 returns-3 : tie.Need-returns-3
-returns-3 c =
-    inserted-at blockLimit (four (c .before .before .before .before .before .before .before)) _ _ _ (c .before .before .before .before .if3 .taken) (c .before .before .record-insert .ensures)
+returns-3 c = let b = c .before .before .before .before in inserted-at blockLimit (four (b .before .before .before)) _ _ _ (b .if3 .taken) (c .before .before .record-insert .ensures)
 
 returns-4 : tie.Need-returns-4
-returns-4 c =
-    deleted-at blockLimit (four (c .before .before .before .before .before .before .before .before)) _ _ _ (c .before .before .before .before .if4 .taken) (c .before .before .record-delete .ensures)
+returns-4 c = let b = c .before .before .before .before in deleted-at blockLimit (four (b .before .before .before .before)) _ _ _ (b .if4 .taken) (c .before .before .record-delete .ensures)
 
 spelled-at-requires-5 : tie.Need-spelled-at-requires-5
-spelled-at-requires-5 c κs = let s = from (c .before .before .before .before) in first-field _ 0 _ (later-fields _ 1 _ (later-fields _ 2 _ (later-fields _ 3 _ (later-fields _ 4 _ (s .pre .1)))))
+spelled-at-requires-5 c κs = five-fields _ _ (from (c .before .before .before .before) .pre .1) .fourth
 
 returns-5 : tie.Need-returns-5
 returns-5 c =
