@@ -34,35 +34,39 @@ is-only true v = refl
 is-only false v = refl
 
 module _ (k b c d : ℕ) where
-  pub find-used-b : k ≡ 1 → b ≢ 0 → (a : ℕ) → false ≡ isSome (callOf (k ∷ a ∷ b ∷ c ∷ d ∷ []))
+  -- whether the numbers are a call, whatever the first is
+  abbrev Says : Bool → Type 0
+  Says x = (a : ℕ) → x ≡ isSome (callOf (k ∷ a ∷ b ∷ c ∷ d ∷ []))
+
+  pub find-used-b : k ≡ 1 → b ≢ 0 → Says false
   unfolding callOf
   find-used-b e h a = rw (e, ne-eqb b 0 h)
 
-  pub find-used-c : k ≡ 1 → b ≡ 0 → c ≢ 0 → (a : ℕ) → false ≡ isSome (callOf (k ∷ a ∷ b ∷ c ∷ d ∷ []))
+  pub find-used-c : k ≡ 1 → b ≡ 0 → c ≢ 0 → Says false
   unfolding callOf
   find-used-c e f h a = rw (e, f, ne-eqb c 0 h)
 
-  pub find-d : k ≡ 1 → b ≡ 0 → c ≡ 0 → (a : ℕ) → eqb d 0 ≡ isSome (callOf (k ∷ a ∷ b ∷ c ∷ d ∷ []))
+  pub find-d : k ≡ 1 → b ≡ 0 → c ≡ 0 → Says (eqb d 0)
   unfolding callOf
   find-d e f g a = rw (e, f, g) (is-cond (eqb d 0) (find a))
 
-  pub range-used-c : k ≡ 2 → c ≢ 0 → (a : ℕ) → false ≡ isSome (callOf (k ∷ a ∷ b ∷ c ∷ d ∷ []))
+  pub range-used-c : k ≡ 2 → c ≢ 0 → Says false
   unfolding callOf
   range-used-c e h a = rw (e, ne-eqb c 0 h)
 
-  pub range-d : k ≡ 2 → c ≡ 0 → (a : ℕ) → eqb d 0 ≡ isSome (callOf (k ∷ a ∷ b ∷ c ∷ d ∷ []))
+  pub range-d : k ≡ 2 → c ≡ 0 → Says (eqb d 0)
   unfolding callOf
   range-d e f a = rw (e, f) (is-cond (eqb d 0) (range a b))
 
-  pub insert-d : k ≡ 3 → (a : ℕ) → eqb d 0 ≡ isSome (callOf (k ∷ a ∷ b ∷ c ∷ d ∷ []))
+  pub insert-d : k ≡ 3 → Says (eqb d 0)
   unfolding callOf
   insert-d e a = rw e (is-cond (eqb d 0) (insert (delivery a b c)))
 
-  pub delete-d : k ≡ 4 → (a : ℕ) → eqb d 0 ≡ isSome (callOf (k ∷ a ∷ b ∷ c ∷ d ∷ []))
+  pub delete-d : k ≡ 4 → Says (eqb d 0)
   unfolding callOf
   delete-d e a = rw e (is-cond (eqb d 0) (delete (delivery a b c)))
 
-  pub move-or-none : k ≢ 1 → k ≢ 2 → k ≢ 3 → k ≢ 4 → (a : ℕ) → eqb k 5 ≡ isSome (callOf (k ∷ a ∷ b ∷ c ∷ d ∷ []))
+  pub move-or-none : k ≢ 1 → k ≢ 2 → k ≢ 3 → k ≢ 4 → Says (eqb k 5)
   unfolding callOf
   move-or-none p q r s a = rw (ne-eqb k 1 p, ne-eqb k 2 q, ne-eqb k 3 r, ne-eqb k 4 s) (is-only (eqb k 5) (move (delivery a b c) d))
 
@@ -280,25 +284,29 @@ pub record Four (t : List ℕ) (at k a b c : ℕ) : Type 0 where
 
 -- L is the block limit
 module _ (L : ℕ) {t : List ℕ} {at k a b c : ℕ} (w : Four t at k a b c) (s : Set) (hs : List ℕ) (r : Recorded) where
+  -- the answer of the recorder to the line's call
+  abbrev Here : Type 0
+  Here = r ≡ recordCall L s hs (callBy (columnAt 11 at 5 t))
+
   abbrev fifth : ℕ
   fifth = valueAt (at + 11 + 11 + 11 + 11) t
 
-  by-kind : (d : ℕ) → d ≡ fifth → (x : Call) → callBy (k ∷ a ∷ b ∷ c ∷ d ∷ []) ≡ x → r ≡ recordCall L s hs x → r ≡ recordCall L s hs (callBy (columnAt 11 at 5 t))
+  by-kind : (d : ℕ) → d ≡ fifth → (x : Call) → callBy (k ∷ a ∷ b ∷ c ∷ d ∷ []) ≡ x → r ≡ recordCall L s hs x → Here
   by-kind d i x j q =
       let same : callBy (k ∷ a ∷ b ∷ c ∷ d ∷ []) ≡ callBy (columnAt 11 at 5 t) = rw (five t at, w .kind, w .first, w .second, w .third, i) in
       q ∙ ap (recordCall L s hs) (sym j ∙ same)
 
-  pub found-at : k ≡ 1 → r ≡ recordCall L s hs (find a) → r ≡ recordCall L s hs (callBy (columnAt 11 at 5 t))
+  pub found-at : k ≡ 1 → r ≡ recordCall L s hs (find a) → Here
   found-at i = by-kind fifth refl (find a) (by-find k a b c fifth i)
 
-  pub ranged-at : k ≡ 2 → r ≡ recordCall L s hs (range a b) → r ≡ recordCall L s hs (callBy (columnAt 11 at 5 t))
+  pub ranged-at : k ≡ 2 → r ≡ recordCall L s hs (range a b) → Here
   ranged-at i = by-kind fifth refl (range a b) (by-range k a b c fifth i)
 
-  pub inserted-at : k ≡ 3 → r ≡ recordCall L s hs (insert (delivery a b c)) → r ≡ recordCall L s hs (callBy (columnAt 11 at 5 t))
+  pub inserted-at : k ≡ 3 → r ≡ recordCall L s hs (insert (delivery a b c)) → Here
   inserted-at i = by-kind fifth refl (insert (delivery a b c)) (by-insert k a b c fifth i)
 
-  pub deleted-at : k ≡ 4 → r ≡ recordCall L s hs (delete (delivery a b c)) → r ≡ recordCall L s hs (callBy (columnAt 11 at 5 t))
+  pub deleted-at : k ≡ 4 → r ≡ recordCall L s hs (delete (delivery a b c)) → Here
   deleted-at i = by-kind fifth refl (delete (delivery a b c)) (by-delete k a b c fifth i)
 
-  pub moved-at : (d : ℕ) → d ≡ fifth → k ≢ 1 → k ≢ 2 → k ≢ 3 → k ≢ 4 → r ≡ recordCall L s hs (move (delivery a b c) d) → r ≡ recordCall L s hs (callBy (columnAt 11 at 5 t))
+  pub moved-at : (d : ℕ) → d ≡ fifth → k ≢ 1 → k ≢ 2 → k ≢ 3 → k ≢ 4 → r ≡ recordCall L s hs (move (delivery a b c) d) → Here
   moved-at d i l m n o = by-kind d i (move (delivery a b c) d) (by-move k a b c d l m n o)

@@ -103,8 +103,8 @@ module _ {t : List ℕ} {at : ℕ} {lens fences : List ℕ} {p e : ℕ} (w : Par
         ∙ ap (λ (l : List ℕ). partsOk fences p l e t) (drop-next lens p h)
         ∙ ap₂ (λ (a b : ℕ). deliveriesOk a b (getD lens p 0) e t && partsOk fences (p + 1) (drop (p + 1) lens) (e + 34 * getD lens p 0) t) (sym low) (sym high)
 
-    pub parts-stop : deliveriesOk lo hi (getD lens p 0) e t ≡ false → false ≡ partsOk fences 0 lens at t
-    parts-stop q = sym (one-part ∙ rw q)
+    pub parts-stop : deliveriesOk lo hi (getD lens p 0) e t ≡ false → partsOk fences 0 lens at t ≡ false
+    parts-stop q = one-part ∙ rw q
 
     pub parts-next : deliveriesOk lo hi (getD lens p 0) e t ≡ true → PartsLeft t at lens fences (p + 1) (e + 34 * getD lens p 0)
     parts-next q = record { left = omega arith; room = part-room h; work = one-part ∙ rw q }

@@ -1,11 +1,11 @@
 -- `snapshot::judge_parts` meets its contract. The loop's invariant: the partitions that are left decide. A partition whose lines are good between its fences leaves those behind it. Assumes nothing.
 use Prim.Native.Nat.{_-_}
-use mathlib.Core.Path.{ap, _∙_}
+use mathlib.Core.Path.{ap}
 use native.Mathlib.Omega.{arith}
 use borrow.Author.Needs.{needs}
 use lib.ListN.{length}
 use Rattle.lines.specs.Lines.{textRefusal}
-use Rattle.lines.proofs.Reading.{passed, failed}
+use Rattle.lines.proofs.Reading.{passed, refused-by}
 use Rattle.snapshot.proofs.Judging.{PartsLeft, parts-start, part-room, parts-stop, parts-next, parts-end}
 use Rattle.snapshot.proofs.judge_parts.Statement.{statement}
 use Rattle.snapshot.proofs.judge_parts.Tie as tie
@@ -27,46 +27,29 @@ low-of-requires c κs = let q = c .before .before .before .before .before .befor
 
 judge-deliveries-requires : tie.Need-judge-deliveries-requires Inv-loop μ-loop
 judge-deliveries-requires c κs =
-    omega (
-      arith,
-      part-room (c .before .before .before .before .loop .inv)
-          (c .before .before .before .loop-test .taken),
-      c .before .before .before .before .before .before .before .before .pre .2,
-    )
+    let top = c .before .before .before in
+    omega (arith, part-room (top .before .loop .inv) (top .loop-test .taken), top .before .before .before .before .before .pre .2)
 
 returns : tie.Need-returns Inv-loop μ-loop
 returns c =
-    let q = c .before .judge-deliveries .ensures in
-    let f = failed _ q (c .if1 .taken) in
-    q
-    ∙ ap textRefusal
-    (f
-    ∙ parts-stop (c .before .before .before .before .before .before .loop .inv) (c .before .before .before .before .before .loop-test .taken)
-    (c .before .before .before .low-of .ensures) (c .before .before .high-of .ensures) f)
+    let top = c .before .before .before .before .before in
+    refused-by _ _ (c .before .judge-deliveries .ensures) (c .if1 .taken)
+    (parts-stop (top .before .loop .inv) (top .loop-test .taken) (c .before .before .before .low-of .ensures) (c .before .before .high-of .ensures))
 
 mul-e : tie.Need-mul-e Inv-loop μ-loop
 mul-e c =
     let top = c .before .before .before .before .before in
-    omega (
-      arith,
-      part-room (top .before .loop .inv)
-          (top .loop-test .taken),
-      top .before .before .before .before .before .pre .2,
-    )
+    omega (arith, part-room (top .before .loop .inv) (top .loop-test .taken), top .before .before .before .before .before .pre .2)
 
 add-e : tie.Need-add-e Inv-loop μ-loop
 add-e c =
     let top = c .before .before .before .before .before in
-    omega (
-      arith,
-      part-room (top .before .loop .inv)
-          (top .loop-test .taken),
-      top .before .before .before .before .before .pre .2,
-    )
+    omega (arith, part-room (top .before .loop .inv) (top .loop-test .taken), top .before .before .before .before .before .pre .2)
 
 loop-again : tie.Need-loop-again Inv-loop μ-loop
 loop-again c =
-    parts-next (c .before .before .before .before .before .before .loop .inv) (c .before .before .before .before .before .loop-test .taken)
+    let top = c .before .before .before .before .before in
+    parts-next (top .before .loop .inv) (top .loop-test .taken)
     (c .before .before .before .low-of .ensures) (c .before .before .high-of .ensures) (passed _ (c .before .judge-deliveries .ensures) (c .if1 .left))
 
 returns-2 : tie.Need-returns-2 Inv-loop μ-loop
