@@ -7,9 +7,6 @@ use Rattle.apply.proofs.Filling.{layout-same, accepted, apply-refused, 
 use Rattle.apply.proofs.apply_layout.Statement.{statement}
 use Rattle.apply.proofs.apply_layout.Tie as tie
 
-layout-refusal-requires : tie.Need-layout-refusal-requires
-layout-refusal-requires c κs = search needs
-
 returns : tie.Need-returns
 returns c = apply-refused blockLimit _ _ _ (c .if1 .taken) (c .before .layout-refusal .ensures)
 
@@ -24,4 +21,4 @@ returns-2 c = apply-accepted blockLimit _ _ _ _ (c .before .if1 .left) (c .befor
 
 pub apply-layout-spec : {M : Type 1} → statement M
 apply-layout-spec =
-    tie.close (tie.spec layout-refusal-requires returns directory-of-requires returns-2)
+    tie.close (tie.spec (λ c κs. search needs) returns directory-of-requires returns-2)

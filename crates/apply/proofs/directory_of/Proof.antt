@@ -26,18 +26,6 @@ blank-requires c κs = few (c .before .before)
 loop-holds : tie.Need-loop-holds Inv-loop μ-loop
 loop-holds c = λ ws ys. rw (c .blank .ensures) (fill-start blockLimit _ _ (few (c .before .before .before)))
 
-mul-e : tie.Need-mul-e Inv-loop μ-loop
-mul-e c = search needs
-
-shared-slice-read-e : tie.Need-shared-slice-read-e Inv-loop μ-loop
-shared-slice-read-e c = search needs
-
-block-stop-requires : tie.Need-block-stop-requires Inv-loop μ-loop
-block-stop-requires c κs = search needs
-
-last-grower-requires : tie.Need-last-grower-requires Inv-loop μ-loop
-last-grower-requires c κs = search needs
-
 slice-aggregate-put : tie.Need-slice-aggregate-put Inv-loop μ-loop
 slice-aggregate-put c = sym (c .before .before .before .before .before .loop .inv [] [] .long)
 
@@ -46,9 +34,6 @@ sub-put c = omega (arith, c .before .before .before .before .before .loop .inv [
 
 put-requires : tie.Need-put-requires Inv-loop μ-loop
 put-requires c κs = let v = c .before .before .before .before .before .loop .inv [] [] in (v .long, omega (arith, v .few))
-
-add-i : tie.Need-add-i Inv-loop μ-loop
-add-i c = search needs
 
 loop-less : tie.Need-loop-less Inv-loop μ-loop
 loop-less c = omega arith
@@ -67,5 +52,5 @@ returns c = λ ws ys. fill-end blockLimit _ _ _ _ _ (c .loop-test .left) (c .bef
 pub directory-of-spec : {M : Type 1} → statement M
 directory-of-spec =
     tie.close
-    (tie.spec Inv-loop μ-loop blank-requires loop-holds mul-e shared-slice-read-e block-stop-requires last-grower-requires
-    slice-aggregate-put sub-put put-requires add-i loop-less loop-again returns)
+    (tie.spec Inv-loop μ-loop blank-requires loop-holds (λ c. search needs) (λ c. search needs) (λ c κs. search needs) (λ c κs. search needs)
+    slice-aggregate-put sub-put put-requires (λ c. search needs) loop-less loop-again returns)

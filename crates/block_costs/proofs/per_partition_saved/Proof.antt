@@ -7,19 +7,10 @@ use borrow.Author.Needs.{needs}
 use Rattle.block_costs.proofs.per_partition_saved.Statement.{statement}
 use Rattle.block_costs.proofs.per_partition_saved.Tie as tie
 
-counts-requires : tie.Need-counts-requires
-counts-requires c κs = search needs
-
-add-product : tie.Need-add-product
-add-product c = search needs
-
-product-requires : tie.Need-product-requires
-product-requires c κs = search needs
-
 returns : tie.Need-returns
 unfolding perPartitionSavedOf slot position
 returns c = product-is _ _ _ _ _ (c .product .ensures .0) (omega arith) (omega arith)
 
 pub per-partition-saved-spec : {M : Type 1} → statement M
 per-partition-saved-spec =
-    tie.close (tie.spec counts-requires add-product product-requires returns)
+    tie.close (tie.spec (λ c κs. search needs) (λ c. search needs) (λ c κs. search needs) returns)

@@ -7,9 +7,6 @@ use borrow.Author.Needs.{needs}
 use Rattle.block_costs.proofs.product.Statement.{statement}
 use Rattle.block_costs.proofs.product.Tie as tie
 
-wide-requires : tie.Need-wide-requires
-wide-requires c κs = search needs
-
 mul-result : tie.Need-mul-result
 mul-result c = let a = c .before .args in omega (arith, small (c .wide .result) (a .c) 2 5 (omega arith) (omega arith))
 
@@ -17,4 +14,4 @@ returns : tie.Need-returns
 returns c = let a = c .before .args in (ap (λ (p : ℕ). p * a .c) (c .wide .ensures), small (c .wide .result) (a .c) 2 5 (omega arith) (omega arith))
 
 pub product-spec : {M : Type 1} → statement M
-product-spec = tie.close (tie.spec wide-requires mul-result returns)
+product-spec = tie.close (tie.spec (λ c κs. search needs) mul-result returns)

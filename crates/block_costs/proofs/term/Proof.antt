@@ -7,32 +7,17 @@ use borrow.Author.Needs.{needs}
 use Rattle.block_costs.proofs.term.Statement.{statement}
 use Rattle.block_costs.proofs.term.Tie as tie
 
-fixed-requires : tie.Need-fixed-requires
-fixed-requires c κs = search needs
-
 returns : tie.Need-returns
 returns c = c .fixed .ensures ∙ term-is blockLimit _ _ (c .before .before .before .args .y) _ 0 refl (omega arith)
-
-per-block-before-requires : tie.Need-per-block-before-requires
-per-block-before-requires c κs = search needs
 
 returns-2 : tie.Need-returns-2
 returns-2 c = c .per-block-before .ensures ∙ term-is blockLimit _ _ (c .before .before .before .before .args .y) _ 1 refl (omega arith)
 
-per-block-after-requires : tie.Need-per-block-after-requires
-per-block-after-requires c κs = search needs
-
 returns-3 : tie.Need-returns-3
 returns-3 c = c .per-block-after .ensures ∙ term-is blockLimit _ _ (c .before .before .before .before .before .args .y) _ 2 refl (omega arith)
 
-per-partition-added-requires : tie.Need-per-partition-added-requires
-per-partition-added-requires c κs = search needs
-
 returns-4 : tie.Need-returns-4
 returns-4 c = c .per-partition-added .ensures ∙ term-is blockLimit _ _ (c .before .before .before .before .before .before .args .y) _ 3 refl (omega arith)
-
-per-partition-saved-requires : tie.Need-per-partition-saved-requires
-per-partition-saved-requires c κs = search needs
 
 returns-5 : tie.Need-returns-5
 returns-5 c = c .per-partition-saved .ensures ∙ term-is blockLimit _ _ (c .before .before .before .before .before .before .args .y) _ 4 refl (omega arith)
@@ -41,13 +26,13 @@ pub term-spec : {M : Type 1} → statement M
 term-spec =
     tie.close
     (tie.spec
-    fixed-requires
+    (λ c κs. search needs)
     returns
-    per-block-before-requires
+    (λ c κs. search needs)
     returns-2
-    per-block-after-requires
+    (λ c κs. search needs)
     returns-3
-    per-partition-added-requires
+    (λ c κs. search needs)
     returns-4
-    per-partition-saved-requires
+    (λ c κs. search needs)
     returns-5)

@@ -5,12 +5,9 @@ use Rattle.model.specs.Directory.{directoryOf}
 use Rattle.directory.proofs.block.Statement.{statement}
 use Rattle.directory.proofs.block.Tie as tie
 
-shared-slice-read-result : tie.Need-shared-slice-read-result
-shared-slice-read-result c = search needs
-
 returns : tie.Need-returns
 unfolding directoryOf
 returns c = refl
 
 pub block-spec : {M : Type 1} → statement M
-block-spec = tie.close (tie.spec shared-slice-read-result returns)
+block-spec = tie.close (tie.spec (λ c. search needs) returns)

@@ -4,14 +4,8 @@ use borrow.Author.Needs.{needs}
 use Rattle.directory.proofs.count.Statement.{statement}
 use Rattle.directory.proofs.count.Tie as tie
 
-shared-slice-read-result : tie.Need-shared-slice-read-result
-shared-slice-read-result c = search needs
-
 cast-result : tie.Need-cast-result
 cast-result c = omega (arith, c .shared-slice-known .given 1)
 
-returns : tie.Need-returns
-returns c = search needs
-
 pub count-spec : {M : Type 1} → statement M
-count-spec = tie.close (tie.spec shared-slice-read-result cast-result returns)
+count-spec = tie.close (tie.spec (λ c. search needs) cast-result (λ c. search needs))

@@ -9,16 +9,10 @@ use Rattle.directory.proofs.directory_block_ok.Tie as tie
 returns : tie.Need-returns
 returns c = no-directory blockLimit _ (c .if1 .taken)
 
-shared-slice-read-block-length-ok : tie.Need-shared-slice-read-block-length-ok
-shared-slice-read-block-length-ok c = search needs
-
-block-length-ok-requires : tie.Need-block-length-ok-requires
-block-length-ok-requires c κs = search needs
-
 returns-2 : tie.Need-returns-2
 returns-2 c = c .block-length-ok .ensures ∙ directory-block blockLimit _ (c .before .before .if1 .left)
 
 pub directory-block-ok-spec : {M : Type 1} → statement M
 directory-block-ok-spec =
     tie.close
-    (tie.spec returns shared-slice-read-block-length-ok block-length-ok-requires returns-2)
+    (tie.spec returns (λ c. search needs) (λ c κs. search needs) returns-2)

@@ -28,9 +28,6 @@ mul-directory-2 c = omega (arith, has-place blockLimit _ _ (c .before .pre))
 slice-write-directory : tie.Need-slice-write-directory
 slice-write-directory c = omega (arith, has-place blockLimit _ _ (c .before .pre))
 
-same-length : tie.Need-same-length
-same-length c = search needs
-
 returns : tie.Need-returns
 returns c =
     let a = c .before .args in
@@ -39,4 +36,4 @@ returns c =
     ∙ ap (λ (n : ℕ). withLengths (set (directoryOf blockLimit (a .directory .now) .lengths) (a .partition) (n + 1)) (a .directory .now)) (has-length blockLimit _ _ p)
 
 pub grow-spec : {M : Type 1} → statement M
-grow-spec = tie.close (tie.spec add-i mul-directory slice-read-directory add-directory mul-directory-2 slice-write-directory same-length returns)
+grow-spec = tie.close (tie.spec add-i mul-directory slice-read-directory add-directory mul-directory-2 slice-write-directory (λ c. search needs) returns)

@@ -28,9 +28,6 @@ mul-directory-2 c = omega (arith, has-place blockLimit _ _ (c .before .pre .0))
 slice-write-directory : tie.Need-slice-write-directory
 slice-write-directory c = omega (arith, has-place blockLimit _ _ (c .before .pre .0))
 
-same-length : tie.Need-same-length
-same-length c = search needs
-
 returns : tie.Need-returns
 returns c =
     let a = c .before .args in
@@ -39,4 +36,4 @@ returns c =
     ∙ ap (λ (n : ℕ). withLengths (set (directoryOf blockLimit (a .directory .now) .lengths) (a .partition) (n - 1)) (a .directory .now)) (has-length blockLimit _ _ p)
 
 pub shrink-spec : {M : Type 1} → statement M
-shrink-spec = tie.close (tie.spec add-i mul-directory slice-read-directory sub-directory mul-directory-2 slice-write-directory same-length returns)
+shrink-spec = tie.close (tie.spec add-i mul-directory slice-read-directory sub-directory mul-directory-2 slice-write-directory (λ c. search needs) returns)

@@ -11,12 +11,6 @@ use Rattle.directory.proofs.start_of.Tie as tie
 add-e : tie.Need-add-e
 add-e c = omega (arith, has-place blockLimit _ _ (c .before .pre))
 
-sub-total : tie.Need-sub-total
-sub-total c = search needs
-
-part-total-start : tie.Need-part-total-start
-part-total-start c = search needs
-
 part-total-end : tie.Need-part-total-end
 part-total-end c = omega (arith, has-place blockLimit _ _ (c .before .pre))
 
@@ -27,4 +21,4 @@ returns : tie.Need-returns
 returns c = let p = c .before .before .before .pre in c .total .ensures ∙ dir-ahead blockLimit _ (p .shaped) _ (omega (arith, p .there))
 
 pub start-of-spec : {M : Type 1} → statement M
-start-of-spec = tie.close (tie.spec add-e sub-total part-total-start part-total-end total-requires returns)
+start-of-spec = tie.close (tie.spec add-e (λ c. search needs) (λ c. search needs) part-total-end total-requires returns)

@@ -9,11 +9,8 @@ use Rattle.histograms.proofs.counts_ok.Tie as tie
 returns : tie.Need-returns
 returns c = counts-other blockLimit _ (c .if1 .taken)
 
-within-requires : tie.Need-within-requires
-within-requires c κs = search needs
-
 returns-2 : tie.Need-returns-2
 returns-2 c = c .within .ensures ∙ counts-all blockLimit _ (c .before .if1 .left)
 
 pub counts-ok-spec : {M : Type 1} → statement M
-counts-ok-spec = tie.close (tie.spec returns within-requires returns-2)
+counts-ok-spec = tie.close (tie.spec returns (λ c κs. search needs) returns-2)

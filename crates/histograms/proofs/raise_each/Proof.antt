@@ -16,23 +16,8 @@ abbrev μ-loop : tie.MeasureT-loop
 loop-holds : tie.Need-loop-holds Inv-loop μ-loop
 loop-holds c = rest-start _ _ _ (c .pre .0) (c .pre .1) (c .pre .2)
 
-mul-x : tie.Need-mul-x Inv-loop μ-loop
-mul-x c = search needs
-
-slice-read-x : tie.Need-slice-read-x Inv-loop μ-loop
-slice-read-x c = search needs
-
 add-h : tie.Need-add-h Inv-loop μ-loop
 add-h c = omega (arith, rest-low _ _ _ _ _ (c .before .loop-test .taken) (c .before .before .loop .inv))
-
-mul-h : tie.Need-mul-h Inv-loop μ-loop
-mul-h c = search needs
-
-slice-write-h : tie.Need-slice-write-h Inv-loop μ-loop
-slice-write-h c = search needs
-
-add-i : tie.Need-add-i Inv-loop μ-loop
-add-i c = search needs
 
 loop-less : tie.Need-loop-less Inv-loop μ-loop
 loop-less c = omega arith
@@ -53,12 +38,12 @@ raise-each-spec =
     Inv-loop
     μ-loop
     loop-holds
-    mul-x
-    slice-read-x
+    (λ c. search needs)
+    (λ c. search needs)
     add-h
-    mul-h
-    slice-write-h
-    add-i
+    (λ c. search needs)
+    (λ c. search needs)
+    (λ c. search needs)
     loop-less
     loop-again
     same-length

@@ -29,9 +29,6 @@ slice-read-if1 c = inside (c .before)
 raise-requires : tie.Need-raise-requires
 raise-requires c κs = (inside (c .before .before .before), c .before .if1 .taken)
 
-same-length : tie.Need-same-length
-same-length c = search needs
-
 returns : tie.Need-returns
 returns c =
     let t = c .before .before .before .before in
@@ -49,6 +46,6 @@ raise-one-spec =
     mul-if1
     slice-read-if1
     raise-requires
-    same-length
+    (λ c. search needs)
     returns
     returns-2)

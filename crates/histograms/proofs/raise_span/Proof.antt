@@ -74,12 +74,6 @@ part-within-start c = span-inside blockLimit (the-span (c .before .before .befor
 part-within-end : tie.Need-part-within-end
 part-within-end c = span-inside blockLimit (the-span (c .before .before .before .before .before)) .4
 
-within-requires : tie.Need-within-requires
-within-requires c κs = search needs
-
-same-length : tie.Need-same-length
-same-length c = search needs
-
 returns-3 : tie.Need-returns-3
 returns-3 c =
     let o = c .before .before .before .before in
@@ -111,9 +105,6 @@ raise-each-requires c κs =
     let h = q .before .before in
     let w = the-span (h .before .before .before .before .before .before .before .before) in
     span-ready blockLimit w (q .raise .ensures) (r .raise2 .ensures) (span-part blockLimit w _ _ (h .before .within .ensures) (not-false _ (h .if3 .left)))
-
-same-length-2 : tie.Need-same-length-2
-same-length-2 c = search needs
 
 returns-4 : tie.Need-returns-4
 returns-4 c =
@@ -149,11 +140,11 @@ raise-span-spec =
     sub-within
     part-within-start
     part-within-end
-    within-requires
-    same-length
+    (λ c κs. search needs)
+    (λ c. search needs)
     returns-3
     raise-requires
     raise-requires-2
     raise-each-requires
-    same-length-2
+    (λ c. search needs)
     returns-4)

@@ -57,9 +57,6 @@ raise-requires-2 c κs =
     let i = inside a in
     later-ready (a .before .before .before .args .h .now) _ _ _ (r .raise .ensures) (i .0) (i .1) (o .if2 .left)
 
-same-length : tie.Need-same-length
-same-length c = search needs
-
 returns-3 : tie.Need-returns-3
 returns-3 c =
     let r = c .before .before .before .before .before .before in
@@ -83,5 +80,5 @@ raise-two-spec =
     returns-2
     raise-requires
     raise-requires-2
-    same-length
+    (λ c. search needs)
     returns-3)

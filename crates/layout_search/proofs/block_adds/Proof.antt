@@ -16,53 +16,14 @@ small s =
     let h = s .pre .0 in
     (h .fixed-most i (omega arith), h .before-most i (omega arith), h .after-most i (omega arith), h .added-most i (omega arith))
 
-mul-t : tie.Need-mul-t
-mul-t c = search needs
-
-add-times : tie.Need-add-times
-add-times c = search needs
-
-mul-times : tie.Need-mul-times
-mul-times c = search needs
-
-shared-slice-read-times : tie.Need-shared-slice-read-times
-shared-slice-read-times c = search needs
-
 times-requires : tie.Need-times-requires
 times-requires c κs = omega (arith, small (c .before .before))
-
-add-times-2 : tie.Need-add-times-2
-add-times-2 c = search needs
-
-mul-times-2 : tie.Need-mul-times-2
-mul-times-2 c = search needs
-
-shared-slice-read-times-2 : tie.Need-shared-slice-read-times-2
-shared-slice-read-times-2 c = search needs
 
 times-requires-2 : tie.Need-times-requires-2
 times-requires-2 c κs = omega (arith, small (c .before .before .before .before))
 
-add-times-3 : tie.Need-add-times-3
-add-times-3 c = search needs
-
-mul-times-3 : tie.Need-mul-times-3
-mul-times-3 c = search needs
-
-shared-slice-read-times-3 : tie.Need-shared-slice-read-times-3
-shared-slice-read-times-3 c = search needs
-
 times-requires-3 : tie.Need-times-requires-3
 times-requires-3 c κs = omega (arith, small (c .before .before .before .before .before .before))
-
-add-result : tie.Need-add-result
-add-result c = search needs
-
-mul-result : tie.Need-mul-result
-mul-result c = search needs
-
-shared-slice-read-result : tie.Need-shared-slice-read-result
-shared-slice-read-result c = search needs
 
 add-result-2 : tie.Need-add-result-2
 add-result-2 c = omega (arith, small (c .before .before .before .before .before .before .before .before))
@@ -87,22 +48,22 @@ pub block-adds-spec : {M : Type 1} → statement M
 block-adds-spec =
     tie.close
     (tie.spec
-    mul-t
-    add-times
-    mul-times
-    shared-slice-read-times
+    (λ c. search needs)
+    (λ c. search needs)
+    (λ c. search needs)
+    (λ c. search needs)
     times-requires
-    add-times-2
-    mul-times-2
-    shared-slice-read-times-2
+    (λ c. search needs)
+    (λ c. search needs)
+    (λ c. search needs)
     times-requires-2
-    add-times-3
-    mul-times-3
-    shared-slice-read-times-3
+    (λ c. search needs)
+    (λ c. search needs)
+    (λ c. search needs)
     times-requires-3
-    add-result
-    mul-result
-    shared-slice-read-result
+    (λ c. search needs)
+    (λ c. search needs)
+    (λ c. search needs)
     add-result-2
     add-result-3
     add-result-4

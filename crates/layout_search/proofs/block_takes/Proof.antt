@@ -5,18 +5,6 @@ use Rattle.layout_search.specs.Terms.{takesOf}
 use Rattle.layout_search.proofs.block_takes.Statement.{statement}
 use Rattle.layout_search.proofs.block_takes.Tie as tie
 
-mul-t : tie.Need-mul-t
-mul-t c = search needs
-
-add-times : tie.Need-add-times
-add-times c = search needs
-
-mul-times : tie.Need-mul-times
-mul-times c = search needs
-
-shared-slice-read-times : tie.Need-shared-slice-read-times
-shared-slice-read-times c = search needs
-
 times-requires : tie.Need-times-requires
 times-requires c κs = let s = c .before .before in omega (arith, s .pre .0 .saved-most (s .args .i) (omega arith))
 
@@ -26,4 +14,4 @@ returns c = (c .times .ensures .0, omega arith)
 
 pub block-takes-spec : {M : Type 1} → statement M
 block-takes-spec =
-    tie.close (tie.spec mul-t add-times mul-times shared-slice-read-times times-requires returns)
+    tie.close (tie.spec (λ c. search needs) (λ c. search needs) (λ c. search needs) (λ c. search needs) times-requires returns)

@@ -11,35 +11,20 @@ use Rattle.layout_search.proofs.TermLaws.{holds-less, priced-as}
 use Rattle.layout_search.proofs.candidate.Statement.{statement}
 use Rattle.layout_search.proofs.candidate.Tie as tie
 
-partition-ok-requires : tie.Need-partition-ok-requires
-partition-ok-requires c κs = search needs
-
 returns : tie.Need-returns
 returns c =
     offer-not-ok _ _ _ _ _ _
     (sym (c .before .partition-ok .ensures) ∙ not-true (c .before .partition-ok .result) (c .if1 .taken)) refl
-
-add-entry : tie.Need-add-entry
-add-entry c = search needs
-
-entry-requires : tie.Need-entry-requires
-entry-requires c κs = search needs
 
 returns-2 : tie.Need-returns-2
 returns-2 c =
     let s = c .before .before .before .before .before .before .before in
     offer-no-rest _ _ _ _ _ _ (s .pre .1 .1 (s .args .e + 1) (omega arith)) (omega (arith, c .before .entry .ensures)) refl
 
-add-price : tie.Need-add-price
-add-price c = search needs
-
 price-requires : tie.Need-price-requires
 price-requires c κs =
     let given = c .before .before .before .before .before .before .before .pre in
     (holds-less _ _ _ (given .0) (omega arith), omega arith)
-
-add-result : tie.Need-add-result
-add-result c = search needs
 
 sub-result : tie.Need-sub-result
 sub-result c =
@@ -74,13 +59,13 @@ pub candidate-spec : {M : Type 1} → statement M
 candidate-spec =
     tie.close
     (tie.spec
-    partition-ok-requires
+    (λ c κs. search needs)
     returns
-    add-entry
-    entry-requires
+    (λ c. search needs)
+    (λ c κs. search needs)
     returns-2
-    add-price
+    (λ c. search needs)
     price-requires
-    add-result
+    (λ c. search needs)
     sub-result
     returns-3)

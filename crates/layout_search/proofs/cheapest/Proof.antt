@@ -37,15 +37,6 @@ least c =
     let s = at-start c in
     settled (the-task s) (s .args .most) _ _ (the-table c) (limited c .lesser .ensures) (filled c .fill .ensures) (c .fewest .ensures)
 
-lesser-requires : tie.Need-lesser-requires
-lesser-requires c κs = search needs
-
-fill-requires : tie.Need-fill-requires
-fill-requires c κs = search needs
-
-fewest-requires : tie.Need-fewest-requires
-fewest-requires c κs = search needs
-
 entry-requires : tie.Need-entry-requires
 entry-requires c κs =
     let f = c .before in
@@ -54,23 +45,11 @@ entry-requires c κs =
     let inside = f .fewest .ensures .inside in
     omega (arith, rows-below n (f .fewest .result) n (omega (arith, inside, few)), inside, few, filled f .fill .kept .1 .1 .1 .1 .0)
 
-refused-requires : tie.Need-refused-requires
-refused-requires c κs = search needs
-
-same-length : tie.Need-same-length
-same-length c = search needs
-
 returns : tie.Need-returns
 returns c =
     let e = c .before .before in
     let f = e .before .before in
     answered-nothing _ _ _ _ _ (at-start f .args .out .now) (least f) _ (omega (arith, e .entry .ensures)) (c .refused .ensures)
-
-refused-requires-2 : tie.Need-refused-requires-2
-refused-requires-2 c κs = search needs
-
-same-length-2 : tie.Need-same-length-2
-same-length-2 c = search needs
 
 returns-2 : tie.Need-returns-2
 returns-2 c =
@@ -91,18 +70,6 @@ write-ends-requires c κs =
       ),
     )
 
-unbiased-requires : tie.Need-unbiased-requires
-unbiased-requires c κs = search needs
-
-cast-t25 : tie.Need-cast-t25
-cast-t25 c = search needs
-
-same-length-3 : tie.Need-same-length-3
-same-length-3 c = search needs
-
-same-length-4 : tie.Need-same-length-4
-same-length-4 c = search needs
-
 returns-3 : tie.Need-returns-3
 returns-3 c =
     let w = c .before .before .before in
@@ -115,19 +82,19 @@ pub cheapest-spec : {M : Type 1} → statement M
 cheapest-spec =
     tie.close
     (tie.spec
-    lesser-requires
-    fill-requires
-    fewest-requires
+    (λ c κs. search needs)
+    (λ c κs. search needs)
+    (λ c κs. search needs)
     entry-requires
-    refused-requires
-    same-length
+    (λ c κs. search needs)
+    (λ c. search needs)
     returns
-    refused-requires-2
-    same-length-2
+    (λ c κs. search needs)
+    (λ c. search needs)
     returns-2
     write-ends-requires
-    unbiased-requires
-    cast-t25
-    same-length-3
-    same-length-4
+    (λ c κs. search needs)
+    (λ c. search needs)
+    (λ c. search needs)
+    (λ c. search needs)
     returns-3)

@@ -26,12 +26,6 @@ returns-3 c =
     let a = c .before .before .before .args in
     val-none (a .n) (a .table .now) (a .k) (a .a) (c .before .if1 .left) (c .if3 .taken)
 
-sub-index : tie.Need-sub-index
-sub-index c = search needs
-
-index-requires : tie.Need-index-requires
-index-requires c κs = search needs
-
 mul-result : tie.Need-mul-result
 mul-result c = omega (arith, below c)
 
@@ -51,8 +45,8 @@ entry-spec =
     returns
     returns-2
     returns-3
-    sub-index
-    index-requires
+    (λ c. search needs)
+    (λ c κs. search needs)
     mul-result
     shared-slice-read-result
     returns-4)

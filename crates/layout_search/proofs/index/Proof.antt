@@ -16,8 +16,5 @@ mul-result c = omega (arith, few c)
 add-result : tie.Need-add-result
 add-result c = omega (arith, few c)
 
-returns : tie.Need-returns
-returns c = search needs
-
 pub index-spec : {M : Type 1} → statement M
-index-spec = tie.close (tie.spec mul-result add-result returns)
+index-spec = tie.close (tie.spec mul-result add-result (λ c. search needs))

@@ -7,15 +7,6 @@ use Rattle.layout_search.proofs.TermLaws.{ok-yes, ok-no}
 use Rattle.layout_search.proofs.partition_ok.Statement.{statement}
 use Rattle.layout_search.proofs.partition_ok.Tie as tie
 
-add-if1 : tie.Need-add-if1
-add-if1 c = search needs
-
-sub-if1 : tie.Need-sub-if1
-sub-if1 c = search needs
-
-shared-slice-read-result : tie.Need-shared-slice-read-result
-shared-slice-read-result c = search needs
-
 returns : tie.Need-returns
 returns c =
     let a = c .before .before .args in
@@ -27,4 +18,4 @@ returns-2 c =
     (omega arith)
 
 pub partition-ok-spec : {M : Type 1} → statement M
-partition-ok-spec = tie.close (tie.spec add-if1 sub-if1 shared-slice-read-result returns returns-2)
+partition-ok-spec = tie.close (tie.spec (λ c. search needs) (λ c. search needs) (λ c. search needs) returns returns-2)

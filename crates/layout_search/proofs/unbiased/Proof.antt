@@ -4,9 +4,6 @@ use Rattle.layout_search.proofs.Bias.{unbiased-fits, unbiased-is}
 use Rattle.layout_search.proofs.unbiased.Statement.{statement}
 use Rattle.layout_search.proofs.unbiased.Tie as tie
 
-cast-result : tie.Need-cast-result
-cast-result c = search needs
-
 sub-result : tie.Need-sub-result
 sub-result c = unbiased-fits (c .args .m) (c .pre)
 
@@ -14,4 +11,4 @@ returns : tie.Need-returns
 returns c = unbiased-is (c .args .m) (c .pre)
 
 pub unbiased-spec : {M : Type 1} → statement M
-unbiased-spec = tie.close (tie.spec cast-result sub-result returns)
+unbiased-spec = tie.close (tie.spec (λ c. search needs) sub-result returns)

@@ -33,26 +33,14 @@ given c = let s = at-start c in cost-given blockLimit (s .args .card) (the-set s
 few : (c : tie.After-block-count) → c .block-count .result ≤ blockLimit
 few c = omega (arith, given (c .before) .0 .few, c .block-count .ensures)
 
-cost-refusal-requires : tie.Need-cost-refusal-requires
-cost-refusal-requires c κs = search needs
-
 returns : tie.Need-returns
 returns c = cost-refused _ _ _ _ _ _ (c .before .cost-refusal .ensures) (c .if1 .taken)
 
 block-count-requires : tie.Need-block-count-requires
 block-count-requires c κs = let y = given c .0 .size in omega (arith, y .block-least, y .block-most, y .used-fits, y .slots-most)
 
-cast-blocks : tie.Need-cast-blocks
-cast-blocks c = search needs
-
-slice-aggregate-load : tie.Need-slice-aggregate-load
-slice-aggregate-load c = search needs
-
 load-requires : tie.Need-load-requires
 load-requires c κs = let g = given (c .before .before) .0 in (g .counts, (g .prices, omega (arith, few (c .before))))
-
-slice-aggregate-layout-number : tie.Need-slice-aggregate-layout-number
-slice-aggregate-layout-number c = search needs
 
 layout-number-requires : tie.Need-layout-number-requires
 layout-number-requires c κs =
@@ -65,9 +53,6 @@ layout-number-requires c κs =
       holds = loaded-holds _ _ _ _ _ _ (l .ensures) (g .0 .prices) (g .0 .counts) (omega (arith, few n)) (omega (arith, few n));
       covers = rw (n .block-count .ensures) (layout-covers-blocks (the-set s) (s .args .ends .now) (g .1));
     }
-
-unbiased-requires : tie.Need-unbiased-requires
-unbiased-requires c κs = search needs
 
 returns-2 : tie.Need-returns-2
 returns-2 c =
@@ -82,13 +67,13 @@ pub cost-spec : {M : Type 1} → statement M
 cost-spec =
     tie.close
     (tie.spec
-    cost-refusal-requires
+    (λ c κs. search needs)
     returns
     block-count-requires
-    cast-blocks
-    slice-aggregate-load
+    (λ c. search needs)
+    (λ c. search needs)
     load-requires
-    slice-aggregate-layout-number
+    (λ c. search needs)
     layout-number-requires
-    unbiased-requires
+    (λ c κs. search needs)
     returns-2)

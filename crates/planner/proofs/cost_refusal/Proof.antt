@@ -26,24 +26,15 @@ past-layout : (c : tie.Else2) → (let cs = checks (c .before .before) in firstF
 unfolding applyChecks costChecks
 past-layout c = sym (apply-passed blockLimit _ _ _ (sym (c .before .layout-refusal .ensures) ∙ c .if2 .left)) ∙ past-prices (c .before .before)
 
-prices-ok-requires : tie.Need-prices-ok-requires
-prices-ok-requires c κs = search needs
-
 returns : tie.Need-returns
 unfolding costChecks
 returns c = fails 1 _ _ (sym (c .before .prices-ok .ensures) ∙ not-true _ (c .if1 .taken))
-
-layout-refusal-requires : tie.Need-layout-refusal-requires
-layout-refusal-requires c κs = search needs
 
 returns-2 : tie.Need-returns-2
 unfolding applyChecks costChecks
 returns-2 c =
     let e = c .before .layout-refusal .ensures in
     e ∙ failed-first _ (ask 9 _ ∷ []) (λ z. c .if2 .taken (e ∙ z)) ∙ past-prices (c .before .before)
-
-counts-ok-requires : tie.Need-counts-ok-requires
-counts-ok-requires c κs = search needs
 
 returns-3 : tie.Need-returns-3
 unfolding costChecks
@@ -57,10 +48,10 @@ pub cost-refusal-spec : {M : Type 1} → statement M
 cost-refusal-spec =
     tie.close
     (tie.spec
-    prices-ok-requires
+    (λ c κs. search needs)
     returns
-    layout-refusal-requires
+    (λ c κs. search needs)
     returns-2
-    counts-ok-requires
+    (λ c κs. search needs)
     returns-3
     returns-4)

@@ -6,14 +6,8 @@ use borrow.Author.Needs.{needs}
 use Rattle.planner.proofs.given_ok.Statement.{statement}
 use Rattle.planner.proofs.given_ok.Tie as tie
 
-prices-ok-requires : tie.Need-prices-ok-requires
-prices-ok-requires c κs = search needs
-
 returns : tie.Need-returns
 returns c = and-no _ _ (sym (c .before .prices-ok .ensures) ∙ not-true _ (c .if1 .taken))
-
-limits-ok-requires : tie.Need-limits-ok-requires
-limits-ok-requires c κs = search needs
 
 returns-2 : tie.Need-returns-2
 returns-2 c =
@@ -21,4 +15,4 @@ returns-2 c =
     c .limits-ok .ensures ∙ and-yes _ _ (sym (prices-ok .ensures) ∙ not-false _ (c .before .if1 .left))
 
 pub given-ok-spec : {M : Type 1} → statement M
-given-ok-spec = tie.close (tie.spec prices-ok-requires returns limits-ok-requires returns-2)
+given-ok-spec = tie.close (tie.spec (λ c κs. search needs) returns (λ c κs. search needs) returns-2)

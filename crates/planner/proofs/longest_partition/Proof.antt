@@ -7,9 +7,6 @@ use borrow.Author.Needs.{needs}
 use Rattle.planner.proofs.longest_partition.Statement.{statement}
 use Rattle.planner.proofs.longest_partition.Tie as tie
 
-div-result : tie.Need-div-result
-div-result c = search needs
-
 cast-result : tie.Need-cast-result
 cast-result c =
     let a = c .before .before .before .before .before .before .args in
@@ -22,4 +19,4 @@ returns-2 : tie.Need-returns-2
 returns-2 c = let a = c .before .before .before .args in longest-none (a .card) (a .limits) (omega arith)
 
 pub longest-partition-spec : {M : Type 1} → statement M
-longest-partition-spec = tie.close (tie.spec div-result cast-result returns returns-2)
+longest-partition-spec = tie.close (tie.spec (λ c. search needs) cast-result returns returns-2)

@@ -7,18 +7,9 @@ use borrow.Author.Needs.{needs}
 use Rattle.planner.proofs.most_partitions.Statement.{statement}
 use Rattle.planner.proofs.most_partitions.Tie as tie
 
-add-x : tie.Need-add-x
-add-x c = search needs
-
-div-x : tie.Need-div-x
-div-x c = search needs
-
 returns : tie.Need-returns
 unfolding mostPartitions
 returns c = omega arith
-
-sub-result : tie.Need-sub-result
-sub-result c = search needs
 
 cast-result : tie.Need-cast-result
 cast-result c =
@@ -30,4 +21,4 @@ unfolding mostPartitions
 returns-2 c = omega arith
 
 pub most-partitions-spec : {M : Type 1} → statement M
-most-partitions-spec = tie.close (tie.spec add-x div-x returns sub-result cast-result returns-2)
+most-partitions-spec = tie.close (tie.spec (λ c. search needs) (λ c. search needs) returns (λ c. search needs) cast-result returns-2)

@@ -31,20 +31,11 @@ given c = let s = at-start c in plan-given blockLimit (s .args .card) (the-set s
 few : (c : tie.After-block-count) → (1 ≤ c .block-count .result) × (c .block-count .result ≤ blockLimit)
 few c = let g = given (c .before) in omega (arith, g .some, g .few, c .block-count .ensures)
 
-plan-refusal-requires : tie.Need-plan-refusal-requires
-plan-refusal-requires c κs = search needs
-
-refused-requires : tie.Need-refused-requires
-refused-requires c κs = search needs
-
 returns : tie.Need-returns
 returns c = plan-not-given _ _ _ _ _ _ _ _ (c .before .before .plan-refusal .ensures) (c .before .if1 .taken) (c .refused .ensures)
 
 block-count-requires : tie.Need-block-count-requires
 block-count-requires c κs = let y = given c .size in omega (arith, y .block-least, y .block-most, y .used-fits, y .slots-most)
-
-cast-n : tie.Need-cast-n
-cast-n c = search needs
 
 longest-partition-requires : tie.Need-longest-partition-requires
 longest-partition-requires c κs = given (c .before) .prices
@@ -52,29 +43,14 @@ longest-partition-requires c κs = given (c .before) .prices
 most-partitions-requires : tie.Need-most-partitions-requires
 most-partitions-requires c κs = given (c .before .before) .prices
 
-slice-aggregate-load : tie.Need-slice-aggregate-load
-slice-aggregate-load c = search needs
-
 load-requires : tie.Need-load-requires
 load-requires c κs =
     let n = c .before .before .before in
     let g = given (n .before) in
     (g .counts, (g .prices, omega (arith, few n)))
 
-slice-aggregate-mark : tie.Need-slice-aggregate-mark
-slice-aggregate-mark c = search needs
-
 mark-requires : tie.Need-mark-requires
 mark-requires c κs = let n = c .before .before .before .before .before .before in (given (n .before) .size, omega (arith, few n))
-
-slice-aggregate-cheapest : tie.Need-slice-aggregate-cheapest
-slice-aggregate-cheapest c = search needs
-
-slice-aggregate-cheapest-2 : tie.Need-slice-aggregate-cheapest-2
-slice-aggregate-cheapest-2 c = search needs
-
-slice-aggregate-cheapest-3 : tie.Need-slice-aggregate-cheapest-3
-slice-aggregate-cheapest-3 c = search needs
 
 cheapest-requires : tie.Need-cheapest-requires
 cheapest-requires c κs =
@@ -84,9 +60,6 @@ cheapest-requires c κs =
     let f = few n in
     let room : n .block-count .result * n .block-count .result ≤ blockLimit * blockLimit = mul-le-mul {n₂ = blockLimit} {m₂ = blockLimit} (f .1) (f .1) in
     (loaded-holds _ _ _ _ _ _ (l .ensures) (g .prices) (g .counts) (omega (arith, f)) (omega (arith, f)), omega (arith, f, room))
-
-same-length : tie.Need-same-length
-same-length c = search needs
 
 returns-2 : tie.Need-returns-2
 returns-2 c =
@@ -104,20 +77,20 @@ pub plan-spec : {M : Type 1} → statement M
 plan-spec =
     tie.close
     (tie.spec
-    plan-refusal-requires
-    refused-requires
+    (λ c κs. search needs)
+    (λ c κs. search needs)
     returns
     block-count-requires
-    cast-n
+    (λ c. search needs)
     longest-partition-requires
     most-partitions-requires
-    slice-aggregate-load
+    (λ c. search needs)
     load-requires
-    slice-aggregate-mark
+    (λ c. search needs)
     mark-requires
-    slice-aggregate-cheapest
-    slice-aggregate-cheapest-2
-    slice-aggregate-cheapest-3
+    (λ c. search needs)
+    (λ c. search needs)
+    (λ c. search needs)
     cheapest-requires
-    same-length
+    (λ c. search needs)
     returns-2)

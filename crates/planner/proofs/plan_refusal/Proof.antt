@@ -7,14 +7,8 @@ use Rattle.planner.proofs.Given.{counted-given}
 use Rattle.planner.proofs.plan_refusal.Statement.{statement}
 use Rattle.planner.proofs.plan_refusal.Tie as tie
 
-given-ok-requires : tie.Need-given-ok-requires
-given-ok-requires c κs = search needs
-
 returns : tie.Need-returns
 returns c = fails 1 _ _ (sym (c .before .given-ok .ensures) ∙ not-true _ (c .if1 .taken))
-
-counted-refusal-requires : tie.Need-counted-refusal-requires
-counted-refusal-requires c κs = search needs
 
 returns-2 : tie.Need-returns-2
 returns-2 c =
@@ -23,4 +17,4 @@ returns-2 c =
 
 pub plan-refusal-spec : {M : Type 1} → statement M
 plan-refusal-spec =
-    tie.close (tie.spec given-ok-requires returns counted-refusal-requires returns-2)
+    tie.close (tie.spec (λ c κs. search needs) returns (λ c κs. search needs) returns-2)

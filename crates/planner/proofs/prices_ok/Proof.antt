@@ -11,20 +11,11 @@ use Rattle.planner.proofs.prices_ok.Tie as tie
 rr-ok : (c : tie.Else1) → priceOk (c .before .before .args .card .rr) ≡ true
 rr-ok c = sym (c .before .price-ok .ensures) ∙ not-false _ (c .if1 .left)
 
-price-ok-requires : tie.Need-price-ok-requires
-price-ok-requires c κs = search needs
-
 returns : tie.Need-returns
 returns c = rr-fails _ (sym (c .before .price-ok .ensures) ∙ not-true _ (c .if1 .taken))
 
-price-ok-requires-2 : tie.Need-price-ok-requires-2
-price-ok-requires-2 c κs = search needs
-
 returns-2 : tie.Need-returns-2
 returns-2 c = sr-fails _ (rr-ok (c .before .before)) (sym (c .before .price-ok2 .ensures) ∙ not-true _ (c .if2 .taken))
-
-price-ok-requires-3 : tie.Need-price-ok-requires-3
-price-ok-requires-3 c κs = search needs
 
 returns-3 : tie.Need-returns-3
 returns-3 c =
@@ -35,9 +26,9 @@ pub prices-ok-spec : {M : Type 1} → statement M
 prices-ok-spec =
     tie.close
     (tie.spec
-    price-ok-requires
+    (λ c κs. search needs)
     returns
-    price-ok-requires-2
+    (λ c κs. search needs)
     returns-2
-    price-ok-requires-3
+    (λ c κs. search needs)
     returns-3)

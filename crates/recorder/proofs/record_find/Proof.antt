@@ -16,12 +16,6 @@ decision : (c : tie.After-counted-refusal)
 unfolding ordered offeredOk
 decision c = decided blockLimit _ _ _ _ _ _ refl refl (c .counted-refusal .ensures)
 
-counted-refusal-requires : tie.Need-counted-refusal-requires
-counted-refusal-requires c κs = search needs
-
-same-length : tie.Need-same-length
-same-length c = search needs
-
 returns : tie.Need-returns
 returns c = decision (c .before) .refused (c .if1 .taken)
 
@@ -34,9 +28,6 @@ raise-one-requires c κs =
     let p = decision (e .before) .passed (e .if1 .left) in
     (omega arith, p .below _ _ (c .before .block-of .ensures _ _), p .long)
 
-same-length-2 : tie.Need-same-length-2
-same-length-2 c = search needs
-
 returns-2 : tie.Need-returns-2
 returns-2 c =
     let b = c .before .before .before .before in
@@ -47,10 +38,10 @@ pub record-find-spec : {M : Type 1} → statement M
 record-find-spec =
     tie.close
     (tie.spec
-    counted-refusal-requires
-    same-length
+    (λ c κs. search needs)
+    (λ c. search needs)
     returns
     block-of-requires
     raise-one-requires
-    same-length-2
+    (λ c. search needs)
     returns-2)

@@ -16,15 +16,6 @@ decision : (c : tie.After-counted-refusal)
 unfolding ordered offeredOk
 decision c = decided blockLimit _ _ _ _ _ _ refl (c .before .before .in-range .ensures) (c .counted-refusal .ensures)
 
-in-range-requires : tie.Need-in-range-requires
-in-range-requires c κs = search needs
-
-counted-refusal-requires : tie.Need-counted-refusal-requires
-counted-refusal-requires c κs = search needs
-
-same-length : tie.Need-same-length
-same-length c = search needs
-
 returns : tie.Need-returns
 returns c = decision (c .before) .refused (c .if1 .taken)
 
@@ -37,9 +28,6 @@ raise-one-requires c κs =
     let p = decision (e .before) .passed (e .if1 .left) in
     (omega arith, p .below _ _ (c .before .block-of .ensures _ _), p .long)
 
-same-length-2 : tie.Need-same-length-2
-same-length-2 c = search needs
-
 returns-2 : tie.Need-returns-2
 returns-2 c =
     let b = c .before .before .before .before in
@@ -50,11 +38,11 @@ pub record-insert-spec : {M : Type 1} → statement M
 record-insert-spec =
     tie.close
     (tie.spec
-    in-range-requires
-    counted-refusal-requires
-    same-length
+    (λ c κs. search needs)
+    (λ c κs. search needs)
+    (λ c. search needs)
     returns
     block-of-requires
     raise-one-requires
-    same-length-2
+    (λ c. search needs)
     returns-2)

@@ -32,15 +32,6 @@ blocks c =
     let p = decision (e .before) .passed (e .if1 .left) in
     (p .below _ _ (b .block-of .ensures _ _), p .below _ _ (c .block-of2 .ensures _ _), p .long)
 
-in-range-requires : tie.Need-in-range-requires
-in-range-requires c κs = search needs
-
-counted-refusal-requires : tie.Need-counted-refusal-requires
-counted-refusal-requires c κs = search needs
-
-same-length : tie.Need-same-length
-same-length c = search needs
-
 returns : tie.Need-returns
 returns c = decision (c .before) .refused (c .if1 .taken)
 
@@ -60,9 +51,6 @@ raise-one-requires c κs =
     let p = decision (e .before) .passed (e .if1 .left) in
     (omega arith, p .below _ _ (b .block-of .ensures _ _), p .long)
 
-same-length-2 : tie.Need-same-length-2
-same-length-2 c = search needs
-
 returns-2 : tie.Need-returns-2
 returns-2 c =
     let t = c .before .before .before .before in
@@ -78,9 +66,6 @@ block-of-requires-2 c κs = let e = c .before .before .before in decision (e .be
 raise-two-requires : tie.Need-raise-two-requires
 raise-two-requires c κs = let b = blocks (c .before .before .before) in (omega arith, omega arith, b .0, b .1, b .2)
 
-same-length-3 : tie.Need-same-length-3
-same-length-3 c = search needs
-
 returns-3 : tie.Need-returns-3
 returns-3 c =
     let t = c .before .before .before .before in
@@ -94,9 +79,6 @@ returns-3 c =
 
 raise-two-requires-2 : tie.Need-raise-two-requires-2
 raise-two-requires-2 c κs = let b = blocks (c .before .before .before) in (omega arith, omega arith, b .0, b .1, b .2)
-
-same-length-4 : tie.Need-same-length-4
-same-length-4 c = search needs
 
 returns-4 : tie.Need-returns-4
 returns-4 c =
@@ -113,19 +95,19 @@ pub record-move-spec : {M : Type 1} → statement M
 record-move-spec =
     tie.close
     (tie.spec
-    in-range-requires
-    counted-refusal-requires
-    same-length
+    (λ c κs. search needs)
+    (λ c κs. search needs)
+    (λ c. search needs)
     returns
     block-of-requires
     has-delivery-requires
     raise-one-requires
-    same-length-2
+    (λ c. search needs)
     returns-2
     block-of-requires-2
     raise-two-requires
-    same-length-3
+    (λ c. search needs)
     returns-3
     raise-two-requires-2
-    same-length-4
+    (λ c. search needs)
     returns-4)

@@ -18,12 +18,6 @@ decision : (c : tie.After-counted-refusal)
 unfolding ordered offeredOk
 decision c = decided blockLimit _ _ _ _ _ _ refl refl (c .counted-refusal .ensures)
 
-counted-refusal-requires : tie.Need-counted-refusal-requires
-counted-refusal-requires c κs = search needs
-
-same-length : tie.Need-same-length
-same-length c = search needs
-
 returns : tie.Need-returns
 returns c = decision (c .before) .refused (c .if1 .taken)
 
@@ -39,9 +33,6 @@ raise-one-requires c κs =
     let e = b .before in
     let p = decision (e .before) .passed (e .if1 .left) in
     (omega arith, p .below _ _ (b .block-of .ensures _ _), p .long)
-
-same-length-2 : tie.Need-same-length-2
-same-length-2 c = search needs
 
 returns-2 : tie.Need-returns-2
 returns-2 c =
@@ -64,9 +55,6 @@ raise-span-requires c κs =
     let rise = p .rising (g .lo) (g .hi) (leb→le (g .lo) (g .hi) (p .in-order)) in
     (omega (arith, c .before .if2 .left, b .block-of .ensures (g .weights .now) (g .yields .now)), p .below (g .hi) _ q, p .long)
 
-same-length-3 : tie.Need-same-length-3
-same-length-3 c = search needs
-
 returns-3 : tie.Need-returns-3
 returns-3 c =
     let t = c .before .before .before .before in
@@ -80,14 +68,14 @@ pub record-range-spec : {M : Type 1} → statement M
 record-range-spec =
     tie.close
     (tie.spec
-    counted-refusal-requires
-    same-length
+    (λ c κs. search needs)
+    (λ c. search needs)
     returns
     block-of-requires
     block-of-requires-2
     raise-one-requires
-    same-length-2
+    (λ c. search needs)
     returns-2
     raise-span-requires
-    same-length-3
+    (λ c. search needs)
     returns-3)

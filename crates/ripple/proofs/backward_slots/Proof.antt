@@ -24,17 +24,11 @@ mul-backward-ripple c = omega (arith, inside c)
 in-growers : tie.Need-sub-backward-ripple
 in-growers c = inside c .0
 
-part-backward-ripple-end : tie.Need-part-backward-ripple-end
-part-backward-ripple-end c = search needs
-
 mul-backward-ripple-2 : tie.Need-mul-backward-ripple-2
 mul-backward-ripple-2 c = omega (arith, inside (c .before))
 
 in-weights : tie.Need-sub-backward-ripple-2
 in-weights c = inside (c .before) .1
-
-part-backward-ripple-end-2 : tie.Need-part-backward-ripple-end-2
-part-backward-ripple-end-2 c = search needs
 
 mul-backward-ripple-3 : tie.Need-mul-backward-ripple-3
 mul-backward-ripple-3 c = omega (arith, inside (c .before .before))
@@ -42,17 +36,8 @@ mul-backward-ripple-3 c = omega (arith, inside (c .before .before))
 in-yields : tie.Need-sub-backward-ripple-3
 in-yields c = inside (c .before .before) .2
 
-part-backward-ripple-end-3 : tie.Need-part-backward-ripple-end-3
-part-backward-ripple-end-3 c = search needs
-
-mul-backward-ripple-4 : tie.Need-mul-backward-ripple-4
-mul-backward-ripple-4 c = search needs
-
 in-lengths : tie.Need-sub-backward-ripple-4
 in-lengths c = search needs
-
-part-backward-ripple-end-4 : tie.Need-part-backward-ripple-end-4
-part-backward-ripple-end-4 c = search needs
 
 backward-ripple-requires : tie.Need-backward-ripple-requires
 backward-ripple-requires c κs =
@@ -97,19 +82,19 @@ backward-slots-spec =
     mul-backward-ripple
     in-growers
     in-growers
-    part-backward-ripple-end
+    (λ c. search needs)
     mul-backward-ripple-2
     in-weights
     in-weights
-    part-backward-ripple-end-2
+    (λ c. search needs)
     mul-backward-ripple-3
     in-yields
     in-yields
-    part-backward-ripple-end-3
-    mul-backward-ripple-4
+    (λ c. search needs)
+    (λ c. search needs)
     in-lengths
     in-lengths
-    part-backward-ripple-end-4
+    (λ c. search needs)
     backward-ripple-requires
     same-length
     same-length-2

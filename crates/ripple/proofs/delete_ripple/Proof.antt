@@ -46,9 +46,6 @@ loop-holds c = (
   lowered-start _ _ _ _ _,
 )
 
-mul-q : tie.Need-mul-q Inv-loop μ-loop
-mul-q c = search needs
-
 shared-slice-read-q : tie.Need-shared-slice-read-q Inv-loop μ-loop
 shared-slice-read-q c = omega arith
 
@@ -122,7 +119,7 @@ delete-ripple-spec =
     sub-p
     carry-requires
     loop-holds
-    mul-q
+    (λ c. search needs)
     shared-slice-read-q
     cast-q
     add-q

@@ -21,17 +21,11 @@ mul-delete-ripple c = omega (arith, inside c)
 in-growers : tie.Need-sub-delete-ripple
 in-growers c = inside c .0
 
-part-delete-ripple-end : tie.Need-part-delete-ripple-end
-part-delete-ripple-end c = search needs
-
 mul-delete-ripple-2 : tie.Need-mul-delete-ripple-2
 mul-delete-ripple-2 c = omega (arith, inside (c .before))
 
 in-weights : tie.Need-sub-delete-ripple-2
 in-weights c = inside (c .before) .1
-
-part-delete-ripple-end-2 : tie.Need-part-delete-ripple-end-2
-part-delete-ripple-end-2 c = search needs
 
 mul-delete-ripple-3 : tie.Need-mul-delete-ripple-3
 mul-delete-ripple-3 c = omega (arith, inside (c .before .before))
@@ -39,17 +33,8 @@ mul-delete-ripple-3 c = omega (arith, inside (c .before .before))
 in-yields : tie.Need-sub-delete-ripple-3
 in-yields c = inside (c .before .before) .2
 
-part-delete-ripple-end-3 : tie.Need-part-delete-ripple-end-3
-part-delete-ripple-end-3 c = search needs
-
-mul-delete-ripple-4 : tie.Need-mul-delete-ripple-4
-mul-delete-ripple-4 c = search needs
-
 in-lengths : tie.Need-sub-delete-ripple-4
 in-lengths c = search needs
-
-part-delete-ripple-end-4 : tie.Need-part-delete-ripple-end-4
-part-delete-ripple-end-4 c = search needs
 
 delete-ripple-requires : tie.Need-delete-ripple-requires
 delete-ripple-requires c κs =
@@ -87,19 +72,19 @@ delete-slots-spec =
     mul-delete-ripple
     in-growers
     in-growers
-    part-delete-ripple-end
+    (λ c. search needs)
     mul-delete-ripple-2
     in-weights
     in-weights
-    part-delete-ripple-end-2
+    (λ c. search needs)
     mul-delete-ripple-3
     in-yields
     in-yields
-    part-delete-ripple-end-3
-    mul-delete-ripple-4
+    (λ c. search needs)
+    (λ c. search needs)
     in-lengths
     in-lengths
-    part-delete-ripple-end-4
+    (λ c. search needs)
     delete-ripple-requires
     same-length
     same-length-2

@@ -29,15 +29,6 @@ slice-aggregate-delete-slots c = sym (length-take-le _ _ (omega arith))
 delete-slots-requires : tie.Need-delete-slots-requires
 delete-slots-requires c κs = let s = c .before .before .before .before .before .before .before .before .before in shortened s (s .args .to) (omega arith) (omega arith)
 
-same-length : tie.Need-same-length
-same-length c = search needs
-
-same-length-2 : tie.Need-same-length-2
-same-length-2 c = search needs
-
-same-length-3 : tie.Need-same-length-3
-same-length-3 c = search needs
-
 returns : tie.Need-returns
 returns c =
     let b = c .before .before .before .before .before .before in
@@ -52,23 +43,11 @@ returns c =
       e .2 ∙ sym (law (a .d .«oil_yield») (a .y .now) h k),
     )
 
-add-v : tie.Need-add-v
-add-v c = search needs
-
 slice-aggregate-delete-slots-2 : tie.Need-slice-aggregate-delete-slots-2
 slice-aggregate-delete-slots-2 c = sym (length-take-le _ _ (omega arith))
 
 delete-slots-requires-2 : tie.Need-delete-slots-requires-2
 delete-slots-requires-2 c κs = let s = c .before .before .before .before .before .before .before .before .before in shortened s (s .args .from + 1) (omega arith) (omega arith)
-
-same-length-4 : tie.Need-same-length-4
-same-length-4 c = search needs
-
-same-length-5 : tie.Need-same-length-5
-same-length-5 c = search needs
-
-same-length-6 : tie.Need-same-length-6
-same-length-6 c = search needs
 
 returns-2 : tie.Need-returns-2
 returns-2 c =
@@ -90,14 +69,14 @@ forward-slots-spec =
     (tie.spec
     slice-aggregate-delete-slots
     delete-slots-requires
-    same-length
-    same-length-2
-    same-length-3
+    (λ c. search needs)
+    (λ c. search needs)
+    (λ c. search needs)
     returns
-    add-v
+    (λ c. search needs)
     slice-aggregate-delete-slots-2
     delete-slots-requires-2
-    same-length-4
-    same-length-5
-    same-length-6
+    (λ c. search needs)
+    (λ c. search needs)
+    (λ c. search needs)
     returns-2)

@@ -21,9 +21,6 @@ loop-holds c = (spot-last _ _ (omega arith) (omega arith), omega arith, lifted-s
 sub-j : tie.Need-sub-j Inv-loop μ-loop
 sub-j c = omega arith
 
-mul-first-slot : tie.Need-mul-first-slot Inv-loop μ-loop
-mul-first-slot c = search needs
-
 shared-slice-read-first-slot : tie.Need-shared-slice-read-first-slot Inv-loop μ-loop
 shared-slice-read-first-slot c = omega arith
 
@@ -83,7 +80,7 @@ insert-ripple-spec =
     μ-loop
     loop-holds
     sub-j
-    mul-first-slot
+    (λ c. search needs)
     shared-slice-read-first-slot
     first-slot-requires
     carry-requires

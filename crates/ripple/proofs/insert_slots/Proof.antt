@@ -24,17 +24,11 @@ mul-insert-ripple c = omega (arith, inside c)
 in-growers : tie.Need-sub-insert-ripple
 in-growers c = inside c .0
 
-part-insert-ripple-end : tie.Need-part-insert-ripple-end
-part-insert-ripple-end c = search needs
-
 mul-insert-ripple-2 : tie.Need-mul-insert-ripple-2
 mul-insert-ripple-2 c = omega (arith, inside (c .before))
 
 in-weights : tie.Need-sub-insert-ripple-2
 in-weights c = inside (c .before) .1
-
-part-insert-ripple-end-2 : tie.Need-part-insert-ripple-end-2
-part-insert-ripple-end-2 c = search needs
 
 mul-insert-ripple-3 : tie.Need-mul-insert-ripple-3
 mul-insert-ripple-3 c = omega (arith, inside (c .before .before))
@@ -42,17 +36,8 @@ mul-insert-ripple-3 c = omega (arith, inside (c .before .before))
 in-yields : tie.Need-sub-insert-ripple-3
 in-yields c = inside (c .before .before) .2
 
-part-insert-ripple-end-3 : tie.Need-part-insert-ripple-end-3
-part-insert-ripple-end-3 c = search needs
-
-mul-insert-ripple-4 : tie.Need-mul-insert-ripple-4
-mul-insert-ripple-4 c = search needs
-
 in-lengths : tie.Need-sub-insert-ripple-4
 in-lengths c = search needs
-
-part-insert-ripple-end-4 : tie.Need-part-insert-ripple-end-4
-part-insert-ripple-end-4 c = search needs
 
 insert-ripple-requires : tie.Need-insert-ripple-requires
 insert-ripple-requires c κs =
@@ -91,19 +76,19 @@ insert-slots-spec =
     mul-insert-ripple
     in-growers
     in-growers
-    part-insert-ripple-end
+    (λ c. search needs)
     mul-insert-ripple-2
     in-weights
     in-weights
-    part-insert-ripple-end-2
+    (λ c. search needs)
     mul-insert-ripple-3
     in-yields
     in-yields
-    part-insert-ripple-end-3
-    mul-insert-ripple-4
+    (λ c. search needs)
+    (λ c. search needs)
     in-lengths
     in-lengths
-    part-insert-ripple-end-4
+    (λ c. search needs)
     insert-ripple-requires
     same-length
     same-length-2

@@ -22,22 +22,10 @@ abbrev μ-loop : tie.MeasureT-loop
 loop-holds : tie.Need-loop-holds Inv-loop μ-loop
 loop-holds c = flag-start _ _
 
-mul-separates-none : tie.Need-mul-separates-none Inv-loop μ-loop
-mul-separates-none c = search needs
-
-shared-slice-read-separates-none : tie.Need-shared-slice-read-separates-none Inv-loop μ-loop
-shared-slice-read-separates-none c = search needs
-
-separates-none-requires : tie.Need-separates-none-requires Inv-loop μ-loop
-separates-none-requires c κs = search needs
-
 returns : tie.Need-returns Inv-loop μ-loop
 returns c =
     let t = c .before .before .before in
     λ ws ys. flag-bad _ _ _ _ (t .loop-test .taken) (t .before .loop .inv) (sym (c .before .separates-none .ensures [] []) ∙ not-true _ (c .if1 .taken)) .so-far
-
-add-i : tie.Need-add-i Inv-loop μ-loop
-add-i c = search needs
 
 loop-less : tie.Need-loop-less Inv-loop μ-loop
 loop-less c = omega arith
@@ -57,11 +45,11 @@ all-separate-none-spec =
     Inv-loop
     μ-loop
     loop-holds
-    mul-separates-none
-    shared-slice-read-separates-none
-    separates-none-requires
+    (λ c. search needs)
+    (λ c. search needs)
+    (λ c κs. search needs)
     returns
-    add-i
+    (λ c. search needs)
     loop-less
     loop-again
     returns-2)

@@ -5,18 +5,9 @@ use Rattle.model.specs.Lists.{ceilDiv}
 use Rattle.sets.proofs.block_count.Statement.{statement}
 use Rattle.sets.proofs.block_count.Tie as tie
 
-sub-result : tie.Need-sub-result
-sub-result c = search needs
-
-add-result : tie.Need-add-result
-add-result c = search needs
-
-div-result : tie.Need-div-result
-div-result c = search needs
-
 returns : tie.Need-returns
 unfolding ceilDiv
 returns c = refl
 
 pub block-count-spec : {M : Type 1} → statement M
-block-count-spec = tie.close (tie.spec sub-result add-result div-result returns)
+block-count-spec = tie.close (tie.spec (λ c. search needs) (λ c. search needs) (λ c. search needs) returns)

@@ -16,28 +16,16 @@ Inv-loop block used g x last i₀ i = Seeking block used g x last i
 abbrev μ-loop : tie.MeasureT-loop
 μ-loop block used g x last i₀ i = last - i
 
-block-count-requires : tie.Need-block-count-requires Inv-loop μ-loop
-block-count-requires c κs = search needs
-
 sub-last : tie.Need-sub-last Inv-loop μ-loop
 sub-last c = omega (arith, c .block-count .ensures, blocks-least (c .before .before .pre))
 
 loop-holds : tie.Need-loop-holds Inv-loop μ-loop
 loop-holds c = record { at = omega arith; is-last = omega (arith, c .block-count .ensures, blocks-least (c .before .before .pre)); before = λ j h. absurd (omega arith) }
 
-last-grower-requires : tie.Need-last-grower-requires Inv-loop μ-loop
-last-grower-requires c κs = search needs
-
-cast-result : tie.Need-cast-result Inv-loop μ-loop
-cast-result c = search needs
-
 returns : tie.Need-returns Inv-loop μ-loop
 returns c =
     let t = c .before .before in
     λ ws ys. seek-found _ _ _ _ _ _ (t .before .loop .inv) ws ys (t .loop-test .taken) (rw (sym (c .before .last-grower .ensures [] [])) (c .if1 .taken))
-
-add-i : tie.Need-add-i Inv-loop μ-loop
-add-i c = search needs
 
 loop-less : tie.Need-loop-less Inv-loop μ-loop
 loop-less c = omega arith
@@ -46,9 +34,6 @@ loop-again : tie.Need-loop-again Inv-loop μ-loop
 loop-again c =
     let t = c .before .before in
     seek-next _ _ _ _ _ _ (t .before .loop .inv) (t .loop-test .taken) (rw (sym (c .before .last-grower .ensures [] [])) (c .if1 .left))
-
-cast-result-2 : tie.Need-cast-result-2 Inv-loop μ-loop
-cast-result-2 c = search needs
 
 returns-2 : tie.Need-returns-2 Inv-loop μ-loop
 returns-2 c = λ ws ys. seek-end _ _ _ _ _ _ (c .before .loop .inv) ws ys (c .loop-test .left)
@@ -59,14 +44,14 @@ block-of-spec =
     (tie.spec
     Inv-loop
     μ-loop
-    block-count-requires
+    (λ c κs. search needs)
     sub-last
     loop-holds
-    last-grower-requires
-    cast-result
+    (λ c κs. search needs)
+    (λ c. search needs)
     returns
-    add-i
+    (λ c. search needs)
     loop-less
     loop-again
-    cast-result-2
+    (λ c. search needs)
     returns-2)

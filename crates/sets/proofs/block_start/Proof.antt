@@ -11,8 +11,5 @@ mul-result c =
     let x : c .args .i * c .args .block ≤ 4294967296 * 4096 = mul-le-mul {n₂ = 4294967296} {m₂ = 4096} (omega arith) (omega arith) in
     omega arith
 
-returns : tie.Need-returns
-returns c = search needs
-
 pub block-start-spec : {M : Type 1} → statement M
-block-start-spec = tie.close (tie.spec mul-result returns)
+block-start-spec = tie.close (tie.spec mul-result (λ c. search needs))

@@ -41,9 +41,6 @@ values c = sym (and-yes _ _ (sym (c .before .set-values-ok .ensures _) ∙ not-f
 past-values : (c : tie.Else4) → (let cs = checks (c .before .before .before .before) in firstFailed (drop 6 cs) ≡ firstFailed cs)
 past-values c = passes 8 _ _ _ (values (c .before) ∙ not-false _ (c .if4 .left)) refl ∙ past-order (c .before .before .before)
 
-set-refusal-requires : tie.Need-set-refusal-requires
-set-refusal-requires c κs = search needs
-
 returns : tie.Need-returns
 returns c = decision (c .before) .refused _ (c .if1 .taken)
 
@@ -59,9 +56,6 @@ returns-3 c = fails 8 _ _ (sym (and-no _ _ (sym (c .before .set-values-ok .ensur
 returns-4 : tie.Need-returns-4
 returns-4 c = fails 8 _ _ (values (c .before) ∙ not-true _ (c .if4 .taken)) ∙ past-order (c .before .before .before)
 
-counts-ok-requires : tie.Need-counts-ok-requires
-counts-ok-requires c κs = search needs
-
 returns-5 : tie.Need-returns-5
 returns-5 c = fails 9 _ _ (sym (c .before .counts-ok .ensures) ∙ not-true _ (c .if5 .taken)) ∙ past-values (c .before .before)
 
@@ -72,12 +66,12 @@ pub counted-refusal-spec : {M : Type 1} → statement M
 counted-refusal-spec =
     tie.close
     (tie.spec
-    set-refusal-requires
+    (λ c κs. search needs)
     returns
     returns-2
     set-values-ok-requires
     returns-3
     returns-4
-    counts-ok-requires
+    (λ c κs. search needs)
     returns-5
     returns-6)

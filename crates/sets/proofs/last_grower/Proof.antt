@@ -8,17 +8,8 @@ use lib.ListN.{getD}
 use Rattle.sets.proofs.last_grower.Statement.{statement}
 use Rattle.sets.proofs.last_grower.Tie as tie
 
-block-stop-requires : tie.Need-block-stop-requires
-block-stop-requires c κs = search needs
-
-cast-x : tie.Need-cast-x
-cast-x c = search needs
-
 sub-x : tie.Need-sub-x
 sub-x c = omega (arith, c .block-stop .ensures [] [] [])
-
-mul-result : tie.Need-mul-result
-mul-result c = search needs
 
 shared-slice-read-result : tie.Need-shared-slice-read-result
 shared-slice-read-result c = omega (arith, c .before .block-stop .ensures [] [] [])
@@ -32,4 +23,4 @@ returns c =
 pub last-grower-spec : {M : Type 1} → statement M
 last-grower-spec =
     tie.close
-    (tie.spec block-stop-requires cast-x sub-x mul-result shared-slice-read-result returns)
+    (tie.spec (λ c κs. search needs) (λ c. search needs) sub-x (λ c. search needs) shared-slice-read-result returns)

@@ -17,17 +17,8 @@ rises c = sym (c .before .strictly-rising .ensures) ∙ not-false _ (c .if2 .lef
 returns : tie.Need-returns
 returns c = λ ws ys. layout-empty _ _ (c .if1 .taken)
 
-strictly-rising-requires : tie.Need-strictly-rising-requires
-strictly-rising-requires c κs = search needs
-
 returns-2 : tie.Need-returns-2
 returns-2 c = λ ws ys. layout-falls _ _ (c .before .before .if1 .left) (sym (c .before .strictly-rising .ensures) ∙ not-true _ (c .if2 .taken))
-
-mul-if3 : tie.Need-mul-if3
-mul-if3 c = search needs
-
-shared-slice-read-if3 : tie.Need-shared-slice-read-if3
-shared-slice-read-if3 c = search needs
 
 cast-if3 : tie.Need-cast-if3
 cast-if3 c = omega (arith, c .shared-slice-known3 .given (length (c .before .before .before .before .before .before .args .ends .now) - 1))
@@ -35,19 +26,10 @@ cast-if3 c = omega (arith, c .shared-slice-known3 .given (length (c .before .bef
 add-if3 : tie.Need-add-if3
 add-if3 c = omega (arith, c .shared-slice-known3 .given (length (c .before .before .before .before .before .before .args .ends .now) - 1))
 
-block-count-requires : tie.Need-block-count-requires
-block-count-requires c κs = search needs
-
-cast-if3-2 : tie.Need-cast-if3-2
-cast-if3-2 c = search needs
-
 returns-3 : tie.Need-returns-3
 returns-3 c =
     let e = c .before .before .before in
     λ ws ys. layout-short _ _ (e .before .before .if1 .left) (rises e) (λ z. c .if3 .taken (z ∙ sym (c .before .block-count .ensures)))
-
-all-separate-none-requires : tie.Need-all-separate-none-requires
-all-separate-none-requires c κs = search needs
 
 returns-4 : tie.Need-returns-4
 returns-4 c =
@@ -59,14 +41,14 @@ layout-ok-spec =
     tie.close
     (tie.spec
     returns
-    strictly-rising-requires
+    (λ c κs. search needs)
     returns-2
-    mul-if3
-    shared-slice-read-if3
+    (λ c. search needs)
+    (λ c. search needs)
     cast-if3
     add-if3
-    block-count-requires
-    cast-if3-2
+    (λ c κs. search needs)
+    (λ c. search needs)
     returns-3
-    all-separate-none-requires
+    (λ c κs. search needs)
     returns-4)

@@ -24,9 +24,6 @@ past-layout c =
     let e = c .before .before in
     passes 6 _ _ _ (sym (c .before .layout-ok .ensures _ _) ∙ not-false _ (c .if2 .left)) refl ∙ decision (e .before) .passed (e .if1 .left) .rest _
 
-set-refusal-requires : tie.Need-set-refusal-requires
-set-refusal-requires c κs = search needs
-
 returns : tie.Need-returns
 unfolding applyChecks
 returns c = decision (c .before) .refused _ (c .if1 .taken)
@@ -58,7 +55,7 @@ pub layout-refusal-spec : {M : Type 1} → statement M
 layout-refusal-spec =
     tie.close
     (tie.spec
-    set-refusal-requires
+    (λ c κs. search needs)
     returns
     layout-ok-requires
     returns-2

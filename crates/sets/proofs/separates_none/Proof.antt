@@ -5,29 +5,8 @@ use Rattle.sets.proofs.Sets.{ends-all, ends-between}
 use Rattle.sets.proofs.separates_none.Statement.{statement}
 use Rattle.sets.proofs.separates_none.Tie as tie
 
-add-block-start : tie.Need-add-block-start
-add-block-start c = search needs
-
-block-start-requires : tie.Need-block-start-requires
-block-start-requires c κs = search needs
-
 returns : tie.Need-returns
 returns c = λ ws ys. ends-all (setOf _ _ (c .before .before .before .args .g .now) ws ys) _ _ (c .before .block-start .ensures) (c .if1 .taken)
-
-sub-p : tie.Need-sub-p
-sub-p c = search needs
-
-mul-result : tie.Need-mul-result
-mul-result c = search needs
-
-shared-slice-read-result : tie.Need-shared-slice-read-result
-shared-slice-read-result c = search needs
-
-mul-result-2 : tie.Need-mul-result-2
-mul-result-2 c = search needs
-
-shared-slice-read-result-2 : tie.Need-shared-slice-read-result-2
-shared-slice-read-result-2 c = search needs
 
 returns-2 : tie.Need-returns-2
 returns-2 c =
@@ -38,12 +17,12 @@ pub separates-none-spec : {M : Type 1} → statement M
 separates-none-spec =
     tie.close
     (tie.spec
-    add-block-start
-    block-start-requires
+    (λ c. search needs)
+    (λ c κs. search needs)
     returns
-    sub-p
-    mul-result
-    shared-slice-read-result
-    mul-result-2
-    shared-slice-read-result-2
+    (λ c. search needs)
+    (λ c. search needs)
+    (λ c. search needs)
+    (λ c. search needs)
+    (λ c. search needs)
     returns-2)

@@ -33,14 +33,8 @@ past-used : (c : tie.Else3) → (let cs = checks (c .before .before .before .bef
 unfolding usedOk
 past-used c = passes 4 _ _ _ (sym (c .before .used-ok .ensures) ∙ not-false _ (c .if3 .left)) refl ∙ past-slices (c .before .before)
 
-block-length-ok-requires : tie.Need-block-length-ok-requires
-block-length-ok-requires c κs = search needs
-
 returns : tie.Need-returns
 returns c = fails 2 _ _ (sym (c .before .block-length-ok .ensures) ∙ not-true _ (c .if1 .taken))
-
-slices-ok-requires : tie.Need-slices-ok-requires
-slices-ok-requires c κs = search needs
 
 returns-2 : tie.Need-returns-2
 returns-2 c = fails 3 _ _ (sym (c .before .slices-ok .ensures) ∙ not-true _ (c .if2 .taken)) ∙ past-block (c .before .before)
@@ -55,9 +49,6 @@ returns-3 c = fails 4 _ _ (sym (c .before .used-ok .ensures) ∙ not-true _ (c .
 slice-aggregate-never-falling : tie.Need-slice-aggregate-never-falling
 slice-aggregate-never-falling c = sym (length-take-le _ _ (used-fits _ _ _ (sym (c .before .before .used-ok .ensures) ∙ not-false _ (c .before .if3 .left))))
 
-never-falling-requires : tie.Need-never-falling-requires
-never-falling-requires c κs = search needs
-
 returns-4 : tie.Need-returns-4
 unfolding growersOk
 returns-4 c = fails 5 _ _ (sym (c .before .never-falling .ensures) ∙ not-true _ (c .if4 .taken)) ∙ past-used (c .before .before .before)
@@ -70,13 +61,13 @@ pub set-refusal-spec : {M : Type 1} → statement M
 set-refusal-spec =
     tie.close
     (tie.spec
-    block-length-ok-requires
+    (λ c κs. search needs)
     returns
-    slices-ok-requires
+    (λ c κs. search needs)
     returns-2
     used-ok-requires
     returns-3
     slice-aggregate-never-falling
-    never-falling-requires
+    (λ c κs. search needs)
     returns-4
     returns-5)

@@ -13,13 +13,10 @@ slice-aggregate-values-ok c = sym (length-take-le _ _ (omega arith))
 slice-aggregate-values-ok-2 : tie.Need-slice-aggregate-values-ok-2
 slice-aggregate-values-ok-2 c = sym (length-take-le _ _ (omega arith))
 
-values-ok-requires : tie.Need-values-ok-requires
-values-ok-requires c κs = search needs
-
 returns : tie.Need-returns
 returns c = let p = c .before .before .before .before .before .before .pre in λ n. c .values-ok .ensures ∙ values-law n _ _ _ _ (p .0) (p .1)
 
 pub set-values-ok-spec : {M : Type 1} → statement M
 set-values-ok-spec =
     tie.close
-    (tie.spec slice-aggregate-values-ok slice-aggregate-values-ok-2 values-ok-requires returns)
+    (tie.spec slice-aggregate-values-ok slice-aggregate-values-ok-2 (λ c κs. search needs) returns)

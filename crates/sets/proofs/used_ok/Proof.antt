@@ -10,11 +10,8 @@ returns c = used-none _ _ _ (c .if1 .taken)
 returns-2 : tie.Need-returns-2
 returns-2 c = used-over _ _ _ (c .before .if1 .left) (c .if2 .taken)
 
-mul-result : tie.Need-mul-result
-mul-result c = search needs
-
 returns-3 : tie.Need-returns-3
 returns-3 c = used-last _ _ _ (c .before .if1 .left) (c .if2 .left)
 
 pub used-ok-spec : {M : Type 1} → statement M
-used-ok-spec = tie.close (tie.spec returns returns-2 mul-result returns-3)
+used-ok-spec = tie.close (tie.spec returns returns-2 (λ c. search needs) returns-3)
