@@ -3,6 +3,7 @@
 ghost use mathlib.Core.Path.{_≡_};
 ghost use Prim.Native.Nat.{_+_, _-_, _≤_, _<_};
 ghost use lib.ListN.{length, getD};
+ghost use lib.Dec.{T};
 ghost use Rattle.model.specs.Bounds.{blockLimit, mostSlots};
 ghost use Rattle.model.specs.Lists.{sumOf};
 ghost use Rattle.model.specs.Deliveries.{rows};
@@ -11,7 +12,7 @@ ghost use Rattle.model.specs.Calls.{find, range, insert, delete, move};
 ghost use Rattle.model.specs.Place.{place};
 ghost use Rattle.model.specs.Partitions.{startOf};
 ghost use Rattle.model.specs.Moves.{moved};
-ghost use Rattle.model.specs.Directory.{partitionCount, directoryOf};
+ghost use Rattle.model.specs.Directory.{partitionCount, directoryOf, directoryOk};
 ghost use Rattle.model.specs.Accesses.{noCounts, andAlso, apart};
 ghost use Rattle.model.specs.Questions.{lentChecks};
 ghost use Rattle.model.specs.ColumnCalls.{columnCall, partitionCall};
@@ -44,6 +45,17 @@ fn refused(refusal: u32) -> Answer
     without_totals(refusal, Counts::none())
 }
 
+// hi's partition, the last that a read scans. A find's is the one that its checks found.
+fn last_scanned(directory: &[u32], from: usize, lo: u32, hi: u32) -> usize
+    requires { ⌜ T (directoryOk blockLimit mostSlots (now directory)) × (from ≡ place (directoryOf blockLimit (now directory) .fences) lo) ⌝ }
+    ensures { λ r. ⌜ r ≡ place (directoryOf blockLimit (now (directory .entry)) .fences) hi ⌝ }
+{
+    if lo == hi {
+        return from;
+    }
+    directory::partition_of(directory, hi)
+}
+
 // The partitions from lo's, which begins at start, to hi's, once checks 2, 3, 6 and 7 are passed.
 fn read(
     directory: &[u32],
@@ -60,7 +72,7 @@ fn read(
         × (start ≡ startOf (directoryOf blockLimit (now directory) .lengths) from) ⌝ }
     ensures { λ r. ⌜ r ≡ columnCall blockLimit (columnIn directory g w y) (range lo hi) .answer ⌝ }
 {
-    let to = directory::partition_of(directory, hi);
+    let to = last_scanned(directory, from, lo, hi);
     let s = scan::scan_parts(
         g,
         w,

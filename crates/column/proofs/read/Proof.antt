@@ -30,7 +30,7 @@ scanned : (c : tie.After-scan-parts)
 scanned c =
     let p = c .before .before .before in
     let s = p .before .before .before .before .before in
-    rw (c .before .before .lengths .ensures, s .pre .2, p .partition-of .ensures, c .before .block .ensures ∙ block-is blockLimit _) at (c .scan-parts .ensures)
+    rw (c .before .before .lengths .ensures, s .pre .2, p .last-scanned .ensures, c .before .block .ensures ∙ block-is blockLimit _) at (c .scan-parts .ensures)
 
 abbrev start : tie.After-scan-parts → tie.Start
 start c = c .before .before .before .before .before .before .before .before
@@ -40,7 +40,7 @@ scan-parts-requires c κs =
     let s = c .before .before .before .before .before .before .before in
     let p = s .pre in
     let l = lent s in
-    rw (c .before .lengths .ensures, c .before .before .partition-of .ensures, c .block .ensures ∙ block-is blockLimit _) (
+    rw (c .before .lengths .ensures, c .before .before .last-scanned .ensures, c .block .ensures ∙ block-is blockLimit _) (
       (
         rw (p .2) (targets-ordered blockLimit _ (p .0) _ _ (p .1)),
         target-there blockLimit _ (p .0) _,
@@ -76,7 +76,7 @@ pub read-spec : {M : Type 1} → statement M
 read-spec =
     tie.close
     (tie.spec
-    (λ c κs. most-shaped blockLimit _ (lent (c .before .before .before .before)))
+    (λ c κs. (most-shaped blockLimit _ (lent (c .before .before .before .before)), c .before .before .before .before .pre .2))
     (λ c κs. numbered blockLimit _ (lent (c .before .before .before .before .before)))
     (λ c κs. lent (c .before .before .before .before .before .before) .shape .size)
     scan-parts-requires
