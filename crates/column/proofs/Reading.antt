@@ -1,11 +1,10 @@
 -- find and range. Assumes nothing.
 use Prim.Native.Nat.{ℕ, _+_, _-_, _≤_, _<_}
-use mathlib.Core.Path.{_≡_, refl, sym, ap, ap₂, _∙_, subst}
+use mathlib.Core.Path.{_≡_, ap, ap₂, _∙_}
 use mathlib.Core.Bool.{Bool, true, false, cond}
 use mathlib.Core.List.{List, [], _∷_, map}
 use native.Mathlib.Omega.{arith}
 use lib.ListN.{length, getD, take, drop, length-take, length-drop}
-use lib.Dec.{T}
 use borrow.Author.Tests.{le-leb, lt-leb}
 use Rattle.model.specs.declared.Delivery.{Delivery}
 use Rattle.model.specs.declared.Answer.{Answer}
@@ -22,12 +21,14 @@ use Rattle.model.specs.Lent.{Even}
 use Rattle.model.specs.Column.{Column, slots, lengthsOf, fencesOf, target, scannedOk}
 use Rattle.model.specs.Accesses.{noCounts, blocksOf, readsOf, scanCounts, blocksScanned, callCounts}
 use Rattle.model.specs.Questions.{lentChecks, callChecks}
-use Rattle.model.specs.ColumnCalls.{columnRefusal, callTotals, columnCall}
+use Rattle.model.specs.ColumnCalls.{Called, columnRefusal, callTotals, columnCall}
 use Rattle.model.proofs.Places.{placed, placed-mono}
 use Rattle.model.proofs.Parts.{stop-le}
 use Rattle.scan.specs.declared.Scan.{Scan}
-use Rattle.scan.specs.Scans.{badScan, recordsIn, scanOf}
+use Rattle.scan.specs.Scans.{recordsIn, scanOf}
 use Rattle.scan.proofs.Blocks.{blocks-least}
+use Rattle.scan.proofs.Judging.{judged-says, judged-value}
+use Rattle.scan.proofs.Scanning.{scans}
 use Rattle.column.specs.Answers.{withoutTotals}
 use Rattle.directory.specs.Numbers.{HasPartition}
 use Rattle.directory.proofs.LentColumns.{LentColumn, lent-column, count-lengths, count-fences, has-partition}
@@ -37,11 +38,7 @@ use Rattle.column.proofs.Answering.{lent-yes, refused-call, accepted-ca
 module _ (b : ℕ) (ns : List ℕ) (p n lo hi : ℕ) (ds : List Delivery) (s : Scan) (e : s ≡ scanOf b ns p n lo hi ds) where
   bad-scan : s .good ≡ false → every inRange (recordsIn ns p n ds) ≡ false
   unfolding scanOf
-  bad-scan f = go (every inRange (recordsIn ns p n ds)) (sym (ap (λ (r : Scan). r .good) e) ∙ f)
-    where
-      go : (t : Bool) → cond t (record { good = true; totals = totalsBetween lo hi (recordsIn ns p n ds); blocks = sumOf (map (blocksOf b) (take n (drop p ns))) }) badScan .good ≡ false → t ≡ false
-      go true h = h
-      go false h = refl
+  bad-scan = judged-says scans _ (totalsBetween lo hi (recordsIn ns p n ds), sumOf (map (blocksOf b) (take n (drop p ns)))) s e false
 
   pub record GoodScan : Type 0 where
     pub values : every inRange (recordsIn ns p n ds) ≡ true
@@ -50,11 +47,10 @@ module _ (b : ℕ) (ns : List ℕ) (p n lo hi : ℕ) (ds : List Delivery) (s : S
 
   pub good-scan : s .good ≡ true → GoodScan
   unfolding scanOf
-  good-scan f = go (every inRange (recordsIn ns p n ds)) refl
-    where
-      go : (t : Bool) → every inRange (recordsIn ns p n ds) ≡ t → GoodScan
-      go true h = let g = rw h at e in record { values = h; totals = ap (λ (r : Scan). r .totals) g; blocks = ap (λ (r : Scan). r .blocks) g }
-      go false h = let g : s .good ≡ false = ap (λ (r : Scan). r .good) (rw h at e) in let z : _≡_ {A = Bool} true false = sym f ∙ g in absurd (subst T z tt)
+  good-scan f =
+      let x : Totals × ℕ = (totalsBetween lo hi (recordsIn ns p n ds), sumOf (map (blocksOf b) (take n (drop p ns)))) in
+      let v = judged-value scans (every inRange (recordsIn ns p n ds)) x s e f in
+      record { values = judged-says scans _ x s e true f; totals = ap (λ (r : Totals × ℕ). r .0) v; blocks = ap (λ (r : Totals × ℕ). r .1) v }
 
 -- a scan of some partitions has a block at least
 pub blocks-some : (b : ℕ) (ns : List ℕ) (p q : ℕ) → p ≤ q → q < length ns → 1 ≤ sumOf (map (blocksOf b) (take (q + 1 - p) (drop p ns)))
@@ -83,7 +79,7 @@ module _ (L : ℕ) where
     pub range-backwards : (lo hi : ℕ) → hi < lo → withoutTotals 7 noCounts ≡ columnCall L c (range lo hi) .answer
     unfolding callChecks firstFailed
     range-backwards lo hi k =
-        ap (λ (r : Rattle.model.specs.ColumnCalls.Called). r .answer) (refused-call L c (range lo hi) 7 (lent-yes L c (range lo hi) h ∙ rw (lt-leb lo hi k)) (λ e. omega arith) (λ e. omega arith))
+        ap (λ (r : Called). r .answer) (refused-call L c (range lo hi) 7 (lent-yes L c (range lo hi) h ∙ rw (lt-leb lo hi k)) (λ e. omega arith) (λ e. omega arith))
 
     module _ (lo hi : ℕ) (k : lo ≤ hi) (s : Scan)
         (e : s ≡ scanOf (getD (c .directory) 0 0) (lengthsOf L c) (target L c lo) (target L c hi + 1 - target L c lo) lo hi (slots c)) where
@@ -95,7 +91,7 @@ module _ (L : ℕ) where
       pub range-bad : s .good ≡ false → withoutTotals 8 noCounts ≡ columnCall L c (range lo hi) .answer
       unfolding scannedOk between
       range-bad f =
-          ap (λ (r : Rattle.model.specs.ColumnCalls.Called). r .answer) (refused-call L c (range lo hi) 8 (answered false (bad-scan _ _ _ _ lo hi (slots c) s e f)) (λ z. omega arith)
+          ap (λ (r : Called). r .answer) (refused-call L c (range lo hi) 8 (answered false (bad-scan _ _ _ _ lo hi (slots c) s e f)) (λ z. omega arith)
           (λ z. omega arith))
 
       -- accepted
@@ -104,7 +100,7 @@ module _ (L : ℕ) where
       range-good n f i =
           let g = good-scan _ _ _ _ lo hi (slots c) s e f in
           ap₂ (λ (t : Totals) (m : Counts). record { refusal = 0; totals = t; counts = m }) (g .totals) (i ∙ ap readsOf (g .blocks))
-          ∙ ap (λ (r : Rattle.model.specs.ColumnCalls.Called). r .answer) (accepted-call L c (range lo hi) (answered true (g .values)))
+          ∙ ap (λ (r : Called). r .answer) (accepted-call L c (range lo hi) (answered true (g .values)))
 
   -- a grower's partition, which the checks have found, lies in the three slices
   pub record Near (c : Column) (g a n : ℕ) : Type 0 where

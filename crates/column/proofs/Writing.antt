@@ -17,7 +17,7 @@ use Rattle.model.specs.Checks.{firstFailed}
 use Rattle.model.specs.Deliveries.{delivery, inRange}
 use Rattle.model.specs.Calls.{insert, delete, move}
 use Rattle.model.specs.Partitions.{startOf, oneMore, oneFewer}
-use Rattle.model.specs.Directory.{partitionCount, directoryOf, withLengths}
+use Rattle.model.specs.Directory.{Directory, partitionCount, directoryOf, withLengths}
 use Rattle.model.specs.Column.{Column, lengthsOf, target, recordsNear, scannedOk, hasFreeSlot, hasDelivery}
 use Rattle.model.specs.Accesses.{counts, noCounts, andAlso, onward, apart, scanNear, scanCounts, callCounts, missCounts}
 use Rattle.model.specs.Questions.{lentChecks, callChecks, columnChecks}
@@ -98,7 +98,7 @@ module _ (L : ℕ) where
         → last ≡ withLengths (oneMore u (oneFewer t (directoryOf L ns .lengths))) ns
     unfolding ls
     twice after last e f =
-        let d : directoryOf L after .lengths ≡ oneFewer t ls = ap (λ (n : List ℕ). directoryOf L n .lengths) e ∙ ap (λ (x : Rattle.model.specs.Directory.Directory). x .lengths) (changed .directory) in
+        let d : directoryOf L after .lengths ≡ oneFewer t ls = ap (λ (n : List ℕ). directoryOf L n .lengths) e ∙ ap (λ (x : Directory). x .lengths) (changed .directory) in
         f ∙ ap₂ (λ (l n : List ℕ). withLengths (oneMore u l) n) d e
         ∙ with-with (oneMore u (oneFewer t ls)) (oneFewer t ls) ns (omega (arith, s .size)) (length-set (oneFewer t ls) u _)
 

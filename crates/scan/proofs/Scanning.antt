@@ -25,7 +25,7 @@ use Rattle.scan.proofs.Blocks.{blocks-most}
 use Rattle.scan.proofs.Judging.{Answers, judged-on}
 
 -- a scan's answers, with totals and blocks
-abbrev scans : Answers (Totals × ℕ) Scan
+abbrev pub scans : Answers (Totals × ℕ) Scan
 scans =
     record {
       flag = λ (s : Scan). s .good;

@@ -73,9 +73,10 @@ survey-start lens fences g h =
     record { at = h; chained = chain-start ltb fences; used-is = refl; used-most = omega arith; start-most = omega arith; target-most = omega arith; found = λ o. (count-start fences g h, refl) }
 
 module _ (lens fences : List ℕ) (g : ℕ) (up : Bool) (used target start i : ℕ) (h : i + 1 < length fences) (k : length fences ≡ length lens) (w : Surveying lens fences g up used target start i) where
-  pub survey-less : (v : Bool) → Chained ltb fences v (i + 1) → getD lens i 0 ≤ 4294967295 → getD fences i 0 < g
-      → Surveying lens fences g v (used + getD lens i 0) (target + 1) (start + getD lens i 0) (i + 1)
-  survey-less v c n l =
+  -- a turn counts u partitions and their a slots
+  turn : (v : Bool) (u a : ℕ) → Chained ltb fences v (i + 1) → getD lens i 0 ≤ 4294967295 → u ≤ target + 1 → a ≤ start + getD lens i 0
+      → (T (rising fences) → Counted fences g u (i + 1) × (a ≡ sumOf (take u lens))) → Surveying lens fences g v (used + getD lens i 0) u a (i + 1)
+  turn v u a c n p q f =
       record {
         at = h;
         chained = c;
@@ -83,8 +84,12 @@ module _ (lens fences : List ℕ) (g : ℕ) (up : Bool) (used target start i : �
         used-most = omega (arith, w .used-most);
         start-most = omega (arith, w .start-most);
         target-most = omega (arith, w .target-most);
-        found = go;
+        found = f;
       }
+
+  pub survey-less : (v : Bool) → Chained ltb fences v (i + 1) → getD lens i 0 ≤ 4294967295 → getD fences i 0 < g
+      → Surveying lens fences g v (used + getD lens i 0) (target + 1) (start + getD lens i 0) (i + 1)
+  survey-less v c n l = turn v (target + 1) (start + getD lens i 0) c n (omega arith) (omega arith) go
     where
       go : T (rising fences) → Counted fences g (target + 1) (i + 1) × (start + getD lens i 0 ≡ sumOf (take (target + 1) lens))
       go o =
@@ -95,16 +100,7 @@ module _ (lens fences : List ℕ) (g : ℕ) (up : Bool) (used target start i : �
 
   pub survey-not : (v : Bool) → Chained ltb fences v (i + 1) → getD lens i 0 ≤ 4294967295 → g ≤ getD fences i 0
       → Surveying lens fences g v (used + getD lens i 0) target start (i + 1)
-  survey-not v c n l =
-      record {
-        at = h;
-        chained = c;
-        used-is = omega (arith, w .used-is, sum-take-next lens i (omega arith));
-        used-most = omega (arith, w .used-most);
-        start-most = omega (arith, w .start-most);
-        target-most = omega (arith, w .target-most);
-        found = λ o. (count-not fences g target i o h (w .found o .0) l, w .found o .1);
-      }
+  survey-not v c n l = turn v target start c n (omega arith) (omega arith) (λ o. (count-not fences g target i o h (w .found o .0) l, w .found o .1))
 
 pub survey-end : (lens fences : List ℕ) (g : ℕ) (up : Bool) (used target start i : ℕ) → length fences ≤ i + 1 → length fences ≡ length lens → Surveying lens fences g up used target start i
     → (up ≡ rising fences) × (used + getD lens i 0 ≡ sumOf lens) × (T (rising fences) → (target ≡ place fences g) × (start ≡ startOf lens (place fences g)))
