@@ -18,66 +18,54 @@ scan-start t a k = record {
   near = λ h. absurd (omega arith);
 }
 
--- one more end, given what is known of layouts that end there
-more : (t : Task) (a k e m m′ : ℕ) → Scan t a k e m → (m < 2 ^ 62 → m′ ≤ m)
-    → ((es : List ℕ) → Layout t a (e ∷ es) → length es ≡ k → Low t a m′ (e ∷ es))
-    → (d : ℕ) (es : List ℕ) → d < e + 1 → Layout t a (d ∷ es) → length es ≡ k → Low t a m′ (d ∷ es)
-more t a k e m m′ s le at d es h l p = go (decLt d e)
-  where
-    go : Dec (d < e) → Low t a m′ (d ∷ es)
-    go (yes q) = let r = s .low d es q l p in let x = le (r .0) in (omega arith, omega arith)
-    go (no q) =
-        let x : e ≡ d = omega arith in
-        subst (λ (v : ℕ). (es : List ℕ) → Layout t a (v ∷ es) → length es ≡ k → Low t a m′ (v ∷ es)) x at es l p
+-- one more end
+module _ (t : Task) (a k e m : ℕ) (s : Scan t a k e m) where
+  -- given what is known of layouts that end there
+  more : (m′ : ℕ) → (m < 2 ^ 62 → m′ ≤ m) → ((es : List ℕ) → Layout t a (e ∷ es) → length es ≡ k → Low t a m′ (e ∷ es))
+      → (d : ℕ) (es : List ℕ) → d < e + 1 → Layout t a (d ∷ es) → length es ≡ k → Low t a m′ (d ∷ es)
+  more m′ le at d es h l p = go (decLt d e)
+    where
+      go : Dec (d < e) → Low t a m′ (d ∷ es)
+      go (yes q) = let r = s .low d es q l p in let x = le (r .0) in (omega arith, omega arith)
+      go (no q) =
+          let x : e ≡ d = omega arith in
+          subst (λ (v : ℕ). (es : List ℕ) → Layout t a (v ∷ es) → length es ≡ k → Low t a m′ (v ∷ es)) x at es l p
 
--- nothing ends there
-scan-without : (t : Task) (a k e m : ℕ) → Scan t a k e m → ((es : List ℕ) → Layout t a (e ∷ es) → length es ≡ k → ⊥) → Scan t a k (e + 1) m
-scan-without t a k e m s f = record {
-  low = more t a k e m m s (λ g. omega arith) (λ es l p. absurd (f es l p));
-  hit = s .hit;
-  near = s .near;
-}
+  -- nothing ends there
+  scan-without : ((es : List ℕ) → Layout t a (e ∷ es) → length es ≡ k → ⊥) → Scan t a k (e + 1) m
+  scan-without f = record { low = more m (λ g. omega arith) (λ es l p. absurd (f es l p)); hit = s .hit; near = s .near }
 
-scan-drop : (t : Task) (a k e m x : ℕ) → Scan t a k e m → ((es : List ℕ) → Layout t a (e ∷ es) → length es ≡ k → ⊥) → 2 ^ 62 ≤ x → x < m → Scan t a k (e + 1) x
-scan-drop t a k e m x s f h g = record {
-  low = more t a k e m x s (λ u. omega arith) (λ es l p. absurd (f es l p));
-  hit = λ u. absurd (omega arith);
-  near = λ u. absurd (omega arith);
-}
+  scan-drop : (x : ℕ) → ((es : List ℕ) → Layout t a (e ∷ es) → length es ≡ k → ⊥) → 2 ^ 62 ≤ x → x < m → Scan t a k (e + 1) x
+  scan-drop x f h g = record { low = more x (λ u. omega arith) (λ es l p. absurd (f es l p)); hit = λ u. absurd (omega arith); near = λ u. absurd (omega arith) }
 
-cand-low : (t : Task) (a k e y x : ℕ) → Cand t a k e y x → (es : List ℕ) → Layout t a (e ∷ es) → length es ≡ k → Low t a x (e ∷ es)
-cand-low t a k e y x c es l p =
-    let r = c .rest .low es (l .3) p in
-    let g = c .rest .near (c .some) in
-    let u : span (t .up) a e (length es + 1) ≡ span (t .up) a e (k + 1) = ap (λ (v : ℕ). span (t .up) a e (v + 1)) p in
-    let d : span (t .down) a e (length es + 1) ≡ span (t .down) a e (k + 1) = ap (λ (v : ℕ). span (t .down) a e (v + 1)) p in
-    (omega arith, omega arith)
+module _ (t : Task) (a k e y x : ℕ) (c : Cand t a k e y x) where
+  cand-low : (es : List ℕ) → Layout t a (e ∷ es) → length es ≡ k → Low t a x (e ∷ es)
+  cand-low es l p =
+      let r = c .rest .low es (l .3) p in
+      let g = c .rest .near (c .some) in
+      let u : span (t .up) a e (length es + 1) ≡ span (t .up) a e (k + 1) = ap (λ (v : ℕ). span (t .up) a e (v + 1)) p in
+      let d : span (t .down) a e (length es + 1) ≡ span (t .down) a e (k + 1) = ap (λ (v : ℕ). span (t .down) a e (v + 1)) p in
+      (omega arith, omega arith)
 
-cand-hit : (t : Task) (a k e y x : ℕ) → Cand t a k e y x → Hit t a (k + 1) x
-cand-hit t a k e y x c =
-    let r = c .rest .hit (c .some) in
-    let u : span (t .up) a e (length (r .0) + 1) ≡ span (t .up) a e (k + 1) = ap (λ (v : ℕ). span (t .up) a e (v + 1)) (r .2) in
-    let d : span (t .down) a e (length (r .0) + 1) ≡ span (t .down) a e (k + 1) = ap (λ (v : ℕ). span (t .down) a e (v + 1)) (r .2) in
-    (e ∷ r .0, (c .start, c .inside, c .okay, r .1), omega arith, omega arith)
+  cand-hit : Hit t a (k + 1) x
+  cand-hit =
+      let r = c .rest .hit (c .some) in
+      let u : span (t .up) a e (length (r .0) + 1) ≡ span (t .up) a e (k + 1) = ap (λ (v : ℕ). span (t .up) a e (v + 1)) (r .2) in
+      let d : span (t .down) a e (length (r .0) + 1) ≡ span (t .down) a e (k + 1) = ap (λ (v : ℕ). span (t .down) a e (v + 1)) (r .2) in
+      (e ∷ r .0, (c .start, c .inside, c .okay, r .1), omega arith, omega arith)
 
-cand-near : (t : Task) (a k e y x : ℕ) → Cand t a k e y x → Near t a x
-cand-near t a k e y x c =
-    let g = c .rest .near (c .some) in
-    (omega arith, omega arith)
+  cand-near : Near t a x
+  cand-near = let g = c .rest .near (c .some) in (omega arith, omega arith)
 
-scan-keep : (t : Task) (a k e m y x : ℕ) → Scan t a k e m → Cand t a k e y x → m ≤ x → Scan t a k (e + 1) m
-scan-keep t a k e m y x s c h = record {
-  low = more t a k e m m s (λ g. omega arith) (λ es l p. let r = cand-low t a k e y x c es l p in (omega arith, omega arith));
-  hit = s .hit;
-  near = s .near;
-}
+  scan-keep : (m : ℕ) → Scan t a k e m → m ≤ x → Scan t a k (e + 1) m
+  scan-keep m s h = record {
+    low = more t a k e m s m (λ g. omega arith) (λ es l p. let r = cand-low es l p in (omega arith, omega arith));
+    hit = s .hit;
+    near = s .near;
+  }
 
-scan-take : (t : Task) (a k e m y x : ℕ) → Scan t a k e m → Cand t a k e y x → x < m → Scan t a k (e + 1) x
-scan-take t a k e m y x s c h = record {
-  low = more t a k e m x s (λ g. omega arith) (cand-low t a k e y x c);
-  hit = λ g. cand-hit t a k e y x c;
-  near = λ g. cand-near t a k e y x c;
-}
+  scan-take : (m : ℕ) → Scan t a k e m → x < m → Scan t a k (e + 1) x
+  scan-take m s h = record { low = more t a k e m s x (λ g. omega arith) cand-low; hit = λ g. cand-hit; near = λ g. cand-near }
 
 done-low : (t : Task) (a k m : ℕ) → Scan t a k (t .n) m → (es : List ℕ) → Layout t a es → length es ≡ k + 1 → Low t a m es
 done-low t a k m s [] l p = absurd (omega arith)
@@ -123,8 +111,8 @@ offer-no-rest t a k e y x b h g = nothing g (λ es l p. omega (arith, b .low es 
 
 pub scan-keep-offer : (t : Task) (a k e m y x : ℕ) → Scan t a k e m → Offer t a k e y x → m ≤ x → Scan t a k (e + 1) m
 scan-keep-offer t a k e m y x s (nothing g f) h = scan-without t a k e m s f
-scan-keep-offer t a k e m y x s (offered c) h = scan-keep t a k e m y x s c h
+scan-keep-offer t a k e m y x s (offered c) h = scan-keep t a k e y x c m s h
 
 pub scan-take-offer : (t : Task) (a k e m y x : ℕ) → Scan t a k e m → Offer t a k e y x → x < m → Scan t a k (e + 1) x
-scan-take-offer t a k e m y x s (nothing g f) h = scan-drop t a k e m x s f (omega arith) h
-scan-take-offer t a k e m y x s (offered c) h = scan-take t a k e m y x s c h
+scan-take-offer t a k e m y x s (nothing g f) h = scan-drop t a k e m s x f (omega arith) h
+scan-take-offer t a k e m y x s (offered c) h = scan-take t a k e y x c m s h

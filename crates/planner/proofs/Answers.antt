@@ -7,7 +7,7 @@ use mathlib.Core.List.{List, [], _∷_, _++_, List·Memᴰ, List·Memᴰ·head, 
 use native.Mathlib.Omega.{arith}
 use borrow.Author.Tests.{lt-leb, le-leb, ne-eqb}
 use lib.Dec.{T, leb, eqb}
-use lib.ListN.{length, getD, drop}
+use lib.ListN.{length, drop}
 use lib.IntN.{ℤ, pos, subℕ}
 use Rattle.model.specs.declared.PriceCard.{PriceCard}
 use Rattle.model.specs.declared.Limits.{Limits}
@@ -16,7 +16,7 @@ use Rattle.model.specs.declared.Planned.{Planned}
 use Rattle.model.specs.Lists.{valueOr}
 use Rattle.model.specs.Checks.{ask, firstFailed}
 use Rattle.model.specs.Blocks.{Set, blocks}
-use Rattle.model.specs.Layouts.{separatesNone, layoutOk, mostPartitions, longestPartition, permitted}
+use Rattle.model.specs.Layouts.{layoutOk, mostPartitions, longestPartition, permitted}
 use Rattle.model.specs.Cost.{costOf}
 use Rattle.model.specs.Plan.{permittedLayouts, cheapest}
 use Rattle.model.specs.Questions.{costChecks}
@@ -31,7 +31,7 @@ use Rattle.block_costs.specs.Terms.{Loaded}
 use Rattle.block_costs.proofs.LayoutCost.{cut-covers, layout-cost}
 use Rattle.planner.specs.Given.{givenChecks, Marked}
 use Rattle.planner.proofs.Given.{plan-failed, plan-passed}
-use Rattle.planner.proofs.Permitted.{task, permitted-allowed, allowed-permitted, cost-by-terms, least-cheapest, cheapest-least}
+use Rattle.planner.proofs.Permitted.{Ready, task, permitted-allowed, allowed-permitted, cost-by-terms, least-cheapest, cheapest-least}
 
 -- is any layout permitted?
 module _ (p : PriceCard) (l : Limits) (s : Set) where
@@ -81,33 +81,32 @@ module _ (L : ℕ) (p : PriceCard) (l : Limits) (s : Set) (hs out : List ℕ) wh
     unfolding plannerRefusal
     refusal-is n e = plan-passed L p s hs l (length (plannedEnds L p l s hs)) (length out) given ∙ last-two _ _ n e
 
-    module _ (old terms : List ℕ) (fits : List Bool) (loaded : Loaded L p hs (blocks s * termsPerBlock) old terms)
-        (marks : (i : ℕ) → i < blocks s → getD fits i false ≡ separatesNone s i) (few : 1 ≤ blocks s) where
+    module _ {old terms : List ℕ} {fits : List Bool} (w : Ready L p s hs old terms fits) where
       abbrev goal : Planned → List ℕ → Type 0
       goal r new = _≡_ {A = PlanResult} (record { answer = r; ends = new }) (planCall L p l s hs out)
 
       -- room for fewer ends than the cheapest has
       too-tight : (o : Option (List ℕ)) → cheapest L p l s hs ≡ o → (es : List ℕ) → T (permitted p l s es)
-          → ((ds : List ℕ) → Least (task L p l s hs old terms fits loaded marks few) (mostPartitions p l) ds → length out < length ds) → plannerRefusal L p l s hs (length out) ≡ 15
-      too-tight none e es t f = absurd (none-permitted p l s L hs few e es t)
+          → ((ds : List ℕ) → Least (task l w) (mostPartitions p l) ds → length out < length ds) → plannerRefusal L p l s hs (length out) ≡ 15
+      too-tight none e es t f = absurd (none-permitted p l s L hs (w .some) e es t)
       too-tight (some ds) e es t f =
-          let g = f ds (cheapest-least L p l s hs old terms fits loaded marks few ds (cheapest-chosen p l s L hs ds few e)) in
-          refusal-is 15 (rw (any-so p l s es t few, ends-planned ds e, lt-leb (length ds) (length out) g) refl)
+          let g = f ds (cheapest-least l w ds (cheapest-chosen p l s L hs ds (w .some) e)) in
+          refusal-is 15 (rw (any-so p l s es t (w .some), ends-planned ds e, lt-leb (length ds) (length out) g) refl)
 
-      answered-task : (new : List ℕ) (r : Planned) → Answered (task L p l s hs old terms fits loaded marks few) (mostPartitions p l) out new r → goal r new
+      answered-task : (new : List ℕ) (r : Planned) → Answered (task l w) (mostPartitions p l) out new r → goal r new
       answered-task new r (nothing f e q) =
           subst (λ (v : List ℕ). goal r v) (sym q) (subst (λ (v : Planned). goal v out) (sym e)
-          (plan-refused 11 (refusal-is 11 (rw (any-not p l s (λ es t. f es (permitted-allowed L p l s hs old terms fits loaded marks few es t))) refl)) (λ z. omega arith)))
+          (plan-refused 11 (refusal-is 11 (rw (any-not p l s (λ es t. f es (permitted-allowed l w es t))) refl)) (λ z. omega arith)))
       answered-task new r (tight es a f e q) =
           subst (λ (v : List ℕ). goal r v) (sym q) (subst (λ (v : Planned). goal v out) (sym e)
-          (plan-refused 15 (too-tight (cheapest L p l s hs) refl es (allowed-permitted L p l s hs old terms fits loaded marks few es a) f) (λ z. omega arith)))
+          (plan-refused 15 (too-tight (cheapest L p l s hs) refl es (allowed-permitted l w es a) f) (λ z. omega arith)))
       answered-task new r (found es h room e q) =
-          let c = least-cheapest L p l s hs old terms fits loaded marks few es h in
-          let f = ends-planned es (chosen-cheapest p l s L hs es few c) in
-          let z = cost-by-terms L p l s hs old terms fits loaded marks few es (h .allowed .0) in
+          let c = least-cheapest l w es h in
+          let f = ends-planned es (chosen-cheapest p l s L hs es (w .some) c) in
+          let z = cost-by-terms l w es (h .allowed .0) in
           subst (λ (v : List ℕ). goal r v) (sym q) (subst (λ (v : Planned). goal v (es ++ drop (length es) out)) (sym e)
           (subst (λ (v : ℤ). goal (answer 0 (length es) v) (es ++ drop (length es) out)) z
-          (plan-accepted es (refusal-is 0 (rw (any-so p l s es (c .allowed) few, f, le-leb (length es) (length out) room) refl)) f)))
+          (plan-accepted es (refusal-is 0 (rw (any-so p l s es (c .allowed) (w .some), f, le-leb (length es) (length out) room) refl)) f)))
 
     -- the search's answer, where n, longest and most are what they must be
     pub answered-plan : (n longest most : ℕ) (old terms : List ℕ) (were fits : List Bool) (new : List ℕ) (r : Planned)
@@ -115,7 +114,8 @@ module _ (L : ℕ) (p : PriceCard) (l : Limits) (s : Set) (hs out : List ℕ) wh
         → Loaded L p hs (n * termsPerBlock) old terms → Marked (s .block) (s .used) (s .growers) n were fits → Answered (taskOf terms fits longest n) most out new r
         → _≡_ {A = PlanResult} (record { answer = r; ends = new }) (planCall L p l s hs out)
     answered-plan n longest most old terms were fits new r a b c few load marks h =
-        answered-task old terms fits (rw a at load) (λ i g. marks .here i (omega arith)) few new r (rw (a, b, c) at h)
+        let w : Ready L p s hs old terms fits = record { loaded = rw a at load; marks = λ i g. marks .here i (omega arith); some = few } in
+        answered-task w new r (rw (a, b, c) at h)
 
 -- the cost of a layout
 pub layout-covers-blocks : (s : Set) (ends : List ℕ) → T (layoutOk s ends) → Covers (blocks s) 0 ends

@@ -28,8 +28,13 @@ both : (b c : Bool) → cond b c false ≡ true → T b × T c
 both true c e = (tt, of-true c e)
 both false c e = absurd (subst T (sym e) tt)
 
-module _ (L : ℕ) (p : PriceCard) (l : Limits) (s : Set) (hs old terms : List ℕ) (fits : List Bool)
-    (loaded : Loaded L p hs (blocks s * termsPerBlock) old terms) (marks : (i : ℕ) → i < blocks s → getD fits i false ≡ separatesNone s i) (some : 1 ≤ blocks s) where
+-- the terms of all blocks are loaded, and where an end may stand is marked
+pub record Ready (L : ℕ) (p : PriceCard) (s : Set) (hs old terms : List ℕ) (fits : List Bool) : Type 0 where
+  pub loaded : Loaded L p hs (blocks s * termsPerBlock) old terms
+  pub marks : (i : ℕ) → i < blocks s → getD fits i false ≡ separatesNone s i
+  pub some : 1 ≤ blocks s
+
+module _ (l : Limits) {L : ℕ} {p : PriceCard} {s : Set} {hs old terms : List ℕ} {fits : List Bool} (w : Ready L p s hs old terms fits) where
   abbrev pub task : Task
   task = taskOf terms fits (longestPartition p l) (blocks s)
 
@@ -41,7 +46,7 @@ module _ (L : ℕ) (p : PriceCard) (l : Limits) (s : Set) (hs old terms : List �
   layout-of a [] c h k = c
   layout-of a (e ∷ es) c h k =
       let u = leb→le (e + 1 - a) (longestPartition p l) (and-fst (short (e + 1 - a)) (every short (blockCounts (e + 1) es)) k) in
-      let v = sym (ok-yes (longestPartition p l) a e (λ i. getD fits i false) u) ∙ marks e (c .1) ∙ is-true _ (and-fst (separatesNone s e) (every (separatesNone s) es) h) in
+      let v = sym (ok-yes (longestPartition p l) a e (λ i. getD fits i false) u) ∙ w .marks e (c .1) ∙ is-true _ (and-fst (separatesNone s e) (every (separatesNone s) es) h) in
       (c .0, c .1, v, layout-of (e + 1) es (c .2) (and-snd (separatesNone s e) (every (separatesNone s) es) h) (and-snd (short (e + 1 - a)) (every short (blockCounts (e + 1) es)) k))
 
   layout-covers : (a : ℕ) (es : List ℕ) → Layout task a es → Covers (blocks s) a es
@@ -54,10 +59,10 @@ module _ (L : ℕ) (p : PriceCard) (l : Limits) (s : Set) (hs old terms : List �
   layout-ends a (e ∷ es) l =
       let r = layout-ends (e + 1) es (l .3) in
       let b = both (short (e + 1 - a)) (getD fits e false) (l .2) in
-      (and-mk (separatesNone s e) (every (separatesNone s) es) (subst T (marks e (l .1)) (b .1)) (r .0), and-mk (short (e + 1 - a)) (every short (blockCounts (e + 1) es)) (b .0) (r .1))
+      (and-mk (separatesNone s e) (every (separatesNone s) es) (subst T (w .marks e (l .1)) (b .1)) (r .0), and-mk (short (e + 1 - a)) (every short (blockCounts (e + 1) es)) (b .0) (r .1))
 
   not-empty : (es : List ℕ) → Layout task 0 es → 1 ≤ length es
-  not-empty [] l = absurd (omega (arith, l, some))
+  not-empty [] l = absurd (omega (arith, l, w .some))
   not-empty (e ∷ es) l = omega arith
 
   layout-cuts : (es : List ℕ) → Layout task 0 es → Cut 0 es (blocks s)
@@ -87,7 +92,7 @@ module _ (L : ℕ) (p : PriceCard) (l : Limits) (s : Set) (hs old terms : List �
 
   -- the cost of an allowed layout
   cost-is : (es : List ℕ) → Layout task 0 es → Is (costOf L p (blocks s) es hs) (adds task 0 es) (takes task 0 es)
-  cost-is es l = layout-cost L p hs (blocks s) old terms loaded es (layout-cuts es l)
+  cost-is es l = layout-cost L p hs (blocks s) old terms (w .loaded) es (layout-cuts es l)
 
   pub cost-by-terms : (es : List ℕ) → Layout task 0 es → costOf L p (blocks s) es hs ≡ subℕ (adds task 0 es) (takes task 0 es)
   cost-by-terms es l = eq-is _ _ _ _ _ _ (cost-is es l) (is-sub (adds task 0 es) (takes task 0 es)) refl

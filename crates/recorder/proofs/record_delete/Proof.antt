@@ -1,5 +1,5 @@
--- `recorder::record_delete` meets its contract. `counted_refusal` puts the checks ahead of 10; past them the grower's block is below the limit, and raising its slot puts 10: that of de
--- if `has_delivery` says that the set has the delivery, otherwise that of pq. Assumes nothing.
+-- `recorder::record_delete` meets its contract. `counted_refusal` puts the checks ahead of 10; past them the grower's block is below the limit, and `raise_one` puts 10 at its slot
+-- of de if the set has the delivery, otherwise of pq. Assumes nothing.
 use mathlib.Core.Path.{refl, _∙_}
 use native.Mathlib.Omega.{arith}
 use borrow.Author.Needs.{needs}

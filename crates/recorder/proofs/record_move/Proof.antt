@@ -1,5 +1,5 @@
--- `recorder::record_move` meets its contract. `counted_refusal` puts the checks ahead of 10; past them both growers' blocks are below the limit, and raising two slots puts 10: those of
--- udf and utf or of udb and utb, as the growers compare; that of pq at the old block where the set has no such delivery. Assumes nothing.
+-- `recorder::record_move` meets its contract. `counted_refusal` puts the checks ahead of 10; past them both growers' blocks are below the limit, and `raise_two` puts 10 at their
+-- slots of udf and utf or of udb and utb, as the growers compare; `raise_one` at the old block's of pq where the set has no such delivery. Assumes nothing.
 use mathlib.Core.Path.{_≡_, refl, _∙_}
 use native.Mathlib.Omega.{arith}
 use Prim.Native.Nat.{_<_}

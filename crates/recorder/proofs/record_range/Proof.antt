@@ -1,5 +1,5 @@
--- `recorder::record_range` meets its contract. `counted_refusal` puts the checks ahead of 10; past them the blocks of lo and hi rise as lo and hi do and are below the limit, and
--- raising the slots puts 10: pq's where they are one block, otherwise a span's. Assumes nothing.
+-- `recorder::record_range` meets its contract. `counted_refusal` puts the checks ahead of 10; past them the blocks of lo and hi rise as lo and hi do and are below the limit, and 10 is
+-- put by `raise_one` at pq's slot where they are one block, otherwise by `raise_span`. Assumes nothing.
 use mathlib.Core.Path.{refl, _∙_}
 use native.Mathlib.Omega.{arith}
 use lib.Dec.{leb→le}
