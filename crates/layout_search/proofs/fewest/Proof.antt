@@ -1,4 +1,5 @@
--- `layout_search::fewest` meets its contract. The loop's invariant (`Lowest`): `low` is the least number of all blocks in fewer than `k` partitions, and `few` the fewest that reach it. Assumes nothing.
+-- `layout_search::fewest` meets its contract. The loop's invariant (`Lowest`): `low` is the least number of all blocks in fewer than `k` partitions, and
+-- `few` the fewest that reach it. Assumes nothing.
 use native.Mathlib.Omega.{arith}
 use mathlib.Core.Path.{_≡_, refl}
 use Prim.Native.Nat.{_+_, _-_, _≤_}

@@ -1,4 +1,5 @@
--- `recorder::record_insert` meets its contract. `counted_refusal` puts the checks ahead of 10; past them the grower's block is below the limit, and `raise_one` puts 10 at its slot of in. Assumes nothing.
+-- `recorder::record_insert` meets its contract. `counted_refusal` puts the checks ahead of 10; past them the grower's block is below the limit, and
+-- `raise_one` puts 10 at its slot of in. Assumes nothing.
 use mathlib.Core.Path.{refl, _∙_}
 use native.Mathlib.Omega.{arith}
 use borrow.Author.Needs.{needs}
