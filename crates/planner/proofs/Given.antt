@@ -1,7 +1,7 @@
 -- What it says that the checks of a plan and of a cost are passed. Assumes nothing.
 use Prim.Native.Nat.{ℕ, zero, suc, _+_, _-_, _/_, _≤_, _<_}
 use mathlib.Core.Path.{_≡_, refl, ap, _∙_}
-use mathlib.Core.Bool.{Bool, true, false, not, _&&_}
+use mathlib.Core.Bool.{Bool, true, false, not, _&&_, and-true}
 use mathlib.Core.List.{List, [], _∷_, _++_}
 use native.Mathlib.Omega.{arith}
 use borrow.Author.Tests.{lt-leb, le-leb}
@@ -72,10 +72,6 @@ counted L hs t =
     let a = eqb (length hs) (histogramsSize L) in
     let b = every (λ (n : ℕ). leb n mostCount) hs in
     record { long = counts-long L hs (is-true (a && b) t); each = count-small hs (and-snd a b t) }
-
-and-true : (b : Bool) → b && true ≡ b
-and-true true = refl
-and-true false = refl
 
 module _ (L : ℕ) (s : Set) where
   -- 7 asks nothing here, and no values are offered

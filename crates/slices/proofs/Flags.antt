@@ -1,27 +1,16 @@
 -- Loops that keep a flag: every number of a slice, or every two neighbours, pass a test. Assumes nothing.
 use Prim.Native.Nat.{ℕ, zero, suc, _+_, _≤_, _<_}
 use mathlib.Core.Path.{_≡_, refl, sym, ap, _∙_, subst}
-use mathlib.Core.Bool.{Bool, true, false, _&&_}
+use mathlib.Core.Bool.{Bool, true, false, _&&_, and-true, and-false}
 use mathlib.Core.List.{List, [], _∷_}
 use native.Mathlib.Omega.{arith}
-use native.Mathlib.Numerals.{add-one}
 use borrow.Author.Tests.{eq-eqb, ne-eqb}
 use lib.Dec.{leb, ltb, eqb}
 use lib.Bits.{bitOr, or-add-and, and-le-l, and-le-r}
 use lib.ListN.{length, getD, drop, drop-of-length-le}
-use lib.Seq.{drop-cons}
 use Rattle.model.specs.Lists.{every, rising, neverFalls}
-
-and-true : (b : Bool) → b && true ≡ b
-and-true true = refl
-and-true false = refl
-
-and-false : (b : Bool) → b && false ≡ false
-and-false true = refl
-and-false false = refl
-
-cons-at : (s : List ℕ) (i : ℕ) → i < length s → drop i s ≡ getD s i 0 ∷ drop (i + 1) s
-cons-at s i h = rw (drop-cons s i 0 h, add-one)
+use Rattle.model.proofs.Tests.{pairs-swap}
+use Rattle.model.proofs.ListLaws.{drop-next}
 
 -- what the flag knows at i: so far, and the rest, is the whole
 pub record Flagged (f : ℕ → Bool) (s : List ℕ) (good : Bool) (i : ℕ) : Type 0 where
@@ -34,7 +23,7 @@ flag-start f s = record { at = omega arith; so-far = refl }
 module _ (f : ℕ → Bool) (s : List ℕ) (good : Bool) (i : ℕ) (h : i < length s) (w : Flagged f s good i) where
   next : (b : Bool) → f (getD s i 0) ≡ b → every f (drop i s) ≡ b && every f (drop (i + 1) s)
   unfolding every
-  next b e = rw (cons-at s i h, e)
+  next b e = rw (drop-next s i h, e)
 
   pub flag-good : f (getD s i 0) ≡ true → Flagged f s good (i + 1)
   flag-good e = record { at = omega arith; so-far = ap (λ (b : Bool). good && b) (sym (next true e)) ∙ w .so-far }
@@ -80,8 +69,8 @@ two-of r x y l t e = rw e
 module _ (r : ℕ → ℕ → Bool) (s : List ℕ) (good : Bool) (i : ℕ) (h : i + 1 < length s) (w : Chained r s good i) where
   two : (b : Bool) → r (getD s i 0) (getD s (i + 1) 0) ≡ b → chain r (drop i s) ≡ b && chain r (drop (i + 1) s)
   two b e =
-      ap (chain r) (cons-at s i (omega arith))
-      ∙ two-of r (getD s i 0) (getD s (i + 1) 0) (drop (i + 1) s) (drop (i + 1 + 1) s) (cons-at s (i + 1) h)
+      ap (chain r) (drop-next s i (omega arith))
+      ∙ two-of r (getD s i 0) (getD s (i + 1) 0) (drop (i + 1) s) (drop (i + 1 + 1) s) (drop-next s (i + 1) h)
       ∙ ap (λ (t : Bool). t && chain r (drop (i + 1) s)) e
 
   pub chain-good : r (getD s i 0) (getD s (i + 1) 0) ≡ true → Chained r s good (i + 1)
@@ -121,16 +110,10 @@ pub record BothZero (s u : List ℕ) (good : Bool) (i : ℕ) : Type 0 where
 pub both-start : (s u : List ℕ) → BothZero s u true 0
 both-start s u = record { at = omega arith; so-far = refl }
 
-pairs : (a b c d : Bool) → a && c && (b && d) ≡ a && b && (c && d)
-pairs true true c d = refl
-pairs true false true d = refl
-pairs true false false d = refl
-pairs false b c d = refl
-
 module _ (s u : List ℕ) (good : Bool) (i : ℕ) (h : i < length s) (k : length u ≡ length s) (w : BothZero s u good i) where
   next-two : every (eqb 0) (drop i s) && every (eqb 0) (drop i u) ≡ eqb 0 (getD s i 0) && eqb 0 (getD u i 0) && (every (eqb 0) (drop (i + 1) s) && every (eqb 0) (drop (i + 1) u))
   unfolding every
-  next-two = rw (cons-at s i h, cons-at u i (omega arith)) (pairs (eqb 0 (getD s i 0)) (eqb 0 (getD u i 0)) (every (eqb 0) (drop (i + 1) s)) (every (eqb 0) (drop (i + 1) u)))
+  next-two = rw (drop-next s i h, drop-next u i (omega arith)) (pairs-swap (eqb 0 (getD s i 0)) (every (eqb 0) (drop (i + 1) s)) (eqb 0 (getD u i 0)) (every (eqb 0) (drop (i + 1) u)))
 
   pub both-good : bitOr (getD s i 0) (getD u i 0) ≤ 0 → BothZero s u good (i + 1)
   both-good z =
