@@ -87,9 +87,9 @@
  * The cost: of each block's counts, times a price each. RR, SR and RW are the
  * prices of a random read, a sequential read and a random write; b and f are
  * the blocks before and after the block in its partition, t the partitions from
- * its own to the last. The factory card is 3, 1 and 2 and no machine's: prices
- * measured on the machine (`bench calibrate`) plan layouts up to seven times as
- * fast.
+ * its own to the last. The factory card is 3, 1 and 2 and no machine's; prices
+ * measured on the machine (`bench calibrate`) planned layouts that ran our drawn
+ * weeks up to seven times as fast.
  *
  *   pq   RR + SR * (b + f)              rs  RR + SR * b
  *   re   SR * (1 + f)                   sc  SR
