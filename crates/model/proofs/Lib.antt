@@ -27,7 +27,10 @@ pub mod LineLaws
 pub mod BookLaws
 pub mod ColumnBooks
 pub mod WriteLaws
+pub mod DigitLaws
+pub mod CsvLaws
 pub mod Laws
 pub mod Computing
 pub mod Marked
 pub mod BooksComputed
+pub mod CsvComputed

@@ -8,7 +8,7 @@ use Rattle.model.specs.declared.Delivery.{Delivery}
 use Rattle.model.specs.Bounds.{mostSlots, mostBlockLength}
 use Rattle.model.specs.Lists.{ceilDiv, upFrom, every, neverFalls}
 use Rattle.model.specs.Place.{place}
-use Rattle.model.specs.Deliveries.{rows, inRange}
+use Rattle.model.specs.Deliveries.{firstSlots, inRange}
 
 -- block length B, M used slots, and the three slices
 pub record Set : Type 0 where
@@ -20,7 +20,7 @@ pub record Set : Type 0 where
 
 -- "the first M slots are used"
 abbrev pub held : Set → List Delivery
-held s = take (s .used) (rows (s .growers) (s .weights) (s .yields))
+held s = firstSlots (s .used) (s .growers) (s .weights) (s .yields)
 
 -- "N is M / B rounded up"
 abbrev pub blocks : Set → ℕ

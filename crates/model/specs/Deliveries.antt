@@ -2,7 +2,7 @@
 use Prim.Native.Nat.{ℕ, _+_, _*_, _≤_}
 use mathlib.Core.Bool.{Bool, false, cond, _&&_, _||_}
 use mathlib.Core.List.{List, [], _∷_, map}
-use lib.ListN.{length}
+use lib.ListN.{length, take}
 use lib.Dec.{leb, eqb}
 use Rattle.model.specs.declared.Delivery.{Delivery}
 use Rattle.model.specs.declared.Totals.{Totals}
@@ -28,6 +28,10 @@ rows [] ws ys = []
 rows (g ∷ gs) [] ys = []
 rows (g ∷ gs) (w ∷ ws) [] = []
 rows (g ∷ gs) (w ∷ ws) (y ∷ ys) = delivery g w y ∷ rows gs ws ys
+
+-- "the first M slots"
+abbrev pub firstSlots : ℕ → List ℕ → List ℕ → List ℕ → List Delivery
+firstSlots m gs ws ys = take m (rows gs ws ys)
 
 -- check 8, of one delivery: "are weight and yield in range?"
 abbrev pub inRange : Delivery → Bool

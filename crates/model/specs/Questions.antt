@@ -7,10 +7,10 @@ use lib.Dec.{leb, ltb, eqb}
 use Rattle.model.specs.declared.Delivery.{Delivery}
 use Rattle.model.specs.declared.PriceCard.{PriceCard}
 use Rattle.model.specs.declared.Limits.{Limits}
-use Rattle.model.specs.Lists.{every}
+use Rattle.model.specs.Lists.{every, isSome}
 use Rattle.model.specs.Checks.{Check, ask}
 use Rattle.model.specs.Prices.{pricesOk, limitsOk}
-use Rattle.model.specs.Deliveries.{inRange, among}
+use Rattle.model.specs.Deliveries.{firstSlots, inRange, among}
 use Rattle.model.specs.Blocks.{Set, blockLengthOk, slotsOk, slicesOk, usedOk, growersOk, valuesOk}
 use Rattle.model.specs.Calls.{Call, find, range, insert, delete, move, ordered, offeredOk}
 use Rattle.model.specs.Histograms.{raises, countsOk, roomToRaise}
@@ -19,6 +19,7 @@ use Rattle.model.specs.Plan.{permittedLayouts}
 use Rattle.model.specs.Directory.{directoryBlockOk, directoryOk}
 use Rattle.model.specs.Column.{Column, allRecords, sound, scannedOk, hasFreeSlot, hasDelivery}
 use Rattle.model.specs.Snapshot.{snapshotText, slotsForBook, isBook}
+use Rattle.model.specs.Weighbridge.{headerNamed, headerOnce, readRows, rowCount, csvText}
 
 -- L is the block limit
 module _ (L : ℕ) where
@@ -75,6 +76,25 @@ module _ (L : ℕ) where
   -- reading a snapshot: 3 12 14
   unfoldable pub readChecks : List ℕ → List ℕ → List ℕ → List ℕ → List Check
   readChecks text gs ws ys = ask 3 (slicesOk gs ws ys) ∷ ask 12 (slotsForBook L text (length gs)) ∷ ask 14 (isBook L text) ∷ []
+
+-- importing (02: Slip 1): "(16 .. 17 .. 18 ..) All three come after 3, in this order, and then 12"
+unfoldable pub importChecks : List ℕ → List ℕ → List ℕ → List ℕ → List Check
+importChecks text gs ws ys =
+    ask 3 (slicesOk gs ws ys)
+    ∷ ask 16 (headerNamed text)
+    ∷ ask 17 (headerOnce text)
+    ∷ ask 18 (isSome (readRows text))
+    ∷ ask 12 (leb (rowCount text) (length gs))
+    ∷ []
+
+-- exporting the first m slots: 3 4 8 15, "M 0 to C, else 4"
+unfoldable pub exportChecks : ℕ → List ℕ → List ℕ → List ℕ → ℕ → List Check
+exportChecks m gs ws ys room =
+    ask 3 (slicesOk gs ws ys)
+    ∷ ask 4 (leb m (length gs))
+    ∷ ask 8 (every inRange (firstSlots m gs ws ys))
+    ∷ ask 15 (leb (length (csvText (firstSlots m gs ws ys))) room)
+    ∷ []
 
 -- the ledger, a bag of at most c deliveries: range 7; insert 8 12; delete and move 8 13
 unfoldable pub ledgerChecks : ℕ → List Delivery → Call → List Check

@@ -24,6 +24,10 @@ pub record ReadResult : Type 0 where
   pub refusal : ℕ
   pub column : Column
 
+-- one slice afterwards: the deliveries' own numbers, and "slots past what is written stay"
+abbrev pub slotsRead : (Delivery → ℕ) → List Delivery → List ℕ → List ℕ
+slotsRead f ds old = map f ds ++ drop (length ds) old
+
 -- L is the block limit
 module _ (L : ℕ) where
   -- "bytes .. past what is written stay"
@@ -34,10 +38,6 @@ module _ (L : ℕ) where
       cond (eqb n 0)
       (record { answer = record { refusal = 0; bytes = length t }; text = t ++ drop (length t) out })
       (record { answer = record { refusal = n; bytes = 0 }; text = out })
-
-  -- one slice afterwards: the deliveries' own numbers, and "slots past what is written stay"
-  abbrev pub slotsRead : (Delivery → ℕ) → List Delivery → List ℕ → List ℕ
-  slotsRead f ds old = map f ds ++ drop (length ds) old
 
   -- the column of a book
   unfoldable pub columnRead : Option Book → List ℕ → List ℕ → List ℕ → Column

@@ -217,7 +217,14 @@ pub struct Planned {
     pub cost: i64,
 }
 
-// What writing a snapshot answers beside the text (01: a book).
+// What importing a weighbridge file answers beside the slices: how many rows it stored.
+#[repr(C)]
+pub struct Imported {
+    pub refusal: u32,
+    pub rows: u64,
+}
+
+// What writing a snapshot (01: a book) or a weighbridge file answers beside the text.
 #[repr(C)]
 pub struct Written {
     pub refusal: u32,

@@ -24,3 +24,6 @@ pub mod Demand3
 pub mod PlanExample
 -- The snapshot's round trips.
 pub mod Snapshot
+-- The weighbridge file's round trip.
+pub mod ExportRead
+pub mod Weighbridge

@@ -3,3 +3,4 @@ pub mod Ledger
 pub mod Plan
 pub mod PlanExample
 pub mod Snapshot
+pub mod Weighbridge

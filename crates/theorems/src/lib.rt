@@ -2,8 +2,14 @@
 ghost use Rattle.theorems.specs.Ledger.{LedgerAgreesFrom, LedgerAgrees};
 ghost use Rattle.theorems.specs.Plan.{Demand3};
 ghost use Rattle.theorems.specs.Snapshot.{WrittenIsRead, ReadIsWritten};
+ghost use Rattle.theorems.specs.Weighbridge.{ImportRestores};
 
 // Does nothing: its contract is that the theorems hold, so that they stand in the list of what is proved.
 pub fn theorems()
     ensures { λ _. ⌜ LedgerAgreesFrom × LedgerAgrees × Demand3 × WrittenIsRead × ReadIsWritten ⌝ }
+{}
+
+// Does nothing: that importing an export restores its deliveries, likewise.
+pub fn import_restores()
+    ensures { λ _. ⌜ ImportRestores ⌝ }
 {}
