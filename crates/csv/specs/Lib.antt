@@ -1,0 +1,2 @@
+-- What checking a text answers.
+pub mod Checking

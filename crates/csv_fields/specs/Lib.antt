@@ -1,0 +1,2 @@
+-- What reading a field answers.
+pub mod Reading

@@ -1,0 +1,2 @@
+-- What reading rows answers.
+pub mod Rows
