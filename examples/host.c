@@ -1,6 +1,7 @@
 /*
  * A C host: first the marked examples, each call on a fresh column of growers
- * 10 to 80; then a week at a mill, from the recorded calls to the next plan.
+ * 10 to 80; then a week at a mill, from the recorded calls to the next plan; then
+ * a weighbridge file.
  * Prints each step, and exits nonzero if an answer is not the expected one.
  *
  *   cc -std=c11 -Wall -Wextra -Werror -Iinclude examples/host.c \
@@ -64,6 +65,9 @@ static const char *const reasons[] = {
     "there is no such delivery",
     "the text is no snapshot",
     "the output slice is too short",
+    "the header line lacks a column or has a broken quote",
+    "the header line has a column twice",
+    "a row has another field count, a broken quote or a number out of range",
 };
 
 /* Answers that are not the expected ones. */
@@ -523,6 +527,41 @@ static uint32_t fill(column *c)
     return COUNT_OF(first_set);
 }
 
+/* A file as a weighbridge may write it: columns in another order, others that are
+ * skipped, quoted fields, either line end, and none at the end. */
+static const char weighbridge[] = "ticket,yield,grower,name,weight\r\n"
+                                  "17,2110,101,\"Ruiz, Ana\",420\n"
+                                  "18,1980,0104,\"\"\"La Loma\"\", S.C.A.\",510\r\n"
+                                  "19,2240,107,,\"295\"";
+
+static const char exported[] = "grower,weight,yield\r\n"
+                               "101,420,2110\r\n"
+                               "104,510,1980\r\n"
+                               "107,295,2240\r\n";
+
+/* Imports the file and exports its deliveries; a damaged one is refused. */
+static void import_and_export(void)
+{
+    static column c;
+    static uint8_t text[MELTUSK_CSV_BYTES(SLOTS)];
+    const uint8_t *file = (const uint8_t *)weighbridge;
+    size_t size = sizeof weighbridge - 1;
+    meltusk_imported i = meltusk_import_csv(file, size, SLICES(&c));
+    meltusk_written w = meltusk_export_csv((uint32_t)i.rows, SLICES(&c), text, sizeof text);
+
+    printf("Imported, %" PRIu64 " deliveries", i.rows);
+    judge_refusal(i.refusal, 0);
+    for (uint64_t j = 0; j < i.rows; j++)
+        printf("  grower %" PRIu32 ", %" PRIu32 " kg, yield %" PRIu32 "\n", c.growers[j],
+               c.weights[j], c.yields[j]);
+    printf("Exported, %" PRIu64 " bytes", w.bytes);
+    judge(w.refusal == 0 && w.bytes == sizeof exported - 1 && memcmp(text, exported, w.bytes) == 0);
+
+    i = meltusk_import_csv(file, size - 1, SLICES(&c));
+    printf("Imported without its last quote");
+    judge_refusal(i.refusal, 18);
+}
+
 int main(void)
 {
     static column mill;
@@ -549,6 +588,9 @@ int main(void)
     record_week(histograms, used, &mill, this_week, COUNT_OF(this_week));
     ends_count = plan(histograms, used, &mill, ends);
     lay(&mill, used, ends, ends_count);
+
+    puts("\nA weighbridge file");
+    import_and_export();
 
     printf("\n%d wrong\n", wrong);
     return wrong != 0;

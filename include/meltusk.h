@@ -21,20 +21,21 @@
  * and write and read snapshots of it. To plan again, put the used slots of the
  * three slices in the order of their growers: they are an unpartitioned set
  * then, with a longer block length if they have become more than 64 blocks.
- * examples/host.c does all this.
+ * Deliveries also come from and go to weighbridge files. examples/host.c does
+ * all this.
  *
  * REFUSALS
  *
- * A call first puts its checks, in the order of their numbers. The number of
- * the first that fails is its refusal; 0 means accepted. A refused call writes
- * to no slice, and its answer is 0 but for the refusal number (13 reports the
- * counts of its scan).
+ * A call first puts its checks, in the order in which they are listed at the
+ * call. The number of the first that fails is its refusal; 0 means accepted. A
+ * refused call writes to no slice, and its answer is 0 but for the refusal
+ * number (13 reports the counts of its scan).
  *
  *    1  each price is 1 to 1,000 and each limit at most 1,000,000
  *    2  the block length is 1 to 4,096
  *    3  the three slices share one length C, 1 to 262,144
  *    4  the used slots of an unpartitioned set are 1 to the smaller of C and
- *       64 block lengths
+ *       64 block lengths; the slots to be exported are 0 to C
  *    5  its growers never fall
  *    6  a layout or directory has its shape; and, of a column to be written as
  *       a snapshot, every record is in its grower's partition
@@ -44,11 +45,15 @@
  *   10  each count to be raised stays within 1,000,000; each number of a tally
  *       within 10^12
  *   11  some layout is permitted
- *   12  there is a free slot; for a text to be read, there are as many slots as
- *       it has deliveries
+ *   12  there is a free slot; for a text to be read or imported, there are as
+ *       many slots as it has deliveries
  *   13  the delivery is in its partition
  *   14  the text is a snapshot
  *   15  the output slice is long enough
+ *   16  the header line has each needed name, and no broken quote
+ *   17  it has no needed name twice
+ *   18  each row has as many fields as the header line, no broken quote, and its
+ *       three numbers in range
  *
  * TERMS
  *
@@ -109,6 +114,19 @@
  * weight and a yield, partition by partition. That is
  * MELTUSK_SNAPSHOT_BYTES(M, K) bytes and no other text of the same column: what
  * is read and written again is the same to the byte.
+ *
+ * The weighbridge file: deliveries as comma-separated text by RFC 4180, a
+ * header line and a row a delivery, without a byte 0 at its end. CRLF or LF
+ * ends a line; the last end may be missing. A field may stand in quotes;
+ * commas, line ends and doubled quotes, each read as one quote, are then part
+ * of it. A quote is broken if it is never closed, if anything but a comma, a
+ * line end or the end of the text follows the closing one, or if it stands in a
+ * field that does not begin with one. The columns grower, weight and yield are
+ * found by these names, to the byte and in any order; others are skipped. Their
+ * numbers are plain digits with any leading zeros: a grower is at most
+ * 4,294,967,295, a weight 100,000, a yield 10,000. A CR that no LF follows, and
+ * any other byte, is part of its field; an empty line is a row of one empty
+ * field.
  */
 #ifndef MELTUSK_H
 #define MELTUSK_H
@@ -131,6 +149,8 @@ extern "C" {
 #define MELTUSK_FENCES (MELTUSK_LENGTHS + MELTUSK_PARTITIONS)
 /* The bytes of a snapshot of m deliveries in k partitions. */
 #define MELTUSK_SNAPSHOT_BYTES(m, k) (34 + 23 * (size_t)(k) + 34 * (size_t)(m))
+/* Bytes that are enough for a weighbridge file of m deliveries. */
+#define MELTUSK_CSV_BYTES(m) (21 + 25 * (size_t)(m))
 
 /* Matching records, their weight in kg, and their oil: the sum of weight times
  * yield, of which 10,000 are 1 kg. */
@@ -188,11 +208,17 @@ typedef struct {
     int64_t cost;
 } meltusk_planned;
 
-/* What writing a snapshot answers: how many bytes it wrote. */
+/* What writing a snapshot and an export answer: how many bytes they wrote. */
 typedef struct {
     uint32_t refusal;
     uint64_t bytes;
 } meltusk_written;
+
+/* What an import answers: how many rows it stored. */
+typedef struct {
+    uint32_t refusal;
+    uint64_t rows;
+} meltusk_imported;
 
 /*
  * Applies a layout to an unpartitioned set: block length, used slots, the
@@ -395,6 +421,29 @@ meltusk_applied meltusk_read_snapshot(const uint8_t *text, size_t text_count,
                                       uint32_t *growers, size_t growers_count,
                                       uint32_t *weights, size_t weights_count,
                                       uint32_t *yields, size_t yields_count);
+
+/*
+ * Imports a weighbridge file. Checks 3 16 17 18 12 (18: all rows). Writes the
+ * rows, in their order, to the first slots of each slice, once the whole text
+ * is judged; what lies past them stays.
+ */
+meltusk_imported meltusk_import_csv(const uint8_t *text, size_t text_count,
+                                    uint32_t *growers, size_t growers_count,
+                                    uint32_t *weights, size_t weights_count,
+                                    uint32_t *yields, size_t yields_count);
+
+/*
+ * Exports the first `used` slots as a weighbridge file. Checks 3 4 8 15 (8: the
+ * slots to be exported). Writes the header line grower,weight,yield and a row a
+ * slot to `text`, with CRLF and neither quotes nor leading zeros; what lies
+ * past them stays. MELTUSK_CSV_BYTES(used) bytes are always enough. Importing
+ * what was written gives the same deliveries.
+ */
+meltusk_written meltusk_export_csv(uint32_t used,
+                                   const uint32_t *growers, size_t growers_count,
+                                   const uint32_t *weights, size_t weights_count,
+                                   const uint32_t *yields, size_t yields_count,
+                                   uint8_t *text, size_t text_count);
 
 #ifdef __cplusplus
 }

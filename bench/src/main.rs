@@ -4,6 +4,7 @@
 
 mod calibrate;
 mod columns;
+mod csv;
 mod plans;
 mod race;
 mod sets;
@@ -26,10 +27,18 @@ fn heading(call: &str, size: &str, other: &str) {
     );
 }
 
+/// Weighbridge files, by their count of columns.
+fn files() {
+    heading("call", "cols", "second");
+    csv::run();
+}
+
 fn calls() {
     heading("call", "K", "second");
     [1, 8, 64].into_iter().for_each(columns::run);
     [1, 64].into_iter().for_each(snapshots::run);
+    println!();
+    files();
     println!();
     heading("call", "K", "SSE2");
     [1, 64].into_iter().for_each(sse2::run);
@@ -43,6 +52,7 @@ fn main() {
     let arguments: Vec<&str> = arguments.iter().map(String::as_str).collect();
     match arguments[..] {
         [] | ["calls"] => calls(),
+        ["csv"] => files(),
         ["calibrate"] => calibrate::survey(),
         ["calibrate", block] => match block.parse() {
             Ok(block @ 1..=BLOCK_LENGTH_LIMIT) => calibrate::run(block),
@@ -50,7 +60,7 @@ fn main() {
         },
         ["weeks"] => weeks::run(),
         ["cards"] => weeks::cards(),
-        _ => fail("bench [calls | calibrate [BLOCK_LENGTH] | weeks | cards]"),
+        _ => fail("bench [calls | csv | calibrate [BLOCK_LENGTH] | weeks | cards]"),
     }
 }
 

@@ -46,11 +46,23 @@ impl Times {
             .fold(f64::INFINITY, |a, &b| a.min(b))
     }
 
-    pub fn print(&self, call: &str, size: usize) {
+    /// A line of both times and their ratio.
+    fn line(&self, call: &str, size: usize) -> String {
         let [ours, second] = self.least.map(|time| time.unwrap_or(f64::NAN));
-        println!(
+        format!(
             "{call:<14}{size:>4}{ours:>14.1}{second:>14.1}{:>8.2}",
             ours / second
-        );
+        )
+    }
+
+    pub fn print(&self, call: &str, size: usize) {
+        println!("{}", self.line(call, size));
+    }
+
+    /// With how many MB/s of a text are ours.
+    pub fn print_rate(&self, call: &str, size: usize, bytes: usize) {
+        let ours = self.least[0].unwrap_or(f64::NAN);
+        let rate = 1_000.0 * bytes as f64 / ours;
+        println!("{}{rate:>8.0} MB/s", self.line(call, size));
     }
 }

@@ -7,6 +7,7 @@ ghost use Rattle.model.specs.Calls.{find, range, insert, delete, move};
 ghost use Rattle.model.specs.Recorder.{recordCall};
 ghost use Rattle.model.specs.Planner.{costCall, planCall};
 ghost use Rattle.model.specs.ColumnCalls.{applyCall, columnCall, partitionCall};
+ghost use Rattle.model.specs.CsvCalls.{importCall, exportCall};
 ghost use Rattle.model.specs.SnapshotCalls.{writeCall, readCall};
 ghost use Rattle.model.specs.Lent.{columnIn, columnOut, setIn};
 ghost use Rattle.model.specs.Accesses.{counts};
@@ -17,6 +18,7 @@ use model::Applied;
 use model::Costed;
 use model::Counts;
 use model::Delivery;
+use model::Imported;
 use model::Limits;
 use model::PartitionSlice;
 use model::Planned;
@@ -389,4 +391,33 @@ pub extern "C" fn meltusk_read_snapshot(
         ≡ readCall blockLimit (now (text .entry)) (now (growers .entry)) (now (weights .entry)) (now (yields .entry)) ⌝ }
 {
     snapshot::read(text, growers, weights, yields)
+}
+
+// Imports the rows of a weighbridge file into the slots.
+#[no_mangle]
+pub extern "C" fn meltusk_import_csv(
+    text: &[u8],
+    growers: &mut [u32],
+    weights: &mut [u32],
+    yields: &mut [u32],
+) -> Imported
+    ensures { λ r. ⌜ record { answer = r; growers = now (growers .exit); weights = now (weights .exit); yields = now (yields .exit) }
+        ≡ importCall (now (text .entry)) (now (growers .entry)) (now (weights .entry)) (now (yields .entry)) ⌝ }
+{
+    csv::import(text, growers, weights, yields)
+}
+
+// Exports the first slots as a weighbridge file.
+#[no_mangle]
+pub extern "C" fn meltusk_export_csv(
+    used: u32,
+    growers: &[u32],
+    weights: &[u32],
+    yields: &[u32],
+    text: &mut [u8],
+) -> Written
+    ensures { λ r. ⌜ record { answer = r; text = now (text .exit) }
+        ≡ exportCall used (now (growers .entry)) (now (weights .entry)) (now (yields .entry)) (now (text .entry)) ⌝ }
+{
+    csv::export(used, growers, weights, yields, text)
 }

@@ -261,6 +261,44 @@ fn snapshots(run: &mut Run) -> Result<(), String> {
     }
 }
 
+/// The weighbridge file of one delivery 0, 0, 0.
+const FILE: &[u8] = b"grower,weight,yield\r\n0,0,0\r\n";
+
+/// A long text is read past the count cut to 32 bits, a long room is enough,
+/// and long slices are refused by 3.
+fn files(run: &mut Run) -> Result<(), String> {
+    let (Some(mut slots), Some(mut text), Some(mut room)) =
+        (reserve(run, 1), reserve(run, FILE.len()), reserve(run, 0))
+    else {
+        return Ok(());
+    };
+    let (mut a, mut b, mut c) = ([0], [0], [0]);
+    // A broken quote just behind the file.
+    let behind = [FILE, b"\"\"x"].concat();
+    text.bytes()[..behind.len()].copy_from_slice(&behind);
+    let imported = LIBRARY.import_csv(text.bytes(), &mut a, &mut b, &mut c);
+    let exported = LIBRARY.export_csv(1, &a, &b, &c, room.bytes());
+    // Each refusal and the one it has to be.
+    let mut refusals = vec![(imported.refusal, 18), (exported.refusal, 0)];
+    for which in 0..3 {
+        let long = slots.slice();
+        let [g, w, y] = match which {
+            0 => [long, &mut a, &mut b],
+            1 => [&mut a, long, &mut b],
+            _ => [&mut a, &mut b, long],
+        };
+        let exported = LIBRARY.export_csv(1, g, w, y, &mut [0; FILE.len()]);
+        let imported = LIBRARY.import_csv(FILE, g, w, y);
+        refusals.extend([(exported.refusal, 3), (imported.refusal, 3)]);
+    }
+    run.seen.calls += refusals.len() as u64;
+    let right = refusals.iter().all(|(is, should)| is == should);
+    match right && &room.bytes()[..FILE.len()] == FILE {
+        true => Ok(()),
+        false => Err(format!("refusals {refusals:?}, {exported:?}")),
+    }
+}
+
 /// Each call of recorder, cost and planner: its refusal and its cost, if any.
 fn planned(
     set: &UnlaidSet,
@@ -326,5 +364,6 @@ fn plans(run: &mut Run) -> Result<(), String> {
 pub const TESTS: &[(&str, Test)] = &[
     ("broken input, slice counts past 32 bits", long),
     ("snapshots: slice counts past 32 bits", snapshots),
+    ("files: slice counts past 32 bits", files),
     ("plan: slice counts past 32 bits", plans),
 ];

@@ -17,6 +17,7 @@
 
 mod broken;
 mod calls;
+mod csv;
 mod header;
 mod inputs;
 mod layouts;
@@ -27,8 +28,10 @@ mod plan;
 mod seen;
 mod snapshots;
 mod tallies;
+mod text;
 mod valgrind;
 
+use csv::seen::Files;
 use meltusk::Seen;
 use second::random::{case_seed, Random};
 use snapshots::seen::Damages;
@@ -47,6 +50,7 @@ pub struct Run {
     scale: f64,
     pub seen: Seen,
     pub damages: Damages,
+    pub files: Files,
     /// What the present test does not try here, and why.
     pub left_out: Option<&'static str>,
 }
@@ -86,6 +90,7 @@ fn tests() -> Vec<(&'static str, Test)> {
     tests.extend(layouts::TESTS);
     tests.push(("every answer of every call has occurred", every_answer));
     tests.extend(snapshots::TESTS);
+    tests.extend(csv::TESTS);
     tests.extend(tallies::TESTS);
     tests.extend(plan::TESTS);
     tests.extend(header::TESTS);
@@ -108,6 +113,7 @@ fn run_tests(scale: f64) -> Tally {
         scale,
         seen: Seen::default(),
         damages: Damages::default(),
+        files: Files::default(),
         left_out: None,
     };
     let mut tally = Tally::default();

@@ -2,7 +2,8 @@
 //! same types.
 
 use second::{
-    CostAnswer, DirectoryAnswer, PlanAnswer, ReadAnswer, SnapshotAnswer, SpanAnswer, WriteAnswer,
+    CostAnswer, DirectoryAnswer, ImportAnswer, PlanAnswer, ReadAnswer, SpanAnswer, TextAnswer,
+    WriteAnswer,
 };
 
 /// MELTUSK_DIRECTORY
@@ -67,6 +68,13 @@ pub struct Planned {
 pub struct Written {
     pub refusal: u32,
     pub bytes: u64,
+}
+
+#[repr(C)]
+#[derive(Clone, Copy, Debug, PartialEq, Eq)]
+pub struct Imported {
+    pub refusal: u32,
+    pub rows: u64,
 }
 
 impl From<second::Counts> for Counts {
@@ -149,11 +157,20 @@ impl From<PlanAnswer> for Planned {
     }
 }
 
-impl From<SnapshotAnswer> for Written {
-    fn from(a: SnapshotAnswer) -> Written {
+impl From<TextAnswer> for Written {
+    fn from(a: TextAnswer) -> Written {
         Written {
             refusal: a.refusal,
             bytes: a.written as u64,
+        }
+    }
+}
+
+impl From<ImportAnswer> for Imported {
+    fn from(a: ImportAnswer) -> Imported {
+        Imported {
+            refusal: a.refusal,
+            rows: a.rows as u64,
         }
     }
 }

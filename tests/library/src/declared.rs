@@ -1,6 +1,6 @@
 //! The declarations of include/meltusk.h.
 
-use crate::answers::{Answer, Applied, Costed, PartitionSlice, Planned, Written};
+use crate::answers::{Answer, Applied, Costed, Imported, PartitionSlice, Planned, Written};
 
 /// Declares C calls. A parameter `&name: T` is a slice that the call reads and
 /// `mut name: T` one that it writes, each a pointer and a count; every other
@@ -85,4 +85,10 @@ declare! {
     meltusk_read_snapshot(
         &text: u8, mut growers: u32, mut weights: u32, mut yields: u32
     ) -> Applied;
+    meltusk_import_csv(
+        &text: u8, mut growers: u32, mut weights: u32, mut yields: u32
+    ) -> Imported;
+    meltusk_export_csv(
+        used: u32, &growers: u32, &weights: u32, &yields: u32, mut text: u8
+    ) -> Written;
 }

@@ -11,7 +11,7 @@ mod seen;
 mod set;
 
 pub use answers::{
-    Answer, Applied, Costed, Counts, PartitionSlice, Planned, Totals, Written, DIRECTORY,
+    Answer, Applied, Costed, Counts, Imported, PartitionSlice, Planned, Totals, Written, DIRECTORY,
 };
 pub use calls::{call_second, record_second, Call};
 pub use column::{Column, ColumnSlices, View};

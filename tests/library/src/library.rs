@@ -1,6 +1,6 @@
 //! Safe calls of the compiled library.
 
-use crate::answers::{Answer, Applied, Costed, Counts, PartitionSlice, Planned, Written};
+use crate::answers::{Answer, Applied, Costed, Counts, Imported, PartitionSlice, Planned, Written};
 use crate::column::{ColumnSlices, View};
 use crate::declared;
 use second::{Delivery, Limits, PriceCard, UnlaidSet};
@@ -197,6 +197,29 @@ impl Library {
         yields: &mut [u32],
     ) -> Applied {
         call!(self => meltusk_read_snapshot(&text, mut growers, mut weights, mut yields))
+    }
+
+    #[inline]
+    pub fn import_csv(
+        &self,
+        text: &[u8],
+        growers: &mut [u32],
+        weights: &mut [u32],
+        yields: &mut [u32],
+    ) -> Imported {
+        call!(self => meltusk_import_csv(&text, mut growers, mut weights, mut yields))
+    }
+
+    #[inline]
+    pub fn export_csv(
+        &self,
+        used: u32,
+        growers: &[u32],
+        weights: &[u32],
+        yields: &[u32],
+        text: &mut [u8],
+    ) -> Written {
+        call!(self => meltusk_export_csv(used, &growers, &weights, &yields, mut text))
     }
 }
 

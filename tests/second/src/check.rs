@@ -9,7 +9,7 @@ pub const PRICES: u32 = 1;
 pub const BLOCK_LENGTH: u32 = 2;
 /// Three slices of one length C, 1 to 262,144.
 pub const SLICES: u32 = 3;
-/// M in range for an unlaid set.
+/// M in range for an unlaid set (an export: 0 to C).
 pub const RECORD_COUNT: u32 = 4;
 /// Growers of an unlaid set never fall.
 pub const ORDER: u32 = 5;
@@ -25,7 +25,7 @@ pub const HISTOGRAM: u32 = 9;
 pub const OVERFLOW: u32 = 10;
 /// Some layout is permitted.
 pub const NO_LAYOUT: u32 = 11;
-/// A free slot (reading: M slots).
+/// A free slot (reading: M slots; an import: a slot for each row).
 pub const FULL: u32 = 12;
 /// The delivery is in the partition.
 pub const ABSENT: u32 = 13;
@@ -33,6 +33,13 @@ pub const ABSENT: u32 = 13;
 pub const TEXT: u32 = 14;
 /// The output is long enough.
 pub const ROOM: u32 = 15;
+/// The header has each needed name, and no broken quote.
+pub const COLUMN_ABSENT: u32 = 16;
+/// No needed name occurs twice.
+pub const COLUMN_TWICE: u32 = 17;
+/// Each row has the header's field count, no broken quote, and its numbers in
+/// range.
+pub const ROW: u32 = 18;
 
 /// Outcome of a list of checks: the first "no" ends it.
 pub type Checked<T> = Result<T, u32>;

@@ -1,7 +1,7 @@
 //! Second implementation of the delivery column and its planner.
 //!
-//! It is written from paper 01 alone and serves as the comparison partner of
-//! the product. Standard library only.
+//! It is written from papers 01 and 02 alone and serves as the comparison
+//! partner of the product. Standard library only.
 //!
 //! Each call answers the number of the first check that fails, or 0. The
 //! checks of each call are put in the order of the paper's list of questions.
@@ -11,6 +11,7 @@
 pub mod check;
 pub mod column;
 pub mod cost;
+pub mod csv;
 pub mod field;
 pub mod layplan;
 pub mod ledger;
@@ -26,6 +27,7 @@ pub use column::{
     apply_layout, delete, find, insert, move_delivery, partition_slice, partition_span, range,
 };
 pub use cost::cost;
+pub use csv::{csv_export, csv_import, csv_size};
 pub use layplan::layplan;
 pub use ledger::Ledger;
 pub use planner::{plan_by_listing, plan_by_table};

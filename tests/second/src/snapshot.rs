@@ -56,13 +56,13 @@ pub fn snapshot_write(
     yields: &[u32],
     directory: &[u32],
     out: &mut [u8],
-) -> SnapshotAnswer {
+) -> TextAnswer {
     match try_write(growers, weights, yields, directory, out) {
-        Ok(written) => SnapshotAnswer {
+        Ok(written) => TextAnswer {
             refusal: check::ACCEPTED,
             written,
         },
-        Err(refusal) => SnapshotAnswer {
+        Err(refusal) => TextAnswer {
             refusal,
             written: 0,
         },

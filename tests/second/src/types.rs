@@ -244,10 +244,18 @@ pub struct SpanAnswer {
     pub count: usize,
 }
 
-/// Answer of writing a snapshot.
+/// Answer of writing a snapshot and of an export.
 #[derive(Clone, Copy, Debug, PartialEq, Eq)]
-pub struct SnapshotAnswer {
+pub struct TextAnswer {
     pub refusal: u32,
     /// Number of bytes written, 0 when refused.
     pub written: usize,
+}
+
+/// Answer of an import.
+#[derive(Clone, Copy, Debug, PartialEq, Eq)]
+pub struct ImportAnswer {
+    pub refusal: u32,
+    /// Number of rows stored, 0 when refused.
+    pub rows: usize,
 }

@@ -4,42 +4,10 @@
 use super::seen;
 use crate::calls::{directory_text, slots_text, NAMES};
 use crate::memory::Memory;
+use crate::text::{old_bytes, shown, Text, TEXT};
 use meltusk::{Applied, Column, Library, Seen, View, Written, DIRECTORY};
 use second::random::Random;
 use second::{snapshot_size, BLOCK_LIMIT, LENGTHS};
-
-const TEXT: [&str; 1] = ["text"];
-
-/// Most bytes printed of a failed case.
-const PRINTED: usize = 2_000;
-
-/// A text to be read.
-#[derive(Clone, Debug)]
-pub struct Text {
-    bytes: Vec<u8>,
-    /// The first of them are lent. The others were cut off and stand behind
-    /// the text: a read past its end finds what was there.
-    lent: usize,
-}
-
-impl Text {
-    pub fn new(mut lent: Vec<u8>, cut: &[u8]) -> Text {
-        let count = lent.len();
-        lent.extend_from_slice(cut);
-        Text {
-            bytes: lent,
-            lent: count,
-        }
-    }
-
-    pub fn whole(bytes: &[u8]) -> Text {
-        Text::new(bytes.to_vec(), &[])
-    }
-
-    pub fn lent(&self) -> &[u8] {
-        &self.bytes[..self.lent]
-    }
-}
 
 /// Bytes of the text of a column whose directory has its shape.
 pub fn size(c: &Column) -> usize {
@@ -56,21 +24,6 @@ pub fn text_of(c: &Column) -> Result<Vec<u8>, String> {
     }
 }
 
-/// Slots as they may be before reading; none is 0.
-pub fn old_slots(r: &mut Random, lengths: [usize; 3]) -> [Vec<u32>; 3] {
-    lengths.map(|n| {
-        (0..n)
-            .map(|_| r.within(1, u32::MAX as usize) as u32)
-            .collect()
-    })
-}
-
-fn shown(text: &[u8]) -> String {
-    let more = if text.len() > PRINTED { " .." } else { "" };
-    let first = &text[..text.len().min(PRINTED)];
-    format!("{} bytes \"{}\"{more}", text.len(), first.escape_ascii())
-}
-
 /// Writes a column by both into `room` bytes; compares answers, texts, slices
 /// and guards. Answers the refusal and the bytes that the library wrote.
 pub fn write(
@@ -80,7 +33,7 @@ pub fn write(
     c: &Column,
     room: usize,
 ) -> Result<(u32, Vec<u8>), String> {
-    let old: Vec<u8> = (0..room).map(|_| r.within(1, 255) as u8).collect();
+    let old = old_bytes(r, room);
     let mut compiled_text = Memory::new(r, &[&old]);
     let mut second_text = compiled_text.clone();
     let mut slots = Memory::new(r, &[&c.growers, &c.weights, &c.yields, &c.directory]);
@@ -135,8 +88,7 @@ pub fn read(
     text: &Text,
     old: &[Vec<u32>; 3],
 ) -> Result<(u32, Column), String> {
-    let mut lent = Memory::new(r, &[&text.bytes]);
-    lent.shorten(0, text.bytes.len() - text.lent);
+    let mut lent = text.memory(r);
     let lent_before = lent.clone();
     let mut compiled_slots = Memory::new(r, &[&old[0], &old[1], &old[2]]);
     let mut second_slots = compiled_slots.clone();
@@ -186,7 +138,7 @@ pub fn read_back(
 ) -> Result<(u32, Column), String> {
     let (refusal, column) = read(r, seen, library, text, old)?;
     if refusal == 0 {
-        let (refusal, again) = write(r, seen, library, &column, text.lent)?;
+        let (refusal, again) = write(r, seen, library, &column, text.lent().len())?;
         if refusal != 0 || again != text.lent() {
             let (was, is) = (shown(text.lent()), shown(&again));
             return Err(format!("read and written, {refusal}: {was}, then {is}"));

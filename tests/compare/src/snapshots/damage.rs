@@ -1,6 +1,6 @@
 //! Texts damaged as a disk or a hand damages them.
 
-use super::calls::Text;
+use crate::text::Text;
 use second::random::Random;
 use second::{BLOCK_LIMIT, SLOT_LIMIT, WEIGHT_LIMIT, YIELD_LIMIT};
 use std::ops::Range;

@@ -1,52 +1,16 @@
 //! Texts read, whole and damaged.
 
-use super::calls::{old_slots, read_back, size, text_of, write, Text};
+use super::calls::{read_back, size, text_of, write};
 use super::damage::{damages, line, Damage, Draft, Effect};
 use super::seen;
 use super::writing::{lines, same_column};
 use crate::inputs::{self, Kind, EDGE_COUNTS};
 use crate::lists;
+use crate::text::{old_slots, Lent, Text, LENT};
 use crate::Run;
 use meltusk::{spread_growers, Column, Library, LIBRARIES};
 use second::random::Random;
 use second::{BLOCK_LIMIT, DIRECTORY_LEN, FENCES, LENGTHS, SLOT_LIMIT};
-
-/// The slots that a text is read into.
-#[derive(Clone, Copy, Debug, PartialEq, Eq)]
-enum Lent {
-    Exact,
-    More,
-    Fewer,
-    /// One of the three slices has another length.
-    Unequal,
-    None,
-}
-
-const LENT: [Lent; 5] = [
-    Lent::Exact,
-    Lent::More,
-    Lent::Fewer,
-    Lent::Unequal,
-    Lent::None,
-];
-
-impl Lent {
-    /// The lengths of the slices for a text of M deliveries; none if there
-    /// are no such.
-    fn lengths(self, r: &mut Random, m: usize) -> Option<[usize; 3]> {
-        match self {
-            Lent::Exact => (m > 0).then_some([m; 3]),
-            Lent::More => Some([m + r.within(1, 5); 3]),
-            Lent::Fewer => (m > 1).then(|| [r.edge(1, m - 1); 3]),
-            Lent::Unequal => {
-                let mut lengths = [m + 1; 3];
-                lengths[r.below(3)] = m + r.pick(&[0, 2]);
-                Some(lengths)
-            }
-            Lent::None => Some([0; 3]),
-        }
-    }
-}
 
 /// A text to be read.
 struct Given {

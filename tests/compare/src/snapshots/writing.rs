@@ -1,11 +1,12 @@
 //! Columns written, good and bad.
 
-use super::calls::{old_slots, read, size, write, Text};
+use super::calls::{read, size, write};
 use super::damage::line;
 use crate::broken::{self, Fault, FAULTS};
 use crate::calls::{Asked, Pair};
 use crate::inputs::{self, Kind, EDGE_COUNTS, MIXES};
 use crate::lists;
+use crate::text::{old_slots, Text};
 use crate::Run;
 use meltusk::{Call, Column, Empty, Library, Slots, LIBRARIES};
 use second::random::Random;

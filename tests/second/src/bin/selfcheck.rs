@@ -5,6 +5,8 @@
 
 #[path = "selfcheck/checks.rs"]
 mod checks;
+#[path = "selfcheck/csv.rs"]
+mod csv;
 #[path = "selfcheck/groups.rs"]
 mod groups;
 #[path = "selfcheck/model.rs"]
@@ -77,6 +79,13 @@ const GROUPS: &[(&str, Group, u64)] = &[
         20_000,
     ),
     ("snapshot damaged", groups::snapshot_damaged, 60_000),
+    ("example: weighbridge files", csv::csv_examples, 1),
+    (
+        "weighbridge file there and back",
+        csv::csv_round_trip,
+        20_000,
+    ),
+    ("weighbridge file damaged", csv::csv_damaged, 100_000),
     ("layplan against its pieces", groups::layplan_pieces, 60_000),
     ("tally", groups::tally_sums, 100_000),
 ];

@@ -774,6 +774,139 @@ fn read_line_1_checks() -> Outcome {
     alone_and_in_pairs(&text_base(), &faults, &read_call)
 }
 
+/// Input of an import.
+#[derive(Clone)]
+struct File {
+    header: &'static str,
+    rows: Vec<&'static str>,
+    slots: [usize; 3],
+}
+
+fn import_call(f: &File) -> Result<u32, String> {
+    let [g, w, y] = f.slots;
+    let (mut gs, mut ws, mut ys) = (vec![7; g], vec![8; w], vec![9; y]);
+    let text = [f.header, &f.rows.join("\r\n")].join("\r\n");
+    let a = csv_import(text.as_bytes(), &mut gs, &mut ws, &mut ys);
+    require_zero(a.refusal, a.rows == 0)?;
+    if a.refusal != 0 {
+        require_same(&gs, &vec![7; g])?;
+        require_same(&ws, &vec![8; w])?;
+        require_same(&ys, &vec![9; y])?;
+    }
+    Ok(a.refusal)
+}
+
+fn import_checks() -> Outcome {
+    let base = File {
+        header: "mill,grower,weight,yield",
+        rows: vec!["a,1,2,3", "b,4,5,6"],
+        slots: [2; 3],
+    };
+    let mut faults = vec![
+        fault(0, 3, "short weights", |f: &mut File| {
+            f.slots[1] = f.slots[0] - 1
+        }),
+        fault(0, 3, "long yields", |f: &mut File| {
+            f.slots[2] = f.slots[0] + 1
+        }),
+        fault(0, 3, "C 0", |f: &mut File| f.slots = [0; 3]),
+        fault(0, 3, "C 262145", |f: &mut File| {
+            f.slots = [SLOT_LIMIT + 1; 3]
+        }),
+        fault(4, 12, "one slot", |f: &mut File| f.slots = [1; 3]),
+        fault(4, 12, "rows more", |f: &mut File| f.rows.push("c,7,8,9")),
+    ];
+    for (place, number, header) in [
+        (1, 16, "mill,grower,weight"),
+        (1, 16, "mill,grower,weight,Yield"),
+        (1, 16, "mill,grower,weight,yield,x\""),
+        (1, 16, "grower,grower,weight,weight"),
+        (2, 17, "grower,grower,weight,yield"),
+        (2, 17, "yield,grower,weight,yield"),
+    ] {
+        faults.push(fault(place, number, header, move |f: &mut File| {
+            f.header = header
+        }));
+    }
+    for row in [
+        "a,1,2",
+        "a,1,2,3,4",
+        "a,1,100001,3",
+        "a,1,2,10001",
+        "a,4294967296,2,3",
+        "a,1,,3",
+        "a\",1,2,3",
+        "\"a,1,2,3",
+    ] {
+        faults.push(fault(3, 18, row, move |f: &mut File| f.rows.push(row)));
+    }
+    alone_and_in_pairs(&base, &faults, &import_call)
+}
+
+/// Input of an export.
+#[derive(Clone)]
+struct Export {
+    used: usize,
+    c: Column,
+    room: usize,
+}
+
+fn export_checks() -> Outcome {
+    let c = Column {
+        growers: vec![10, u32::MAX, 0, 7],
+        weights: vec![100_000, 0, 5, 100_001],
+        yields: vec![10_000, 0, 6, 10_001],
+        directory: vec![],
+    };
+    let base = Export {
+        used: 3,
+        c,
+        room: "grower,weight,yield\r\n10,100000,10000\r\n4294967295,0,0\r\n0,5,6\r\n".len(),
+    };
+    let mut faults = vec![
+        fault(0, 3, "short growers", |e: &mut Export| {
+            e.c.growers.truncate(3)
+        }),
+        fault(0, 3, "long yields", |e: &mut Export| e.c.yields.push(0)),
+        fault(0, 3, "C 0", |e: &mut Export| {
+            for column in [&mut e.c.growers, &mut e.c.weights, &mut e.c.yields] {
+                column.clear();
+            }
+        }),
+        fault(0, 3, "C 262145", |e: &mut Export| {
+            for column in [&mut e.c.growers, &mut e.c.weights, &mut e.c.yields] {
+                column.resize(SLOT_LIMIT + 1, 0);
+            }
+        }),
+        fault(1, 4, "M above C", |e: &mut Export| e.used = 5),
+        fault(1, 4, "M largest", |e: &mut Export| {
+            e.used = u32::MAX as usize
+        }),
+        fault(2, 8, "M over values out of range", |e: &mut Export| {
+            e.used = 4
+        }),
+        fault(3, 15, "room short by 1", |e: &mut Export| e.room -= 1),
+        fault(3, 15, "room 0", |e: &mut Export| e.room = 0),
+    ];
+    for at in 0..3 {
+        faults.push(fault(2, 8, "weight", move |e: &mut Export| {
+            put(&mut e.c.weights, at, 100_001)
+        }));
+        faults.push(fault(2, 8, "yield", move |e: &mut Export| {
+            put(&mut e.c.yields, at, 10_001)
+        }));
+    }
+    alone_and_in_pairs(&base, &faults, &|e| {
+        let mut out = vec![b'#'; e.room];
+        let a = csv_export(e.used, &e.c.growers, &e.c.weights, &e.c.yields, &mut out);
+        require_zero(a.refusal, a.written == 0)?;
+        if a.refusal != 0 {
+            require_same(&out, &vec![b'#'; e.room])?;
+        }
+        Ok(a.refusal)
+    })
+}
+
 /// Input of `layplan`: its lines, and changes to the text.
 fn layplan_base(calls: bool) -> Text {
     let mut lines = vec![vec![3, 1, 2], vec![100, 100], vec![2, 5, 0]];
@@ -1009,7 +1142,7 @@ fn recorder_checks() -> Vec<(&'static str, Box<dyn Fn() -> Outcome>)> {
 
 pub fn all() -> Vec<(String, Outcome)> {
     let mut list = recorder_checks();
-    let rest: [(&str, fn() -> Outcome); 17] = [
+    let rest: [(&str, fn() -> Outcome); 19] = [
         ("cost of a layout", cost_checks),
         ("planner", planner_checks),
         ("apply layout", apply_checks),
@@ -1023,6 +1156,8 @@ pub fn all() -> Vec<(String, Outcome)> {
         ("directory of another length", directory_length_checks),
         ("snapshot read", read_checks),
         ("snapshot read, line 1", read_line_1_checks),
+        ("import", import_checks),
+        ("export", export_checks),
         ("layplan with calls", || layplan_checks(true)),
         ("layplan without calls", || layplan_checks(false)),
         ("tally", tally_checks),

@@ -730,7 +730,7 @@ pub fn snapshot_round_trip(s: &dyn Subject, cases: u64) -> Outcome {
         let before = c.clone();
         let w = s.snapshot_write(&c, &mut text);
         require!(
-            w == SnapshotAnswer {
+            w == TextAnswer {
                 refusal: 0,
                 written: expected.len()
             },

@@ -1,6 +1,7 @@
 //! Deliberately wrong variants. Each must be detected by the comparison that
 //! is named for it; otherwise that comparison proves nothing.
 
+use crate::csv;
 use crate::groups::{self, Outcome};
 use crate::subject::*;
 use second::planner::layout_of_bits;
@@ -21,7 +22,9 @@ struct Mutant {
     plan: Option<fn(&PriceCard, &Limits, &UnlaidSet, &[u32], &mut [u32]) -> PlanAnswer>,
     apply: Option<fn(&UnlaidSet, &[u32]) -> DirectoryAnswer>,
     read: Option<fn(&[u8], &mut Column) -> DirectoryAnswer>,
-    write: Option<fn(&Column, &mut [u8]) -> SnapshotAnswer>,
+    write: Option<fn(&Column, &mut [u8]) -> TextAnswer>,
+    import: Option<fn(&[u8], &mut Column) -> ImportAnswer>,
+    export: Option<fn(usize, &Column, &mut [u8]) -> TextAnswer>,
     tally: Option<fn(&mut Tally, &Counts) -> u32>,
     layplan: Option<fn(&[u8]) -> Vec<u8>>,
 }
@@ -74,10 +77,24 @@ impl Subject for Mutant {
         }
     }
 
-    fn snapshot_write(&self, c: &Column, out: &mut [u8]) -> SnapshotAnswer {
+    fn snapshot_write(&self, c: &Column, out: &mut [u8]) -> TextAnswer {
         match self.write {
             Some(f) => f(c, out),
             None => Library.snapshot_write(c, out),
+        }
+    }
+
+    fn csv_import(&self, text: &[u8], c: &mut Column) -> ImportAnswer {
+        match self.import {
+            Some(f) => f(text, c),
+            None => Library.csv_import(text, c),
+        }
+    }
+
+    fn csv_export(&self, used: usize, c: &Column, out: &mut [u8]) -> TextAnswer {
+        match self.export {
+            Some(f) => f(used, c, out),
+            None => Library.csv_export(used, c, out),
         }
     }
 
@@ -658,11 +675,134 @@ fn later_slots_cleared(text: &[u8], c: &mut Column) -> DirectoryAnswer {
 }
 
 /// Bytes past the text are blanked.
-fn blanked_tail(c: &Column, out: &mut [u8]) -> SnapshotAnswer {
+fn blanked_tail(c: &Column, out: &mut [u8]) -> TextAnswer {
     let a = Library.snapshot_write(c, out);
     if a.refusal == 0 {
         out[a.written..].fill(b' ');
     }
+    a
+}
+
+/// An import that refuses some texts that should be accepted.
+fn refused_if(text: &[u8], c: &mut Column, is_bad: bool) -> ImportAnswer {
+    let before = c.clone();
+    let a = Library.csv_import(text, c);
+    if a.refusal != 0 || !is_bad {
+        return a;
+    }
+    *c = before;
+    ImportAnswer {
+        refusal: 18,
+        rows: 0,
+    }
+}
+
+/// LF alone ends no line.
+fn lf_alone(text: &[u8], c: &mut Column) -> ImportAnswer {
+    let lf = |w: &[u8]| w[0] != b'\r' && w[1] == b'\n';
+    refused_if(text, c, text.windows(2).any(lf))
+}
+
+/// A leading zero is refused.
+fn no_leading_zero(text: &[u8], c: &mut Column) -> ImportAnswer {
+    let zero = |w: &[u8]| !w[0].is_ascii_digit() && w[1] == b'0' && w[2].is_ascii_digit();
+    refused_if(text, c, text.windows(3).any(zero))
+}
+
+/// A doubled quote is refused.
+fn no_doubled_quote(text: &[u8], c: &mut Column) -> ImportAnswer {
+    let (records, _) = csv::records(text);
+    let is_there = records.iter().flatten().any(|field| field.contains(&b'"'));
+    refused_if(text, c, is_there)
+}
+
+/// The first three columns are taken, whatever their names.
+fn columns_by_place(text: &[u8], c: &mut Column) -> ImportAnswer {
+    let a = Library.csv_import(text, c);
+    let (records, _) = csv::records(text);
+    for (slot, row) in records.iter().skip(1).take(a.rows).enumerate() {
+        let number = |i: usize| String::from_utf8_lossy(&row[i]).parse().unwrap_or(0);
+        c.store(slot, Delivery::new(number(0), number(1), number(2)));
+    }
+    a
+}
+
+/// The header is read in any case of its letters.
+fn any_case(text: &[u8], c: &mut Column) -> ImportAnswer {
+    let end = text.iter().position(|&b| b == b'\n').unwrap_or(0);
+    let (header, rows) = text.split_at(end);
+    Library.csv_import(&[&header.to_ascii_lowercase(), rows].concat(), c)
+}
+
+/// 12 goes ahead of 18.
+fn full_ahead_of_row(text: &[u8], c: &mut Column) -> ImportAnswer {
+    let a = Library.csv_import(text, c);
+    let rows = csv::records(text).0.len().saturating_sub(1);
+    match a.refusal == 18 && rows > c.growers.len() {
+        true => ImportAnswer {
+            refusal: 12,
+            rows: 0,
+        },
+        false => a,
+    }
+}
+
+/// 17 goes ahead of 16.
+fn twice_ahead_of_absent(text: &[u8], c: &mut Column) -> ImportAnswer {
+    let a = Library.csv_import(text, c);
+    let (records, _) = csv::records(text);
+    let header = records.first().map_or(&[][..], |header| header);
+    let times = |name: &&[u8]| header.iter().filter(|field| field[..] == **name).count();
+    let is_twice = [&b"grower"[..], b"weight", b"yield"]
+        .iter()
+        .any(|n| times(n) > 1);
+    match a.refusal == 16 && is_twice {
+        true => ImportAnswer {
+            refusal: 17,
+            rows: 0,
+        },
+        false => a,
+    }
+}
+
+/// A text refused by 12 has filled the slots.
+fn filled_when_refused(text: &[u8], c: &mut Column) -> ImportAnswer {
+    let a = Library.csv_import(text, c);
+    if a.refusal == 12 {
+        let slots = c.growers.len();
+        let mut large = c.clone();
+        for column in [&mut large.growers, &mut large.weights, &mut large.yields] {
+            column.resize(text.len(), 0);
+        }
+        Library.csv_import(text, &mut large);
+        (0..slots).for_each(|s| c.store(s, large.slot(s)));
+    }
+    a
+}
+
+/// Slots past the rows are cleared.
+fn slots_past_rows_cleared(text: &[u8], c: &mut Column) -> ImportAnswer {
+    let a = Library.csv_import(text, c);
+    if a.refusal == 0 {
+        (a.rows..c.growers.len()).for_each(|s| c.store(s, Delivery::default()));
+    }
+    a
+}
+
+/// Lines end with LF alone.
+fn export_lf(used: usize, c: &Column, out: &mut [u8]) -> TextAnswer {
+    let mut a = Library.csv_export(used, c, out);
+    let mut text = out[..a.written].to_vec();
+    text.retain(|&b| b != b'\r');
+    a.written = text.len();
+    out[..a.written].copy_from_slice(&text);
+    a
+}
+
+/// Bytes past the export are blanked.
+fn export_blanked(used: usize, c: &Column, out: &mut [u8]) -> TextAnswer {
+    let a = Library.csv_export(used, c, out);
+    out[a.written..].fill(b' ');
     a
 }
 
@@ -752,7 +892,22 @@ fn read(f: fn(&[u8], &mut Column) -> DirectoryAnswer) -> Mutant {
     }
 }
 
+fn import(f: fn(&[u8], &mut Column) -> ImportAnswer) -> Mutant {
+    Mutant {
+        import: Some(f),
+        ..Mutant::default()
+    }
+}
+
+fn export(f: fn(usize, &Column, &mut [u8]) -> TextAnswer) -> Mutant {
+    Mutant {
+        export: Some(f),
+        ..Mutant::default()
+    }
+}
+
 pub fn all() -> Vec<(String, Outcome)> {
+    use csv::{csv_damaged, csv_examples, csv_round_trip};
     use groups::*;
     let list: Vec<(&str, Mutant, &[Group])> = vec![
         (
@@ -937,6 +1092,57 @@ pub fn all() -> Vec<(String, Outcome)> {
                 ..Mutant::default()
             },
             &[snapshot_round_trip],
+        ),
+        (
+            "LF alone ends no line",
+            import(lf_alone),
+            &[csv_examples, csv_damaged],
+        ),
+        (
+            "leading zero refused",
+            import(no_leading_zero),
+            &[csv_examples, csv_damaged],
+        ),
+        (
+            "doubled quote refused",
+            import(no_doubled_quote),
+            &[csv_examples, csv_damaged],
+        ),
+        (
+            "columns by their place",
+            import(columns_by_place),
+            &[csv_examples, csv_damaged],
+        ),
+        ("names in any case", import(any_case), &[csv_examples]),
+        (
+            "12 ahead of 18",
+            import(full_ahead_of_row),
+            &[csv_examples, csv_damaged],
+        ),
+        (
+            "17 ahead of 16",
+            import(twice_ahead_of_absent),
+            &[csv_examples, csv_damaged],
+        ),
+        (
+            "refused import stores",
+            import(filled_when_refused),
+            &[csv_examples, csv_damaged],
+        ),
+        (
+            "slots past the rows cleared",
+            import(slots_past_rows_cleared),
+            &[csv_examples, csv_round_trip, csv_damaged],
+        ),
+        (
+            "export with LF",
+            export(export_lf),
+            &[csv_examples, csv_round_trip],
+        ),
+        (
+            "bytes past the export blanked",
+            export(export_blanked),
+            &[csv_round_trip],
         ),
         (
             "tally wraps",

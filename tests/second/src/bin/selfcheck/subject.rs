@@ -214,8 +214,16 @@ pub trait Subject {
         snapshot_read(text, &mut c.growers, &mut c.weights, &mut c.yields)
     }
 
-    fn snapshot_write(&self, c: &Column, out: &mut [u8]) -> SnapshotAnswer {
+    fn snapshot_write(&self, c: &Column, out: &mut [u8]) -> TextAnswer {
         snapshot_write(&c.growers, &c.weights, &c.yields, &c.directory, out)
+    }
+
+    fn csv_import(&self, text: &[u8], c: &mut Column) -> ImportAnswer {
+        csv_import(text, &mut c.growers, &mut c.weights, &mut c.yields)
+    }
+
+    fn csv_export(&self, used: usize, c: &Column, out: &mut [u8]) -> TextAnswer {
+        csv_export(used, &c.growers, &c.weights, &c.yields, out)
     }
 
     fn tally_add(&self, tally: &mut Tally, counts: &Counts) -> u32 {
