@@ -1,4 +1,4 @@
--- `csv_rows::in_order` meets its contract. Assumes nothing.
+-- `csv_rows::in_order` meets its contract: the first test that fails decides. Assumes nothing.
 use native.Mathlib.Omega.{arith}
 use Rattle.csv_rows.proofs.ShortLaws.{grower-elsewhere, weight-elsewhere, yield-decides}
 use Rattle.csv_rows.proofs.in_order.Statement.{statement}

@@ -1,4 +1,4 @@
--- `csv_rows::picked` meets its contract. Assumes nothing.
+-- `csv_rows::picked` meets its contract: each way is one side of the test. Assumes nothing.
 use Rattle.csv_rows.proofs.RecordLaws.{picked-new, picked-old}
 use Rattle.csv_rows.proofs.picked.Statement.{statement}
 use Rattle.csv_rows.proofs.picked.Tie as tie

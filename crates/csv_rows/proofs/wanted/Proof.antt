@@ -1,4 +1,4 @@
--- `csv_rows::wanted` meets its contract. Assumes nothing.
+-- `csv_rows::wanted` meets its contract: the first test that holds decides. Assumes nothing.
 use Rattle.csv_rows.proofs.RecordLaws.{wanted-grower, wanted-weight, oil-decides}
 use Rattle.csv_rows.proofs.wanted.Statement.{statement}
 use Rattle.csv_rows.proofs.wanted.Tie as tie
