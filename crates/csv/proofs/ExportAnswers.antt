@@ -19,9 +19,10 @@ use Rattle.model.specs.Weighbridge.{headerLine, csvText}
 use Rattle.model.specs.Questions.{exportChecks}
 use Rattle.model.specs.SnapshotCalls.{WriteResult}
 use Rattle.model.specs.CsvCalls.{exportCall}
-use Rattle.model.proofs.Tests.{of-true, yes-first}
+use Rattle.model.proofs.Tests.{of-true}
 use Rattle.model.proofs.Deliveries.{rows-part}
 use Rattle.model.proofs.SetLaws.{Sliced, sliced}
+use Rattle.model.proofs.ExportLaws.{exportable}
 use Rattle.checks.specs.Values.{allValuesOk}
 use Rattle.checks.proofs.Answers.{fails, passes, none-failed, every-rows}
 use Rattle.fields.specs.Writing.{placed}
@@ -125,17 +126,13 @@ module _ (m : ℕ) (g w y out : List ℕ) where
   text-is = ap csvText (slots-are m g w y)
 
   pub can-export : {n : ℕ} → n ≡ firstFailed (exportChecks m g w y (length out)) → n ≡ 0 → CanExport
-  unfolding exportChecks
   can-export e z =
       let p = sym e ∙ z in
-      let a = yes-first 2 (slicesOk g w y) _ p in
-      let b = yes-first 3 (leb m (length g)) _ (a .1) in
-      let d = yes-first 7 (every inRange (firstSlots m g w y)) _ (b .1) in
-      let f = yes-first 14 (leb (length (csvText (firstSlots m g w y))) (length out)) _ (d .1) in
+      let x = exportable m g w y (length out) p in
       record {
         passed = p;
-        fits = record { slices = sliced g w y (a .0); used = leb→le _ _ (b .0) };
-        room = omega (arith, leb→le (length (csvText (firstSlots m g w y))) (length out) (f .0), ap length text-is);
+        fits = record { slices = sliced g w y (x .slices); used = leb→le _ _ (x .used) };
+        room = omega (arith, leb→le (length (csvText (firstSlots m g w y))) (length out) (x .fits), ap length text-is);
       }
 
   module _ (c : CanExport) where

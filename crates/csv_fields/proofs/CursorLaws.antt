@@ -173,7 +173,8 @@ snoc-prepend p b r = ap (λ (l : List ℕ). taken l (r .rest)) (sym (append-snoc
 module _ {text : List ℕ} {at i : ℕ} (p : Plain text at i) where
   pub plain-next : i < length text → false ≡ stops text i → Plain text at (i + 1)
   plain-next h e =
-      let q : false ≡ eqb (getD text i 0) quote || isSome (behind (getD text i 0 ∷ drop (i + 1) text)) = e ∙ ap (λ (l : List ℕ). eqb (getD text i 0) quote || isSome (behind l)) (here-cons text i h) in
+      let q : false ≡ eqb (getD text i 0) quote || isSome (behind (getD text i 0 ∷ drop (i + 1) text))
+      = e ∙ ap (λ (l : List ℕ). eqb (getD text i 0) quote || isSome (behind l)) (here-cons text i h) in
       record {
         low = omega (arith, p .low);
         high = omega arith;

@@ -29,6 +29,7 @@ pub mod ColumnBooks
 pub mod WriteLaws
 pub mod DigitLaws
 pub mod CsvLaws
+pub mod ExportLaws
 pub mod Laws
 pub mod Computing
 pub mod Marked

@@ -1,12 +1,12 @@
 -- Importing an export restores the deliveries: an accepted export's slots are in range, its text is read as them, and every check of
 -- importing it passes. Assumes nothing.
 use Prim.Native.Nat.{ℕ, zero, suc, _≤_}
-use mathlib.Core.Path.{_≡_, refl, sym, ap, ap₂, _∙_, subst}
-use mathlib.Core.Bool.{Bool, true, false, cond, _&&_}
+use mathlib.Core.Path.{_≡_, refl, sym, ap, ap₂, _∙_}
+use mathlib.Core.Bool.{_&&_}
 use mathlib.Core.List.{List, [], _∷_, _++_, map}
 use native.Mathlib.Omega.{arith}
 use borrow.Author.Tests.{le-leb}
-use lib.Dec.{T, leb, eqb, leb→le, eqb→eq}
+use lib.Dec.{T, leb, leb→le}
 use lib.ListN.{length, take, drop}
 use lib.Seq.{take-at, length-take-le}
 use Rattle.model.specs.declared.Delivery.{Delivery}
@@ -19,11 +19,12 @@ use Rattle.model.specs.Weighbridge.{csvText}
 use Rattle.model.specs.Questions.{importChecks, exportChecks}
 use Rattle.model.specs.SnapshotCalls.{WriteResult}
 use Rattle.model.specs.CsvCalls.{ImportResult, imported, importCall, exportCall}
-use Rattle.model.proofs.Tests.{and-fst, and-snd, is-true, yes-first}
+use Rattle.model.proofs.Tests.{and-fst, and-snd, is-true}
 use Rattle.model.proofs.ListLaws.{map-take}
 use Rattle.model.proofs.Deliveries.{length-rows}
 use Rattle.model.proofs.MovesRows.{Columns, rows-columns}
 use Rattle.model.proofs.SetLaws.{Sliced, sliced}
+use Rattle.model.proofs.ExportLaws.{Exportable, exportable, export-accepted, export-is}
 use Rattle.theorems.specs.Snapshot.{Numbers32}
 use Rattle.theorems.specs.Weighbridge.{exported, ImportRestores}
 use Rattle.theorems.proofs.ExportRead.{Fits, noneFits, fitThen, named, once, text-read, text-counted}
@@ -57,36 +58,16 @@ module _ {ds : List Delivery} (f : Fits ds) (gs ws ys : List ℕ) (t : T (slices
 
 -- what an accepted export passed, and its bytes
 module _ (m : ℕ) (gs ws ys out : List ℕ) (ok : exportCall m gs ws ys out .answer .refusal ≡ 0) where
-  abbrev text : List ℕ
-  text = csvText (firstSlots m gs ws ys)
-
   accepted : firstFailed (exportChecks m gs ws ys (length out)) ≡ 0
-  unfolding exportCall
-  accepted = go (firstFailed (exportChecks m gs ws ys (length out))) (eqb (firstFailed (exportChecks m gs ws ys (length out))) 0) refl ok
-    where
-      go : (n : ℕ) (b : Bool) → eqb n 0 ≡ b
-          → (cond {A = WriteResult} b (record { answer = record { refusal = 0; bytes = length text }; text = text ++ drop (length text) out })
-          (record { answer = record { refusal = n; bytes = 0 }; text = out })) .answer .refusal ≡ 0
-          → n ≡ 0
-      go n true q r = eqb→eq n 0 (subst T (sym q) tt)
-      go n false q r = r
+  accepted = export-accepted m gs ws ys out ok
 
-  record Passed : Type 0 where
-    pub slices : T (slicesOk gs ws ys)
-    pub slots : T (leb m (length gs))
-    pub values : T (every inRange (firstSlots m gs ws ys))
+  passed : Exportable m gs ws ys (length out)
+  passed = exportable m gs ws ys (length out) accepted
 
-  passed : Passed
-  unfolding exportChecks
-  passed =
-      let a = yes-first 2 (slicesOk gs ws ys) _ accepted in
-      let b = yes-first 3 (leb m (length gs)) _ (a .1) in
-      let c = yes-first 7 (every inRange (firstSlots m gs ws ys)) _ (b .1) in
-      record { slices = a .0; slots = b .0; values = c .0 }
-
-  bytes : exported m gs ws ys out ≡ text
-  unfolding exportCall
-  bytes = rw accepted (take-at text (drop (length text) out) (length text) refl)
+  bytes : exported m gs ws ys out ≡ csvText (firstSlots m gs ws ys)
+  bytes =
+      let t : List ℕ = csvText (firstSlots m gs ws ys) in
+      ap (λ (r : WriteResult). take (r .answer .bytes) (r .text)) (export-is m gs ws ys out accepted) ∙ take-at t (drop (length t) out) (length t) refl
 
   -- the numbers of the first slots are those of the slices
   even : Sliced gs ws ys
@@ -95,7 +76,7 @@ module _ (m : ℕ) (gs ws ys out : List ℕ) (ok : exportCall m gs ws ys out .an
   counted : length (firstSlots m gs ws ys) ≡ m
   counted =
       let e = length-rows gs ws ys (even .even .weights) (even .even .yields) in
-      length-take-le m (rows gs ws ys) (omega (arith, e, leb→le m (length gs) (passed .slots)))
+      length-take-le m (rows gs ws ys) (omega (arith, e, leb→le m (length gs) (passed .used)))
 
   columns : Columns (rows gs ws ys) gs ws ys
   columns = rows-columns gs ws ys (even .even .weights) (even .even .yields)
