@@ -373,9 +373,12 @@ meltusk_costed meltusk_cost(uint32_t rr, uint32_t sr, uint32_t rw,
  * end block of each partition to `ends` (64 are always enough); what lies past
  * them stays.
  *
- * Permitted are partitions of at most (read - rr) / sr blocks, rounded down, so
- * none if read is less than rr; and at most insert / (rr + rw), rounded down,
- * less 1 partitions. Limits of 1,000,000 permit every layout, at any prices.
+ * Permitted are partitions of at most (read - rr) / sr, rounded down, plus 1
+ * blocks, and none if read is less than rr; and at most insert / (rr + rw),
+ * rounded down, less 1 partitions. With a free slot these are exactly the
+ * layouts on whose column, just laid, no find costs more than read and no insert
+ * more than insert, whatever the grower; ranges, deletes and moves may cost more.
+ * Limits of 1,000,000 permit every layout, at any prices.
  */
 meltusk_planned meltusk_plan(uint32_t rr, uint32_t sr, uint32_t rw,
                              uint32_t read, uint32_t insert,

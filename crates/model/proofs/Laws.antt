@@ -1,6 +1,7 @@
 -- The laws that specs/Laws.antt states. Assumes nothing.
 use Prim.Native.Nat.{ℕ}
-use Rattle.model.specs.Laws.{BlocksInPartitions, FreshBlocks, KeepsRecords, KeepsPartitions, LeavesSlots, CommutesWithMap, SlicesMoveAsOne, CostAdds, EveryLayoutListed, TotalOrder, AnswerUnique}
+use Rattle.model.specs.Laws.{BlocksInPartitions, FreshBlocks, KeepsRecords, KeepsPartitions, LeavesSlots, CommutesWithMap, SlicesMoveAsOne}
+use Rattle.model.specs.Laws.{CostAdds, LimitsArePrices, EveryLayoutListed, TotalOrder, AnswerUnique}
 use native.Mathlib.Omega.{arith}
 use Rattle.model.proofs.LayoutLaws.{laid, every-layout}
 use Rattle.model.proofs.SetLaws.{good, spot, target, part-first, part-end}
@@ -8,6 +9,7 @@ use Rattle.model.proofs.Fresh.{fresh-blocks-from}
 use Rattle.model.proofs.CostLaws.{cost-added}
 use Rattle.model.proofs.Order.{comesBefore-total, comesBefore-trans, comesBefore-antisym}
 use Rattle.model.proofs.PlanLaws.{cheapest-unique}
+use Rattle.model.proofs.LimitLaws.{limit-prices}
 use Rattle.model.proofs.MovesMap.{map-inserted, map-deleted, map-moved}
 use Rattle.model.proofs.MovesBag.{insertAt-bag, deleteAt-bag, moveAt-bag}
 use Rattle.model.proofs.MovesKeep.{insertAt-sound, deleteAt-sound, moveAt-sound}
@@ -50,6 +52,9 @@ slices-move-as-one = record { insert = slots-inserted; delete = slots-deleted; m
 
 pub cost-adds : CostAdds
 cost-adds = cost-added
+
+pub limits-are-prices : LimitsArePrices
+limits-are-prices = limit-prices
 
 pub every-layout-listed : EveryLayoutListed
 every-layout-listed = every-layout

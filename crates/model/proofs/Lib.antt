@@ -13,6 +13,7 @@ pub mod AccessLaws
 pub mod Fresh
 pub mod CostLaws
 pub mod PlanLaws
+pub mod LimitLaws
 pub mod MoveCases
 pub mod MovesMap
 pub mod MovesBag

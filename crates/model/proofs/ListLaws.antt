@@ -6,11 +6,11 @@ use mathlib.Core.List.{List, [], _∷_, _++_, append-assoc, map, flatten}
 use native.Mathlib.Omega.{arith}
 use native.Mathlib.Numerals.{add-one}
 use native.Mathlib.Nat.{div-add-mod', mod-lt, div-eq-of-lt-le, mul-le-mul-right}
-use native.Mathlib.Decide.{decLe}
-use lib.Dec.{T, leb, leb→le}
+use native.Mathlib.Decide.{ℕ-discrete, decLe}
+use lib.Dec.{T, leb, ltb, leb→le, le→leb, ltb→lt, lt→ltb}
 use lib.ListN.{length, getD, take, drop, set, take-append-drop}
 use lib.Seq.{take-suc, take-nil, take-add, drop-cons, set-split}
-use Rattle.model.specs.Lists.{sumOf, ceilDiv, upFrom, every, keep, neverFalls}
+use Rattle.model.specs.Lists.{sumOf, ceilDiv, upFrom, every, keep, rising, neverFalls}
 use Rattle.model.proofs.Tests.{and-fst, and-snd, and-mk}
 
 -- Sums.
@@ -103,28 +103,49 @@ unfolding upFrom
 length-upFrom a zero = refl
 length-upFrom a (suc n) = ap suc (length-upFrom (a + 1) n)
 
-first-most : (a : ℕ) (l : List ℕ) (j : ℕ) → T (neverFalls (a ∷ l)) → j < length (a ∷ l) → a ≤ getD (a ∷ l) j 0
-unfolding neverFalls
-first-most a l zero h k = omega arith
-first-most a [] (suc j) h k = absurd (omega arith)
-first-most a (b ∷ l) (suc j) h k = omega (arith, leb→le a b (and-fst (leb a b) (neverFalls (b ∷ l)) h), first-most b l j (and-snd (leb a b) (neverFalls (b ∷ l)) h) (omega arith))
+-- where neighbours stand in a transitive relation, any two elements do
+module _ (r : ℕ → ℕ → Bool) (linked : List ℕ → Bool) (next : (a b : ℕ) (l : List ℕ) → T (linked (a ∷ b ∷ l)) → T (r a b) × T (linked (b ∷ l)))
+    (across : (a b c : ℕ) → T (r a b) → T (r b c) → T (r a c)) where
+  from-first : (a : ℕ) (l : List ℕ) (j : ℕ) → T (linked (a ∷ l)) → j < length l → T (r a (getD l j 0))
+  from-first a [] j h k = absurd (omega arith)
+  from-first a (b ∷ l) zero h k = next a b l h .0
+  from-first a (b ∷ l) (suc j) h k = across a b (getD l j 0) (next a b l h .0) (from-first b l j (next a b l h .1) (omega arith))
 
-tail-sorted : (a : ℕ) (l : List ℕ) → T (neverFalls (a ∷ l)) → T (neverFalls l)
-unfolding neverFalls
-tail-sorted a [] h = tt
-tail-sorted a (b ∷ l) h = and-snd (leb a b) (neverFalls (b ∷ l)) h
+  any-two : (l : List ℕ) (i j : ℕ) → T (linked l) → i < j → j < length l → T (r (getD l i 0) (getD l j 0))
+  any-two [] i j h k m = absurd (omega arith)
+  any-two (a ∷ l) i zero h k m = absurd (omega arith)
+  any-two (a ∷ l) zero (suc j) h k m = from-first a l j h (omega arith)
+  any-two (a ∷ []) (suc i) (suc j) h k m = absurd (omega arith)
+  any-two (a ∷ b ∷ l) (suc i) (suc j) h k m = any-two (b ∷ l) i j (next a b l h .1) (omega arith) (omega arith)
+
+pub rises : (l : List ℕ) (i j : ℕ) → T (rising l) → i < j → j < length l → getD l i 0 < getD l j 0
+unfolding rising
+rises l i j h k m =
+    ltb→lt _ _
+    (any-two ltb rising (λ a b l t. (and-fst (ltb a b) (rising (b ∷ l)) t, and-snd (ltb a b) (rising (b ∷ l)) t))
+    (λ a b c x y. lt→ltb a c (omega (arith, ltb→lt a b x, ltb→lt b c y))) l i j h k m)
 
 pub sorted : (l : List ℕ) (i j : ℕ) → T (neverFalls l) → i ≤ j → j < length l → getD l i 0 ≤ getD l j 0
-sorted [] i j h k m = absurd (omega arith)
-sorted (a ∷ l) zero j h k m = first-most a l j h m
-sorted (a ∷ l) (suc i) zero h k m = absurd (omega arith)
-sorted (a ∷ l) (suc i) (suc j) h k m = sorted l i j (tail-sorted a l h) (omega arith) (omega arith)
+unfolding neverFalls
+sorted l i j h k m = go (ℕ-discrete i j)
+  where
+    go : Dec (i ≡ j) → getD l i 0 ≤ getD l j 0
+    go (yes e) = rw e (omega arith)
+    go (no n) =
+        leb→le _ _
+        (any-two leb neverFalls (λ a b l t. (and-fst (leb a b) (neverFalls (b ∷ l)) t, and-snd (leb a b) (neverFalls (b ∷ l)) t))
+        (λ a b c x y. le→leb a c (omega (arith, leb→le a b x, leb→le b c y))) l i j h (omega arith) m)
 
 pub every-at : (f : ℕ → Bool) (l : List ℕ) (p : ℕ) → T (every f l) → p < length l → T (f (getD l p 0))
 unfolding every
 every-at f [] p h k = absurd (omega arith)
 every-at f (x ∷ l) zero h k = and-fst (f x) (every f l) h
 every-at f (x ∷ l) (suc p) h k = every-at f l p (and-snd (f x) (every f l) h) (omega arith)
+
+pub every-of : (f : ℕ → Bool) (l : List ℕ) → ((p : ℕ) → p < length l → T (f (getD l p 0))) → T (every f l)
+unfolding every
+every-of f [] h = tt
+every-of f (x ∷ l) h = and-mk (f x) (every f l) (h 0 (omega arith)) (every-of f l (λ p k. h (suc p) (omega arith)))
 
 every-take : {A : Type 0} (f : A → Bool) (n m : ℕ) (l : List A) → n ≤ m → T (every f (take m l)) → T (every f (take n l))
 unfolding every

@@ -14,7 +14,18 @@ costs = record { two = refl; three = refl; one = refl }
 
 pub under-limits : UnderLimits
 unfolding computed
-under-limits = record { main = refl; insert-15 = refl; insert-14 = refl; plan-15 = refl; plan-14 = refl; read-4 = refl; read-4-insert-20 = refl }
+under-limits = record {
+  main = refl;
+  insert-15 = refl;
+  insert-14 = refl;
+  plan-15 = refl;
+  plan-14 = refl;
+  read-4 = refl;
+  read-4-insert-20 = refl;
+  read-3-insert-20 = refl;
+  read-3 = refl;
+  read-2 = refl;
+}
 
 pub main-case : MainCase
 unfolding computed

@@ -117,9 +117,13 @@ pub record UnderLimits : Type 0 where
   pub insert-14 : mostPartitions factory (limits 100 14) ≡ 1
   pub plan-15 : planUnder 100 15 ≡ record { answer = record { refusal = 0; count = 2; cost = pos 35 }; ends = 1 ∷ 3 ∷ 0 ∷ 0 ∷ [] }
   pub plan-14 : planUnder 100 14 ≡ record { answer = record { refusal = 0; count = 1; cost = pos 40 }; ends = 3 ∷ 0 ∷ 0 ∷ 0 ∷ [] }
-  -- "R 4 gives four partitions, bill 40; R 4 with U 20 gives 11"
-  pub read-4 : planUnder 4 100 ≡ record { answer = record { refusal = 0; count = 4; cost = pos 40 }; ends = 0 ∷ 1 ∷ 2 ∷ 3 ∷ [] }
-  pub read-4-insert-20 : planUnder 4 20 ≡ record { answer = record { refusal = 11; count = 0; cost = pos 0 }; ends = 0 ∷ 0 ∷ 0 ∷ 0 ∷ [] }
+  -- 02, Slip 2: "R 4 now gives two partitions and bill 35, with U 20 or U 100. R 3 with U 20 is the case that returns 11."
+  pub read-4 : planUnder 4 100 ≡ record { answer = record { refusal = 0; count = 2; cost = pos 35 }; ends = 1 ∷ 3 ∷ 0 ∷ 0 ∷ [] }
+  pub read-4-insert-20 : planUnder 4 20 ≡ record { answer = record { refusal = 0; count = 2; cost = pos 35 }; ends = 1 ∷ 3 ∷ 0 ∷ 0 ∷ [] }
+  pub read-3-insert-20 : planUnder 3 20 ≡ record { answer = record { refusal = 11; count = 0; cost = pos 0 }; ends = 0 ∷ 0 ∷ 0 ∷ 0 ∷ [] }
+  -- one block at R 3, and "with R below RR there is still none"
+  pub read-3 : planUnder 3 100 ≡ record { answer = record { refusal = 0; count = 4; cost = pos 40 }; ends = 0 ∷ 1 ∷ 2 ∷ 3 ∷ [] }
+  pub read-2 : planUnder 2 100 ≡ record { answer = record { refusal = 11; count = 0; cost = pos 0 }; ends = 0 ∷ 0 ∷ 0 ∷ 0 ∷ [] }
 
 -- "Main case: prices 3, 1, 2; R 100, U 100; B 2; ..", as layplan's input
 abbrev pub mainInput : String

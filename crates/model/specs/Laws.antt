@@ -1,7 +1,7 @@
 -- Laws of the definitions, as statements. Each is proved in proofs/Laws.antt, once for every crate above.
-use Prim.Native.Nat.{ℕ, _+_, _≤_, _<_}
+use Prim.Native.Nat.{ℕ, _+_, _*_, _≤_, _<_}
 use mathlib.Core.Path.{_≡_}
-use mathlib.Core.Logic.{_⊎_}
+use mathlib.Core.Logic.{_⊎_, _↔_}
 use mathlib.Core.Bool.{Bool}
 use mathlib.Core.List.{List, [], _∷_, _++_, map, flatten, List·Memᴰ, List·Permᴰ}
 use lib.ListN.{length, getD, drop}
@@ -14,7 +14,8 @@ use Rattle.model.specs.Lists.{sumOf}
 use Rattle.model.specs.Checks.{ask, firstFailed}
 use Rattle.model.specs.Place.{place}
 use Rattle.model.specs.Blocks.{Set, blocks, lastGrower, blockOf, valuesOk}
-use Rattle.model.specs.Layouts.{endOf, firstOf, partitionOf, isLayout, layoutOk, blockCounts, permitted, everyLayout}
+use Rattle.model.specs.Prices.{pricesOk}
+use Rattle.model.specs.Layouts.{endOf, firstOf, partitionOf, isLayout, layoutOk, blockCounts, mostPartitions, longestPartition, permitted, everyLayout}
 use Rattle.model.specs.Cost.{costOf}
 use Rattle.model.specs.Plan.{comesBefore}
 use Rattle.model.specs.Partitions.{part, parts, free, everyAt, oneMore, oneFewer}
@@ -91,6 +92,15 @@ addCounts (n ∷ ns) (h ∷ hs) = (n + h) ∷ addCounts ns hs
 -- The cost of added histograms is the sum of the costs.
 abbrev pub CostAdds : Type 0
 CostAdds = (L : ℕ) (c : PriceCard) (n : ℕ) (ends a b : List ℕ) → length a ≡ length b → costOf L c n ends (addCounts a b) ≡ costOf L c n ends a +ℤ costOf L c n ends b
+
+-- The limits as prices. A partition of x blocks beside its first is short enough exactly when a scan of it, 1 rr and x sr, costs at
+-- most R; k partitions are few enough exactly when an insert that passes them all, 1 + k rr and 1 + k rw, costs at most U.
+pub record LimitPrices (p : PriceCard) (l : Limits) : Type 0 where
+  pub reads : (x : ℕ) → (x + 1 ≤ longestPartition p l) ↔ (p .rr + p .sr * x ≤ l .read)
+  pub inserts : (k : ℕ) → 1 ≤ k → (k ≤ mostPartitions p l) ↔ ((p .rr + p .«rw») * (1 + k) ≤ l .insert)
+
+abbrev pub LimitsArePrices : Type 0
+LimitsArePrices = (p : PriceCard) (l : Limits) → T (pricesOk p) → LimitPrices p l
 
 -- The list of every layout holds each layout, and nothing else.
 abbrev pub EveryLayoutListed : Type 0

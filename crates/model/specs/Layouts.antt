@@ -1,4 +1,4 @@
--- Layouts (01: the bill; permitted layouts). A layout is the list of its partitions' end blocks.
+-- Layouts (01: the bill; permitted layouts; the read limit by 02). A layout is the list of its partitions' end blocks.
 use Prim.Native.Nat.{ℕ, zero, suc, _+_, _-_, _*_, _/_}
 use mathlib.Core.Bool.{Bool, not, cond, _&&_}
 use mathlib.Core.List.{List, [], _∷_, _++_, map}
@@ -54,9 +54,9 @@ blockCounts a (e ∷ es) = (e + 1 - a) ∷ blockCounts (e + 1) es
 unfoldable pub mostPartitions : PriceCard → Limits → ℕ
 mostPartitions p l = l .insert / (p .rr + p .«rw») - 1
 
--- "no partition longer than (R - RR) / SR blocks, rounded down; none if R is below RR"
+-- 02, Slip 2: "the longest partition becomes (R - RR) / SR, rounded down, plus 1. With R below RR there is still none."
 unfoldable pub longestPartition : PriceCard → Limits → ℕ
-longestPartition p l = cond (leb (p .rr) (l .read)) ((l .read - p .rr) / p .sr) 0
+longestPartition p l = cond (leb (p .rr) (l .read)) ((l .read - p .rr) / p .sr + 1) 0
 
 -- permitted under the limits (01: permitted layouts)
 unfoldable pub permitted : PriceCard → Limits → Set → List ℕ → Bool

@@ -130,7 +130,7 @@ module _ (L : ℕ) (p : PriceCard) (s : Set) (hs : List ℕ) where
 
 -- the limits
 module _ (p : PriceCard) (l : Limits) where
-  pub longest-some : p .rr ≤ l .read → (l .read - p .rr) / p .sr ≡ longestPartition p l
+  pub longest-some : p .rr ≤ l .read → (l .read - p .rr) / p .sr + 1 ≡ longestPartition p l
   unfolding longestPartition
   longest-some h = rw (le-leb (p .rr) (l .read) h)
 

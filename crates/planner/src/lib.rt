@@ -123,13 +123,13 @@ fn cost_refusal(
     0
 }
 
-// How many blocks a partition may have under the read limit.
+// How many blocks a partition may have under the read limit: its first is a random read, each other a sequential one.
 fn longest_partition(card: PriceCard, limits: Limits) -> usize
     requires { ⌜ PricesPass card ⌝ }
     ensures { λ r. ⌜ r ≡ longestPartition card limits ⌝ }
 {
     if card.rr <= limits.read {
-        return ((limits.read - card.rr) / card.sr) as usize;
+        return ((limits.read - card.rr) / card.sr) as usize + 1;
     }
     0
 }

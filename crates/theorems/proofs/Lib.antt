@@ -22,6 +22,9 @@ pub mod PlanSums
 pub mod PlanAnswers
 pub mod Demand3
 pub mod PlanExample
+-- The limits as prices of a find and of an insert.
+pub mod Limits
+pub mod LimitsExample
 -- The snapshot's round trips.
 pub mod Snapshot
 -- The weighbridge file's round trip.

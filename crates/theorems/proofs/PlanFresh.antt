@@ -17,7 +17,7 @@ use Rattle.model.specs.Layouts.{layoutOk}
 use Rattle.model.specs.Directory.{Directory, directorySize, directoryOf, directoryNumbers, directoryBlockOk, directoryOk}
 use Rattle.model.specs.Partitions.{between}
 use Rattle.model.specs.Column.{Column, lengthsOf, target, recordsOf, lengthsFrom, directoryFor, scannedOk, hasFreeSlot, hasDelivery}
-use Rattle.model.specs.Accesses.{callCounts, missCounts}
+use Rattle.model.specs.Accesses.{noCounts, callCounts, missCounts}
 use Rattle.model.specs.Questions.{applyChecks, callChecks, columnChecks}
 use Rattle.model.specs.ColumnCalls.{applyCall, laidColumn, columnRefusal, refusedCounts, columnCall, reportAlone}
 use Rattle.model.specs.Laws.{SetPasses}
@@ -158,6 +158,13 @@ module _ (L : ℕ) (s : Set) (h : SetPasses L s) (ends : List ℕ) (t : T (layou
 
   pub insert-report : (d : Delivery) → T (inRange d) → s .used < length (s .growers) → reportAlone L s ends (insert d) ≡ callCounts fresh (insert d)
   insert-report d r k = report-full (insert d) (insert-answer d r k)
+
+  -- one of a delivery out of range is refused by 8 and reports nothing
+  pub refused-report : (d : Delivery) → inRange d ≡ false → reportAlone L s ends (insert d) ≡ noCounts
+  unfolding callChecks firstFailed reportAlone columnCall refusedCounts
+  refused-report d e =
+      let r : columnRefusal L column (insert d) ≡ 8 = refusal-is (insert d) ∙ rw e in
+      rw (r, reportAlone)
 
   pub delete-report : (d : Delivery) → T (inRange d) → reportAlone L s ends (delete d) ≡ cond (among d (held s)) (callCounts fresh (delete d)) (missCounts fresh (delete d))
   delete-report d r = report-by (delete d) (among d (held s)) (taken-answer (delete d) d refl r)

@@ -14,6 +14,7 @@ use Rattle.model.specs.Blocks.{Set}
 use Rattle.model.specs.Calls.{Call}
 use Rattle.model.specs.Histograms.{Entry, slot, count, raise, raiseAll, raises, roomToRaise, countsOk, zeros}
 use Rattle.model.proofs.Tests.{and-fst, and-snd, and-mk, eq→eqb}
+use Rattle.model.proofs.ListLaws.{every-of}
 use Rattle.model.proofs.SetLaws.{Good}
 use Rattle.theorems.proofs.RecordingEntries.{Off, Distinct, raised-distinct}
 
@@ -30,11 +31,6 @@ zero-capped : (n k : ℕ) → getD (replicate n 0) k 0 ≤ mostCount
 zero-capped zero k = omega arith
 zero-capped (suc n) zero = omega arith
 zero-capped (suc n) (suc k) = zero-capped n k
-
-every-of : (l : List ℕ) → Capped l → T (every (λ (n : ℕ). leb n mostCount) l)
-unfolding every
-every-of [] c = tt
-every-of (x ∷ l) c = and-mk (leb x mostCount) (every (λ (n : ℕ). leb n mostCount) l) (le→leb x mostCount (c 0)) (every-of l (λ k. c (suc k)))
 
 module _ (L : ℕ) where
   raise-capped : (hs : List ℕ) (e : Entry) → count L hs e < mostCount → Capped hs → Capped (raise L hs e)
@@ -75,4 +71,6 @@ module _ (L : ℕ) where
   -- check 9
   pub passes-nine : (hs : List ℕ) → length hs ≡ 10 * L → Capped hs → T (countsOk L hs)
   unfolding countsOk
-  passes-nine hs h c = and-mk (eqb (length hs) (10 * L)) (every (λ (n : ℕ). leb n mostCount) hs) (eq→eqb (length hs) (10 * L) h) (every-of hs c)
+  passes-nine hs h c =
+      let capped : ℕ → Bool = λ n. leb n mostCount in
+      and-mk (eqb (length hs) (10 * L)) (every capped hs) (eq→eqb (length hs) (10 * L) h) (every-of capped hs (λ k v. le→leb _ mostCount (c k)))

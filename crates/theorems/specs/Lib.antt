@@ -2,5 +2,7 @@
 pub mod Ledger
 pub mod Plan
 pub mod PlanExample
+pub mod Limits
+pub mod LimitsExample
 pub mod Snapshot
 pub mod Weighbridge

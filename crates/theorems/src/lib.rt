@@ -1,6 +1,7 @@
 // Theorems over the definitions of the model. The statements are in specs/, their proofs in proofs/.
 ghost use Rattle.theorems.specs.Ledger.{LedgerAgreesFrom, LedgerAgrees};
 ghost use Rattle.theorems.specs.Plan.{Demand3};
+ghost use Rattle.theorems.specs.Limits.{LimitsKept, OwnLimitsKept};
 ghost use Rattle.theorems.specs.Snapshot.{WrittenIsRead, ReadIsWritten};
 ghost use Rattle.theorems.specs.Weighbridge.{ImportRestores};
 
@@ -12,4 +13,9 @@ pub fn theorems()
 // Does nothing: that importing an export restores its deliveries, likewise.
 pub fn import_restores()
     ensures { λ _. ⌜ ImportRestores ⌝ }
+{}
+
+// Does nothing: that the limits permit the layouts on which no find and no insert costs more, likewise.
+pub fn limits_kept()
+    ensures { λ _. ⌜ LimitsKept × OwnLimitsKept ⌝ }
 {}

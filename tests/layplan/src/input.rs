@@ -178,7 +178,7 @@ pub fn tighten(r: &mut Random, input: &mut Input) {
     let blocks = input.blocks();
     let parts = |r: &mut Random| r.within(1, blocks + 1) as u32;
     if r.one_in(2) {
-        input.limits[0] = rr + sr * parts(r) + r.below(sr as usize) as u32;
+        input.limits[0] = rr + sr * (parts(r) - 1) + r.below(sr as usize) as u32;
     }
     if r.one_in(2) {
         input.limits[1] = (rr + rw) * (parts(r) + 1) + r.below((rr + rw) as usize) as u32;

@@ -50,12 +50,15 @@ fn main_case_limits(run: &mut Run) -> Result<(), String> {
             14,
             "          1                  40\n          0          3\n",
         ),
+        (4, 100, two),
+        (4, 20, two),
         (
-            4,
+            3,
             100,
             "          4                  40\n          0          0\n          1          1\n          2          2\n          3          3\n",
         ),
-        (4, 20, "         11\n"),
+        (3, 20, "         11\n"),
+        (2, 100, "         11\n"),
     ];
     run.cases(2, 1, |run, r| {
         for (read, insert, output) in cases {
@@ -95,7 +98,7 @@ fn costliest(run: &mut Run) -> Result<(), String> {
         let mut input = input::largest(r);
         input.prices = [1_000; 3];
         // One block is the longest partition.
-        input.limits[0] = 2_000;
+        input.limits[0] = 1_999;
         input.calls.fill([INSERT, 0, 100_000, 10_000, 0]);
         let bill = CALLS * (1_000 + 1_000) * (1 + BLOCKS);
         let mut output = format!("{BLOCKS:>11}{bill:>20}\n");

@@ -140,7 +140,7 @@ impl Fault {
                 };
             }
             // The longest partition permitted has no block.
-            NoRead => input.limits[0] = r.edge(0, (rr + sr - 1) as usize) as u32,
+            NoRead => input.limits[0] = r.edge(0, (rr - 1) as usize) as u32,
             // No partition is permitted.
             NoInsert => input.limits[1] = r.edge(0, (2 * (rr + rw) - 1) as usize) as u32,
             // One partition only, and that is too long.
@@ -153,7 +153,7 @@ impl Fault {
                 for delivery in &mut input.deliveries {
                     delivery[0] = g;
                 }
-                input.limits[0] = rr + sr * (blocks - 1) + r.below(sr as usize) as u32;
+                input.limits[0] = rr + sr * (blocks - 2) + r.below(sr as usize) as u32;
             }
         }
         true

@@ -18,13 +18,13 @@ pub fn most_partitions(card: &PriceCard, limits: &Limits) -> usize {
     opened.saturating_sub(1) as usize
 }
 
-/// Longest partition in blocks that the read limit permits; 0 means none is
-/// permitted.
+/// Longest partition in blocks that the read limit permits, which it may meet
+/// exactly (02, Slip 2); 0 means none is permitted.
 pub fn longest_partition(card: &PriceCard, limits: &Limits) -> usize {
     if limits.read < card.rr {
         0
     } else {
-        ((limits.read - card.rr) / card.sr) as usize
+        ((limits.read - card.rr) / card.sr) as usize + 1
     }
 }
 

@@ -1,6 +1,7 @@
 //! Recorder, cost and planner.
 
 mod calls;
+mod limits;
 mod seen;
 
 use crate::inputs::{self, EDGE_COUNTS};
@@ -35,7 +36,7 @@ fn limits(r: &mut Random, card: &PriceCard, blocks: usize) -> Limits {
     let read = match r.below(4) {
         0 | 1 => LIMIT_LIMIT,
         2 => card.rr + r.below(card.sr as usize * (blocks + 2)) as u32,
-        _ => card.rr + card.sr * r.within(1, blocks) as u32 - r.below(2) as u32,
+        _ => card.rr + card.sr * r.below(blocks) as u32 - r.below(2) as u32,
     };
     let insert = match r.below(4) {
         0 | 1 => LIMIT_LIMIT,
@@ -310,7 +311,7 @@ impl CaseFault {
             Price(_, price) => case.card.rw = price,
             Limit(0, limit) => case.limits.read = limit,
             Limit(_, limit) => case.limits.insert = limit,
-            ReadBelow => case.limits.read = case.card.rr + case.card.sr - 1,
+            ReadBelow => case.limits.read = case.card.rr - 1,
             InsertBelow => case.limits.insert = 2 * (case.card.rr + case.card.rw) - 1,
             Room(n) => case.room.truncate(n),
             RangeFalls => match &mut case.call {
@@ -554,12 +555,15 @@ fn examples(run: &mut Run) -> Result<(), String> {
         set,
     };
     // Read limit, insert limit, refusal, cost, ends.
-    let stated: [(u32, u32, u32, i64, &[u32]); 5] = [
+    let stated: [(u32, u32, u32, i64, &[u32]); 8] = [
         (100, 100, 0, 35, &[1, 3]),
         (100, 15, 0, 35, &[1, 3]),
         (100, 14, 0, 40, &[3]),
-        (4, 100, 0, 40, &[0, 1, 2, 3]),
-        (4, 20, 11, 0, &[]),
+        (4, 100, 0, 35, &[1, 3]),
+        (4, 20, 0, 35, &[1, 3]),
+        (3, 100, 0, 40, &[0, 1, 2, 3]),
+        (3, 20, 11, 0, &[]),
+        (2, 100, 11, 0, &[]),
     ];
     for (read, insert, refusal, cost, ends) in stated {
         case.limits = Limits::new(read, insert);
@@ -583,7 +587,7 @@ fn every_answer(run: &mut Run) -> Result<(), String> {
 }
 
 pub const TESTS: &[(&str, Test)] = &[
-    ("plan: examples of 01", examples),
+    ("plan: examples of 01 and 02", examples),
     ("plan: recorder, lists of calls", recorder),
     ("plan: cost, sets, layouts and histograms", costs),
     (
@@ -591,6 +595,10 @@ pub const TESTS: &[(&str, Test)] = &[
         plans_by_listing,
     ),
     ("plan: planner against the table, N to 64", plans_by_table),
+    (
+        "plan: limits against the counts of finds and inserts, N to 7",
+        limits::by_counts,
+    ),
     ("plan: broken input, each fault alone", alone),
     ("plan: broken input, two faults", pairs),
     (

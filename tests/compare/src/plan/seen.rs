@@ -13,10 +13,12 @@ const ANSWERS: [(&str, &[u32]); 7] = [
     ("plan", &[0, 1, 2, 3, 4, 5, 8, 9, 11, 15]),
 ];
 
-const KINDS: [&str; 3] = [
+const KINDS: [&str; 5] = [
     "cost below zero",
     "plan below zero",
     "plan of several partitions",
+    "find that meets the read limit",
+    "insert that meets the insert limit",
 ];
 
 /// The name of a recorded call.
@@ -39,6 +41,13 @@ pub fn note_plan(seen: &mut Seen, answer: &Planned) {
     seen.answer("plan", answer.refusal);
     seen.kind(answer.cost < 0, KINDS[1]);
     seen.kind(answer.count > 1, KINDS[2]);
+}
+
+/// Notes a permitted layout by whether its dearest calls cost as much as the
+/// limits.
+pub fn note_limits(seen: &mut Seen, find_meets: bool, insert_meets: bool) {
+    seen.kind(find_meets, KINDS[3]);
+    seen.kind(insert_meets, KINDS[4]);
 }
 
 /// An error if an answer or a kind of answer has not occurred.

@@ -305,8 +305,7 @@ fn planner_checks() -> Outcome {
     faults.extend(histogram_faults(6));
     for (name, read, insert) in [
         ("R below RR", 2, 100),
-        ("R at RR", 3, 100),
-        ("R one block, equal growers", 4, 100),
+        ("R one block, equal growers", 3, 100),
         ("U 0", 7, 0),
         ("U 4", 7, 4),
         ("U 9", 7, 9),

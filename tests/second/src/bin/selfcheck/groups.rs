@@ -132,12 +132,15 @@ pub fn example_plans(s: &dyn Subject, _: u64) -> Outcome {
     let set = main_set();
     let h = main_histograms(s)?;
     let card = PriceCard::FACTORY;
-    let cases: [(u32, u32, u32, i64, &[u32]); 5] = [
+    let cases: [(u32, u32, u32, i64, &[u32]); 8] = [
         (100, 100, 0, 35, &[1, 3]),
         (100, 15, 0, 35, &[1, 3]),
         (100, 14, 0, 40, &[3]),
-        (4, 100, 0, 40, &[0, 1, 2, 3]),
-        (4, 20, 11, 0, &[]),
+        (4, 100, 0, 35, &[1, 3]),
+        (4, 20, 0, 35, &[1, 3]),
+        (3, 100, 0, 40, &[0, 1, 2, 3]),
+        (3, 20, 11, 0, &[]),
+        (2, 100, 11, 0, &[]),
     ];
     for (read, insert, refusal, bill, ends) in cases {
         let limits = Limits::new(read, insert);
@@ -188,12 +191,15 @@ pub fn example_layplan(s: &dyn Subject, _: u64) -> Outcome {
         (100, 100, whole),
         (100, 15, whole),
         (100, 14, "          1                  40\n          0          3\n"),
+        (4, 100, whole),
+        (4, 20, whole),
         (
-            4,
+            3,
             100,
             "          4                  40\n          0          0\n          1          1\n          2          2\n          3          3\n",
         ),
-        (4, 20, "         11\n"),
+        (3, 20, "         11\n"),
+        (2, 100, "         11\n"),
     ];
     for (read, insert, expected) in cases {
         let out = s.layplan(&main_input(read, insert));
@@ -390,8 +396,9 @@ pub fn cost_equation(s: &dyn Subject, cases: u64) -> Outcome {
 }
 
 /// For every layout of a small set the bill is the sum of priced reports of
-/// the accepted calls, each made alone on the freshly laid column; and the
-/// planner returns the cheapest permitted layout by these sums.
+/// the accepted calls, each made alone on the freshly laid column; the limits
+/// are met where no find and no insert there costs more; and the planner returns
+/// the cheapest permitted layout by these sums.
 pub fn cost_reports(s: &dyn Subject, cases: u64) -> Outcome {
     let r = &mut Random::new(6);
     for _ in 0..cases {
@@ -443,11 +450,22 @@ pub fn cost_reports(s: &dyn Subject, cases: u64) -> Outcome {
                 })
                 .max()
                 .unwrap_or(0);
-            // Both limits by the paper's sentences.
+            // Both limits by the papers' sentences.
             let most = i64::from(limits.insert / (card.rr + card.rw)) - 1;
             let fits = ends.len() as i64 <= most
                 && limits.read >= card.rr
-                && longest <= i64::from((limits.read - card.rr) / card.sr);
+                && longest <= i64::from((limits.read - card.rr) / card.sr) + 1;
+            // And by what they mean: no find and no insert costs more.
+            let price = |call: &Call| card.priced(&s.call(&mut fresh.clone(), call).counts);
+            let mut growers = set.growers[..view.m].iter().chain(&[0, u32::MAX]);
+            let within = growers.all(|&g| {
+                price(&Call::Find(g)) <= i128::from(limits.read)
+                    && price(&Call::Insert(Delivery::new(g, 0, 0))) <= i128::from(limits.insert)
+            });
+            require!(
+                fits == within,
+                "{ends:?} fits: {fits}, by its calls: {within}; {card:?} {limits:?} {set:?}"
+            );
             if fits {
                 let key = (sum, ends.len(), ends);
                 if best.as_ref().is_none_or(|held| key < *held) {

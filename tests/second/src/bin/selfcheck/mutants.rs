@@ -195,7 +195,7 @@ fn longest_of(card: &PriceCard, limits: &Limits) -> i64 {
     if limits.read < card.rr {
         0
     } else {
-        i64::from((limits.read - card.rr) / card.sr)
+        i64::from((limits.read - card.rr) / card.sr) + 1
     }
 }
 
@@ -253,6 +253,38 @@ fn one_block_more(
         (c, l, s, h, o),
         most_of(c, l),
         longest_of(c, l) + 1,
+        right_order,
+    )
+}
+
+/// A partition whose find meets the read limit is too long, as before 02.
+fn one_block_fewer(
+    c: &PriceCard,
+    l: &Limits,
+    s: &UnlaidSet,
+    h: &[u32],
+    o: &mut [u32],
+) -> PlanAnswer {
+    variant_plan(
+        (c, l, s, h, o),
+        most_of(c, l),
+        longest_of(c, l) - 1,
+        right_order,
+    )
+}
+
+/// Partitions of one block also where the read limit is below a random read.
+fn one_block_always(
+    c: &PriceCard,
+    l: &Limits,
+    s: &UnlaidSet,
+    h: &[u32],
+    o: &mut [u32],
+) -> PlanAnswer {
+    variant_plan(
+        (c, l, s, h, o),
+        most_of(c, l),
+        longest_of(c, l).max(1),
         right_order,
     )
 }
@@ -938,6 +970,16 @@ pub fn all() -> Vec<(String, Outcome)> {
         (
             "one block more",
             plan(one_block_more),
+            &[planner_recorded, planner_raw, cost_reports],
+        ),
+        (
+            "one block fewer",
+            plan(one_block_fewer),
+            &[planner_recorded, planner_raw, cost_reports],
+        ),
+        (
+            "one block where R is below RR",
+            plan(one_block_always),
             &[planner_recorded, planner_raw, cost_reports],
         ),
         (
