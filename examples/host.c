@@ -1,7 +1,7 @@
 /*
  * A C host: first the marked examples, each call on a fresh column of growers
- * 10 to 80; then a week at a mill, from the recorded calls to the next plan; then
- * a weighbridge file.
+ * 10 to 80; then a week at a mill, from the recorded calls to the next plan, with
+ * a payment screen that steps from grower to grower; then a weighbridge file.
  * Prints each step, and exits nonzero if an answer is not the expected one.
  *
  *   cc -std=c11 -Wall -Wextra -Werror -Iinclude examples/host.c \
@@ -142,13 +142,23 @@ static int reads_only(const call *k)
 }
 
 /* Oil is kg times hundredths of a per cent, so 10,000 of it are a kg. */
+static void print_totals(const meltusk_totals *t)
+{
+    printf(" deliveries %" PRIu64 ", %" PRIu64 " kg, oil %" PRIu64 ".%04" PRIu64 " kg;", t->records,
+           t->weight, t->oil / 10000, t->oil % 10000);
+}
+
+static void print_counts(const meltusk_counts *n)
+{
+    printf(" rr %" PRIu64 " sr %" PRIu64 " rw %" PRIu64, n->rr, n->sr, n->rw);
+}
+
 static void print_answer(const call *k, const meltusk_answer *a)
 {
     putchar(':');
     if (reads_only(k))
-        printf(" deliveries %" PRIu64 ", %" PRIu64 " kg, oil %" PRIu64 ".%04" PRIu64 " kg;",
-               a->totals.records, a->totals.weight, a->totals.oil / 10000, a->totals.oil % 10000);
-    printf(" rr %" PRIu64 " sr %" PRIu64 " rw %" PRIu64, a->counts.rr, a->counts.sr, a->counts.rw);
+        print_totals(&a->totals);
+    print_counts(&a->counts);
     print_refusal(a->refusal);
 }
 
@@ -463,6 +473,61 @@ static void make_week(column *c, meltusk_tally *t)
     print_partitions(c);
 }
 
+/* A grower's line on the payment screen: his totals by a find, and the counts of
+ * the step to him. A plain list has the same totals from `from` up to him. */
+static void show_grower(const column *c, uint32_t from, const meltusk_grower_answer *a,
+                        meltusk_tally *t)
+{
+    meltusk_answer f = meltusk_find(COLUMN(c), a->grower);
+    meltusk_totals totals = totals_of(c, from, a->grower);
+
+    tally_counts(t, &f.counts);
+    printf("  next from %" PRIu32 ": grower %" PRIu32 ",", from, a->grower);
+    print_totals(&f.totals);
+    print_counts(&a->counts);
+    judge(a->records == totals.records && same_totals(&f.totals, &totals));
+}
+
+/* Steps up through all growers and back down. */
+static void step_through(const column *c, meltusk_tally *t)
+{
+    uint32_t shown[SLOTS];
+    uint32_t count = 0;
+    uint64_t deliveries = 0;
+    meltusk_grower_answer a;
+    int good = 1;
+
+    puts("The payment screen");
+    for (uint32_t from = 0; count < SLOTS; from = a.grower + 1) {
+        a = meltusk_next_grower(COLUMN(c), from);
+        tally_counts(t, &a.counts);
+        if (a.records == 0)
+            break;
+        show_grower(c, from, &a, t);
+        deliveries += a.records;
+        shown[count++] = a.grower;
+        if (a.grower == UINT32_MAX)
+            break;
+    }
+    printf("Shown, %" PRIu64 " deliveries of %" PRIu32 " growers", deliveries, count);
+    judge(deliveries == used_slots(c));
+
+    printf("And back:");
+    for (uint32_t from = UINT32_MAX; good; from = a.grower - 1) {
+        a = meltusk_previous_grower(COLUMN(c), from);
+        tally_counts(t, &a.counts);
+        if (a.records == 0)
+            break;
+        printf(" %" PRIu32, a.grower);
+        good = count > 0 && a.grower == shown[--count];
+        if (a.grower == 0)
+            break;
+    }
+    judge(good && count == 0);
+    print_tally("This week's tally, with the screen's calls", t);
+    puts("");
+}
+
 /* Whether a column is the one that was read: its directory and its used slots. */
 static int same_column(const column *a, const column *b)
 {
@@ -580,6 +645,7 @@ int main(void)
     make_alone(&mill, histograms, used, ends, ends_count);
     make_week(&mill, &tally);
     look_up(&mill, 104, 3, 0);
+    step_through(&mill, &tally);
     save_and_read(&mill);
 
     puts("\nThe next week, taken to be like this one");

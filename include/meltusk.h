@@ -18,11 +18,11 @@
  *
  * A host's round: record a week's calls against an unpartitioned set; plan a
  * layout; apply it; then find, range, insert, delete and move on the column,
- * and write and read snapshots of it. To plan again, put the used slots of the
- * three slices in the order of their growers: they are an unpartitioned set
- * then, with a longer block length if they have become more than 64 blocks.
- * Deliveries also come from and go to weighbridge files. examples/host.c does
- * all this.
+ * step from grower to grower, and write and read snapshots of it. To plan
+ * again, put the used slots of the three slices in the order of their growers:
+ * they are an unpartitioned set then, with a longer block length if they have
+ * become more than 64 blocks. Deliveries also come from and go to weighbridge
+ * files. examples/host.c does all this.
  *
  * REFUSALS
  *
@@ -181,6 +181,15 @@ typedef struct {
     meltusk_totals totals; /* of find and range */
 } meltusk_answer;
 
+/* What the next and the previous grower answer: the grower and how many records
+ * he has; 0 and 0 if there is none. */
+typedef struct {
+    uint32_t refusal;
+    uint32_t grower;
+    uint64_t records;
+    meltusk_counts counts;
+} meltusk_grower_answer;
+
 /* What applying a layout and reading a snapshot answer: the directory, all 0 when refused. */
 typedef struct {
     uint32_t refusal;
@@ -293,6 +302,33 @@ meltusk_answer meltusk_move(uint32_t *directory, size_t directory_count,
                             uint32_t *yields, size_t yields_count,
                             uint32_t grower, uint32_t weight, uint32_t oil_yield,
                             uint32_t new_grower);
+
+/*
+ * The smallest grower at or above `grower` who has a record. Checks 2 3 6 8 (8:
+ * the partitions scanned). Scans from `grower`'s partition to the first that
+ * holds such a record, or to the last partition if there is none; counts as a
+ * range over the partitions scanned. Writes to no slice.
+ *
+ * To step through all growers, begin with 0 and go on with the grower answered
+ * plus 1, until records is 0; stop at 4,294,967,295, which has no successor.
+ */
+meltusk_grower_answer meltusk_next_grower(const uint32_t *directory, size_t directory_count,
+                                          const uint32_t *growers, size_t growers_count,
+                                          const uint32_t *weights, size_t weights_count,
+                                          const uint32_t *yields, size_t yields_count,
+                                          uint32_t grower);
+
+/*
+ * The largest grower at or below `grower` who has a record. As the next grower,
+ * but downward: scans from `grower`'s partition back, to the first partition if
+ * there is none. Begin with 4,294,967,295, go on with the grower answered less
+ * 1, and stop at 0.
+ */
+meltusk_grower_answer meltusk_previous_grower(const uint32_t *directory, size_t directory_count,
+                                              const uint32_t *growers, size_t growers_count,
+                                              const uint32_t *weights, size_t weights_count,
+                                              const uint32_t *yields, size_t yields_count,
+                                              uint32_t grower);
 
 /*
  * Where the grower's partition lies in the growers. Checks 2 3 6 (3: the

@@ -9,7 +9,7 @@ use second::{Delivery, BLOCK_LENGTH_LIMIT, SLOT_LIMIT};
 
 /// Slots left free.
 const FREE: usize = 256;
-const USED: usize = SLOT_LIMIT - FREE;
+pub const USED: usize = SLOT_LIMIT - FREE;
 /// Inserts of a batch, and then deletes; as many moves there and back.
 const WRITES: usize = 32;
 /// Finds and ranges of a batch.

@@ -5,6 +5,7 @@
 mod calibrate;
 mod columns;
 mod csv;
+mod growers;
 mod plans;
 mod race;
 mod sets;
@@ -33,10 +34,18 @@ fn files() {
     csv::run();
 }
 
+/// Steps from grower to grower.
+fn steps() {
+    heading("call", "K", "second");
+    [1, 8, 64].into_iter().for_each(growers::run);
+}
+
 fn calls() {
     heading("call", "K", "second");
     [1, 8, 64].into_iter().for_each(columns::run);
     [1, 64].into_iter().for_each(snapshots::run);
+    println!();
+    steps();
     println!();
     files();
     println!();
@@ -52,6 +61,7 @@ fn main() {
     let arguments: Vec<&str> = arguments.iter().map(String::as_str).collect();
     match arguments[..] {
         [] | ["calls"] => calls(),
+        ["growers"] => steps(),
         ["csv"] => files(),
         ["calibrate"] => calibrate::survey(),
         ["calibrate", block] => match block.parse() {
@@ -60,7 +70,7 @@ fn main() {
         },
         ["weeks"] => weeks::run(),
         ["cards"] => weeks::cards(),
-        _ => fail("bench [calls | csv | calibrate [BLOCK_LENGTH] | weeks | cards]"),
+        _ => fail("bench [calls | growers | csv | calibrate [BLOCK_LENGTH] | weeks | cards]"),
     }
 }
 

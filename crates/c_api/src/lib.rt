@@ -7,6 +7,8 @@ ghost use Rattle.model.specs.Calls.{find, range, insert, delete, move};
 ghost use Rattle.model.specs.Recorder.{recordCall};
 ghost use Rattle.model.specs.Planner.{costCall, planCall};
 ghost use Rattle.model.specs.ColumnCalls.{applyCall, columnCall, partitionCall};
+ghost use Rattle.model.specs.Growers.{up, down};
+ghost use Rattle.model.specs.GrowerCalls.{growerCall};
 ghost use Rattle.model.specs.CsvCalls.{importCall, exportCall};
 ghost use Rattle.model.specs.SnapshotCalls.{writeCall, readCall};
 ghost use Rattle.model.specs.Lent.{columnIn, columnOut, setIn};
@@ -18,6 +20,7 @@ use model::Applied;
 use model::Costed;
 use model::Counts;
 use model::Delivery;
+use model::GrowerAnswer;
 use model::Imported;
 use model::Limits;
 use model::PartitionSlice;
@@ -135,6 +138,34 @@ pub extern "C" fn meltusk_move(
         oil_yield,
     };
     column::move_delivery(directory, growers, weights, yields, d, new_grower)
+}
+
+// The smallest grower at or above the given one who has records.
+#[no_mangle]
+pub extern "C" fn meltusk_next_grower(
+    directory: &[u32],
+    growers: &[u32],
+    weights: &[u32],
+    yields: &[u32],
+    grower: u32,
+) -> GrowerAnswer
+    ensures { λ r. ⌜ r ≡ growerCall blockLimit (columnIn directory growers weights yields) up grower ⌝ }
+{
+    column::next_grower(directory, growers, weights, yields, grower)
+}
+
+// The largest grower at or below the given one who has records.
+#[no_mangle]
+pub extern "C" fn meltusk_previous_grower(
+    directory: &[u32],
+    growers: &[u32],
+    weights: &[u32],
+    yields: &[u32],
+    grower: u32,
+) -> GrowerAnswer
+    ensures { λ r. ⌜ r ≡ growerCall blockLimit (columnIn directory growers weights yields) down grower ⌝ }
+{
+    column::previous_grower(directory, growers, weights, yields, grower)
 }
 
 // Where a grower's partition lies in the growers.

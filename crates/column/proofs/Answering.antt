@@ -2,7 +2,7 @@
 use Prim.Native.Nat.{ℕ}
 use mathlib.Core.Path.{_≡_, refl, sym}
 use mathlib.Core.Bool.{Bool, true, false}
-use mathlib.Core.List.{List, [], _∷_}
+use mathlib.Core.List.{List, [], _∷_, _++_}
 use native.Mathlib.Omega.{arith}
 use lib.ListN.{length}
 use borrow.Author.Tests.{ne-eqb, le-leb}
@@ -40,11 +40,14 @@ three-yes true false r cs h = h
 three-yes false q r cs h = h
 
 module _ (L : ℕ) where
+  -- 2, 3 and 6 are answered by yes
+  pub past-lent : (c : Column) (cs : List Check) → firstFailed (lentChecks L c) ≡ 0 → firstFailed (lentChecks L c ++ cs) ≡ firstFailed cs
+  past-lent c cs h = three (directoryBlockOk L (c .directory)) (slicesOk (c .growers) (c .weights) (c .yields)) (directoryOk L (length (c .growers)) (c .directory)) cs h
+
   module _ (c : Column) (k : Call) where
-    -- 2, 3 and 6 are answered by yes
     pub lent-yes : firstFailed (lentChecks L c) ≡ 0 → columnRefusal L c k ≡ firstFailed (callChecks L c k)
     unfolding columnRefusal columnChecks
-    lent-yes h = three (directoryBlockOk L (c .directory)) (slicesOk (c .growers) (c .weights) (c .yields)) (directoryOk L (length (c .growers)) (c .directory)) (callChecks L c k) h
+    lent-yes h = past-lent c (callChecks L c k) h
 
     pub refused-call : (n : ℕ) → columnRefusal L c k ≡ n → (n ≡ 0 → ⊥) → (n ≡ 13 → ⊥) → _≡_ {A = Called} (record { answer = withoutTotals n noCounts; column = c }) (columnCall L c k)
     unfolding columnCall refusedCounts

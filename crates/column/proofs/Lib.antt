@@ -2,5 +2,6 @@
 pub mod Answering
 pub mod Reading
 pub mod Searching
+pub mod Neighbours
 pub mod Writing
 pub mod Handing

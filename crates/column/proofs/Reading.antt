@@ -24,6 +24,7 @@ use Rattle.model.specs.Questions.{lentChecks, callChecks}
 use Rattle.model.specs.ColumnCalls.{Called, columnRefusal, callTotals, columnCall}
 use Rattle.model.proofs.Places.{placed, placed-mono}
 use Rattle.model.proofs.Parts.{stop-le}
+use Rattle.model.proofs.Deliveries.{length-rows}
 use Rattle.scan.specs.declared.Scan.{Scan}
 use Rattle.scan.specs.Scans.{recordsIn, scanOf}
 use Rattle.scan.proofs.Blocks.{blocks-least}
@@ -65,6 +66,9 @@ module _ (L : ℕ) where
   module _ (c : Column) (h : firstFailed (lentChecks L c) ≡ 0) where
     l : LentColumn L c
     l = lent-column L c h
+
+    pub lengths-fit : sumOf (lengthsOf L c) ≤ length (slots c)
+    lengths-fit = omega (arith, length-rows (c .growers) (c .weights) (c .yields) (l .even .weights) (l .even .yields), l .shape .room)
 
     -- where lo and hi go
     pub target-there : (g : ℕ) → target L c g < length (lengthsOf L c)

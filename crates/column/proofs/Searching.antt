@@ -20,13 +20,13 @@ use Rattle.model.specs.Column.{Column, slots, lengthsOf, target, recordsNear, s
 use Rattle.model.specs.Accesses.{noCounts, blocksOf, readsOf, blocksScanned, scanCounts, scanNear}
 use Rattle.model.specs.Questions.{lentChecks, callChecks}
 use Rattle.model.specs.ColumnCalls.{columnRefusal}
-use Rattle.model.proofs.Parts.{between-one, part-parts, length-part}
-use Rattle.model.proofs.Deliveries.{rows-part, length-rows, first-among}
+use Rattle.model.proofs.Parts.{between-one, length-part}
+use Rattle.model.proofs.Deliveries.{first-among}
+use Rattle.scan.proofs.Scanning.{lent-part}
 use Rattle.column.specs.declared.Located.{Located}
 use Rattle.column.specs.Answers.{notLocated, searchedOf, locatedOf}
-use Rattle.directory.proofs.LentColumns.{LentColumn, lent-column}
 use Rattle.column.proofs.Answering.{lent-yes, lent-refusal}
-use Rattle.column.proofs.Reading.{target-there}
+use Rattle.column.proofs.Reading.{lengths-fit, target-there}
 
 -- a delivery is held just if the first match is inside
 pub among-match : (d : Delivery) (ds : List Delivery) → among d ds ≡ ltb (firstMatch d ds) (length ds)
@@ -69,17 +69,11 @@ module _ (L : ℕ) where
       unfolding locatedOf
       located-range e = rw (refusal-is false (hasDelivery L c d) (rw e) refl)
 
-      l : LentColumn L c
-      l = lent-column L c h
-
       there : target L c (d .grower) < length (lengthsOf L c)
       there = target-there L c h (d .grower)
 
-      long : sumOf (lengthsOf L c) ≤ length (slots c)
-      long = omega (arith, length-rows (c .growers) (c .weights) (c .yields) (l .even .weights) (l .even .yields), l .shape .room)
-
       pub near-length : length (recordsNear L c (d .grower)) ≡ getD (lengthsOf L c) (target L c (d .grower)) 0
-      near-length = ap length (between-one (target L c (d .grower)) (lengthsOf L c) (slots c) there) ∙ length-part (target L c (d .grower)) (lengthsOf L c) (slots c) there long
+      near-length = ap length (between-one (target L c (d .grower)) (lengthsOf L c) (slots c) there) ∙ length-part (target L c (d .grower)) (lengthsOf L c) (slots c) there (lengths-fit L c h)
 
       -- the scan of the grower's partition
       near-counts : readsOf (blocksOf (getD (c .directory) 0 0) (length (recordsNear L c (d .grower)))) ≡ scanNear (directoryOf L (c .directory)) (d .grower)
@@ -113,5 +107,5 @@ module _ (L : ℕ) where
       pub near-part : (a n : ℕ) → a ≡ startOf (lengthsOf L c) (target L c (d .grower)) → n ≡ getD (lengthsOf L c) (target L c (d .grower)) 0
           → rows (take (a + n - a) (drop a (c .growers))) (take (a + n - a) (drop a (c .weights))) (take (a + n - a) (drop a (c .yields))) ≡ recordsNear L c (d .grower)
       near-part a n ea en =
-          let e : a + n - a ≡ n = omega arith in
-          rw (rows-part, e, ea, en) (sym (between-one (target L c (d .grower)) (lengthsOf L c) (slots c) there ∙ part-parts (target L c (d .grower)) (lengthsOf L c) (slots c)))
+          lent-part (lengthsOf L c) (target L c (d .grower)) a n (c .growers) (c .weights) (c .yields) ea en
+          ∙ sym (between-one (target L c (d .grower)) (lengthsOf L c) (slots c) there)

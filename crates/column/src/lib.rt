@@ -1,4 +1,5 @@
-// The laid column (01): find, range, insert, delete, move and the partition call, over three lent slices and the lent directory.
+// The laid column (01): find, range, insert, delete, move, the next and the previous grower (02: Slip 3) and the partition call, over three
+// lent slices and the lent directory.
 // No call trusts what it is lent: each puts its checks first, and a refused call writes to no slice.
 ghost use mathlib.Core.Path.{_≡_};
 ghost use Prim.Native.Nat.{_+_, _-_, _≤_, _<_};
@@ -16,13 +17,17 @@ ghost use Rattle.model.specs.Directory.{partitionCount, directoryOf, directoryO
 ghost use Rattle.model.specs.Accesses.{noCounts, andAlso, apart};
 ghost use Rattle.model.specs.Questions.{lentChecks};
 ghost use Rattle.model.specs.ColumnCalls.{columnCall, partitionCall};
+ghost use Rattle.model.specs.Growers.{up, down};
+ghost use Rattle.model.specs.GrowerCalls.{growerCall};
 ghost use Rattle.model.specs.Lent.{columnOf, columnIn, columnOut, Even};
+ghost use Rattle.growers.specs.Searches.{directionOf};
 ghost use Rattle.column.specs.Answers.{withoutTotals, notLocated, searchedOf, locatedOf, openedOf, partOf};
 ghost use Rattle.column.specs.Answers.{Ready, putOf, takenOf, shiftedOf};
 use directory::Shape;
 use model::Answer;
 use model::Counts;
 use model::Delivery;
+use model::GrowerAnswer;
 use model::PartitionSlice;
 use model::Totals;
 
@@ -489,6 +494,61 @@ pub fn move_delivery(
         moved,
     );
     without_totals(0, counts)
+}
+
+// The first grower with deliveries at or past a given one, upward or downward.
+fn neighbour(
+    directory: &[u32],
+    g: &[u32],
+    w: &[u32],
+    y: &[u32],
+    grower: u32,
+    up: bool,
+) -> GrowerAnswer
+    ensures { λ r. ⌜ r ≡ growerCall blockLimit (columnIn directory g w y) (directionOf up) grower ⌝ }
+{
+    let shape = directory::lent(directory, g, w, y, grower);
+    let n = shape.refusal;
+    if n != 0 {
+        return growers::refused(n);
+    }
+    growers::search(
+        g,
+        w,
+        y,
+        directory::lengths(directory),
+        shape.target,
+        shape.start,
+        directory::block(directory),
+        grower,
+        up,
+    )
+}
+
+// The smallest grower at or above the given one who has records, and how many.
+pub fn next_grower(
+    directory: &[u32],
+    growers: &[u32],
+    weights: &[u32],
+    yields: &[u32],
+    grower: u32,
+) -> GrowerAnswer
+    ensures { λ r. ⌜ r ≡ growerCall blockLimit (columnIn directory growers weights yields) up grower ⌝ }
+{
+    neighbour(directory, growers, weights, yields, grower, true)
+}
+
+// The largest grower at or below the given one who has records, and how many.
+pub fn previous_grower(
+    directory: &[u32],
+    growers: &[u32],
+    weights: &[u32],
+    yields: &[u32],
+    grower: u32,
+) -> GrowerAnswer
+    ensures { λ r. ⌜ r ≡ growerCall blockLimit (columnIn directory growers weights yields) down grower ⌝ }
+{
+    neighbour(directory, growers, weights, yields, grower, false)
 }
 
 fn no_partition(refusal: u32) -> PartitionSlice

@@ -16,15 +16,17 @@ use Rattle.model.specs.Moves.{rotateLeft, rotateRight, fillFromEnd, fill
 use Rattle.model.specs.Directory.{directoryOf, unusedNumbers, directoryNumbers, directoryBlockOk, directoryOk, withLengths}
 use Rattle.model.specs.Column.{soundGrowers, sound, scannedOk, hasFreeSlot, hasDelivery, lengthsFrom, directoryFor}
 use Rattle.model.specs.Accesses.{blocksOf, blocksScanned, readsOf, scanCounts, scanNear, callCounts, missCounts}
+use Rattle.model.specs.Growers.{nearestFrom, nearest, nearestOf, holdsOne, downFrom, path, upToFirst, countsScanned, scannedFor, scannedForOk}
 use Rattle.model.specs.Fields.{leading, justified, signedField, spelled, readField, line, takeNumbers, afterLineEnd, takeLine, takeLines}
 use Rattle.model.specs.Snapshot.{partitionRows, bookText, headerOk, takeHeader, bookOk, readBook, isBook, slotsForBook}
 use Rattle.model.specs.Csv.{afterEnd, behind, takePlain, takeQuoted, takeField, takeFields, takeRecords}
 use Rattle.model.specs.Weighbridge.{timesNamed, columnNamed, headerNamed, headerOnce, numberIn, rowOf, rowsOf, readRows, rowCount, digits, plainNumber, csvText}
-use Rattle.model.specs.Questions.{recorderChecks, costChecks, plannerChecks, applyChecks, callChecks, columnChecks, partitionChecks}
+use Rattle.model.specs.Questions.{recorderChecks, costChecks, plannerChecks, applyChecks, callChecks, columnChecks, growerChecks, partitionChecks}
 use Rattle.model.specs.Questions.{writeChecks, readChecks, importChecks, exportChecks, ledgerChecks}
 use Rattle.model.specs.Recorder.{recorderRefusal, recordCall, recordCalls, acceptedCalls}
 use Rattle.model.specs.Planner.{costCall, plannedEnds, plannerRefusal, planCall}
 use Rattle.model.specs.ColumnCalls.{moveSlices, applyCall, laidColumn, callTotals, columnAfter, columnRefusal, refusedCounts, columnCall, columnCalls, reportAlone, partitionCall}
+use Rattle.model.specs.GrowerCalls.{growerCall, ledgerGrower}
 use Rattle.model.specs.SnapshotCalls.{readCall, columnRead, writeCall}
 use Rattle.model.specs.CsvCalls.{importCall, exportCall}
 use Rattle.model.specs.Tallies.{tallyChecks}
@@ -44,4 +46,5 @@ unfolding flatten sumOf ceilDiv upFrom every keep rising neverFalls sameList fir
     columnRefusal refusedCounts columnCall columnCalls reportAlone partitionCall readCall columnRead writeCall tallyChecks callOf callsOf sizesOk takeSizes
     readWeek recordUntilRefused partitionTexts planText weekText layplan bytesOf afterEnd behind takePlain takeQuoted takeField takeFields takeRecords timesNamed
     columnNamed headerNamed headerOnce numberIn rowOf rowsOf readRows rowCount digits plainNumber csvText importChecks exportChecks importCall exportCall
+    nearestFrom nearest nearestOf holdsOne downFrom path upToFirst countsScanned scannedFor scannedForOk growerChecks growerCall ledgerGrower
 computed = tt

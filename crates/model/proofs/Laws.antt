@@ -1,7 +1,7 @@
 -- The laws that specs/Laws.antt states. Assumes nothing.
 use Prim.Native.Nat.{ℕ}
 use Rattle.model.specs.Laws.{BlocksInPartitions, FreshBlocks, KeepsRecords, KeepsPartitions, LeavesSlots, CommutesWithMap, SlicesMoveAsOne}
-use Rattle.model.specs.Laws.{CostAdds, LimitsArePrices, EveryLayoutListed, TotalOrder, AnswerUnique}
+use Rattle.model.specs.Laws.{CostAdds, LimitsArePrices, NearestIsFirst, CountsOfARange, EveryLayoutListed, TotalOrder, AnswerUnique}
 use native.Mathlib.Omega.{arith}
 use Rattle.model.proofs.LayoutLaws.{laid, every-layout}
 use Rattle.model.proofs.SetLaws.{good, spot, target, part-first, part-end}
@@ -10,6 +10,8 @@ use Rattle.model.proofs.CostLaws.{cost-added}
 use Rattle.model.proofs.Order.{comesBefore-total, comesBefore-trans, comesBefore-antisym}
 use Rattle.model.proofs.PlanLaws.{cheapest-unique}
 use Rattle.model.proofs.LimitLaws.{limit-prices}
+use Rattle.model.proofs.GrowerLaws.{nearest-is}
+use Rattle.model.proofs.GrowerCounts.{range-counts}
 use Rattle.model.proofs.MovesMap.{map-inserted, map-deleted, map-moved}
 use Rattle.model.proofs.MovesBag.{insertAt-bag, deleteAt-bag, moveAt-bag}
 use Rattle.model.proofs.MovesKeep.{insertAt-sound, deleteAt-sound, moveAt-sound}
@@ -55,6 +57,12 @@ cost-adds = cost-added
 
 pub limits-are-prices : LimitsArePrices
 limits-are-prices = limit-prices
+
+pub nearest-is-first : NearestIsFirst
+nearest-is-first w g gs = nearest-is w g gs
+
+pub counts-of-a-range : CountsOfARange
+counts-of-a-range = range-counts
 
 pub every-layout-listed : EveryLayoutListed
 every-layout-listed = every-layout

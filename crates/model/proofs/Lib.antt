@@ -31,8 +31,11 @@ pub mod WriteLaws
 pub mod DigitLaws
 pub mod CsvLaws
 pub mod ExportLaws
+pub mod GrowerLaws
+pub mod GrowerCounts
 pub mod Laws
 pub mod Computing
 pub mod Marked
 pub mod BooksComputed
 pub mod CsvComputed
+pub mod GrowersComputed

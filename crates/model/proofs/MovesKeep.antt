@@ -22,7 +22,7 @@ Sound P i [] = Unit {0}
 Sound P i (p ∷ ps) = All (P i) p × Sound P (i + 1) ps
 
 module _ {A : Type 0} (P : A → Type 0) where
-  all-append : (a b : List A) → All P a → All P b → All P (a ++ b)
+  pub all-append : (a b : List A) → All P a → All P b → All P (a ++ b)
   unfolding All
   all-append [] b p q = q
   all-append (x ∷ a) b p q = (p .0, all-append a b (p .1) q)

@@ -1,16 +1,16 @@
 -- Laws of the definitions, as statements. Each is proved in proofs/Laws.antt, once for every crate above.
-use Prim.Native.Nat.{ℕ, _+_, _*_, _≤_, _<_}
+use Prim.Native.Nat.{ℕ, _+_, _-_, _*_, _≤_, _<_}
 use mathlib.Core.Path.{_≡_}
 use mathlib.Core.Logic.{_⊎_, _↔_}
 use mathlib.Core.Bool.{Bool}
 use mathlib.Core.List.{List, [], _∷_, _++_, map, flatten, List·Memᴰ, List·Permᴰ}
 use lib.ListN.{length, getD, drop}
-use lib.Dec.{T}
+use lib.Dec.{T, eqb}
 use lib.IntN.{ℤ, _+ℤ_}
 use Rattle.model.specs.declared.Delivery.{Delivery}
 use Rattle.model.specs.declared.PriceCard.{PriceCard}
 use Rattle.model.specs.declared.Limits.{Limits}
-use Rattle.model.specs.Lists.{sumOf}
+use Rattle.model.specs.Lists.{sumOf, keep}
 use Rattle.model.specs.Checks.{ask, firstFailed}
 use Rattle.model.specs.Place.{place}
 use Rattle.model.specs.Blocks.{Set, blocks, lastGrower, blockOf, valuesOk}
@@ -21,9 +21,11 @@ use Rattle.model.specs.Plan.{comesBefore}
 use Rattle.model.specs.Partitions.{part, parts, free, everyAt, oneMore, oneFewer}
 use Rattle.model.specs.Moves.{insertAt, deleteAt, moveAt, inserted, deleted, moved}
 use Rattle.model.specs.Lent.{Even}
-use Rattle.model.specs.Column.{Column, slots, lengthsFrom}
-use Rattle.model.specs.Accesses.{blocksOf}
-use Rattle.model.specs.Questions.{setChecks}
+use Rattle.model.specs.Directory.{Directory, directoryOf}
+use Rattle.model.specs.Column.{Column, slots, target, lengthsFrom}
+use Rattle.model.specs.Accesses.{blocksOf, scanCounts}
+use Rattle.model.specs.Growers.{Direction, up, down, atOrPast, GrowerCount, nearestOf, countsScanned, scannedFor}
+use Rattle.model.specs.Questions.{setChecks, lentChecks}
 use Rattle.model.specs.ColumnCalls.{moveSlices}
 
 -- checks 2 to 5 and 8 of the set are answered by yes
@@ -101,6 +103,27 @@ pub record LimitPrices (p : PriceCard) (l : Limits) : Type 0 where
 
 abbrev pub LimitsArePrices : Type 0
 LimitsArePrices = (p : PriceCard) (l : Limits) → T (pricesOk p) → LimitPrices p l
+
+-- The nearest grower: he is one of the growers at or past g, all of these are at or past him, and his records are all of his.
+-- He has a record just where there is such a grower, and is 0 where there is none.
+pub record IsNearest (w : Direction) (g : ℕ) (gs : List ℕ) (n : GrowerCount) : Type 0 where
+  pub there : 1 ≤ n .records → List·Memᴰ (n .grower) gs × T (atOrPast w g (n .grower))
+  pub first : (m : ℕ) → List·Memᴰ m gs → T (atOrPast w g m) → (1 ≤ n .records) × T (atOrPast w (n .grower) m)
+  pub counted : 1 ≤ n .records → n .records ≡ length (keep (eqb (n .grower)) gs)
+  pub none : n .records ≡ 0 → n .grower ≡ 0
+
+abbrev pub NearestIsFirst : Type 0
+NearestIsFirst = (w : Direction) (g : ℕ) (gs : List ℕ) → IsNearest w g gs (nearestOf w g gs)
+
+-- 02, Slip 3: "its counts are those of a range over the partitions it scanned": k of them from g's on, or k of them down from it.
+pub record RangeCounts (L : ℕ) (c : Column) (g : ℕ) : Type 0 where
+  pub upward : let d : Directory = directoryOf L (c .directory) in
+      countsScanned d (scannedFor L c up g) ≡ scanCounts d (target L c g) (target L c g + length (scannedFor L c up g) - 1)
+  pub downward : let d : Directory = directoryOf L (c .directory) in
+      countsScanned d (scannedFor L c down g) ≡ scanCounts d (target L c g + 1 - length (scannedFor L c down g)) (target L c g)
+
+abbrev pub CountsOfARange : Type 0
+CountsOfARange = (L : ℕ) (c : Column) (g : ℕ) → firstFailed (lentChecks L c) ≡ 0 → RangeCounts L c g
 
 -- The list of every layout holds each layout, and nothing else.
 abbrev pub EveryLayoutListed : Type 0

@@ -17,6 +17,7 @@ pub mod Directory
 pub mod Column
 pub mod Lent
 pub mod Accesses
+pub mod Growers
 pub mod Fields
 pub mod Snapshot
 pub mod Csv
@@ -26,6 +27,7 @@ pub mod Recorder
 pub mod Planner
 pub mod ColumnCalls
 pub mod Ledger
+pub mod GrowerCalls
 pub mod SnapshotCalls
 pub mod CsvCalls
 pub mod Tallies
@@ -33,5 +35,6 @@ pub mod Program
 pub mod Laws
 pub mod Text
 pub mod Examples
+pub mod GrowerExamples
 pub mod SnapshotExamples
 pub mod CsvExamples

@@ -18,6 +18,7 @@ use Rattle.model.specs.Layouts.{layoutOk}
 use Rattle.model.specs.Plan.{permittedLayouts}
 use Rattle.model.specs.Directory.{directoryBlockOk, directoryOk}
 use Rattle.model.specs.Column.{Column, allRecords, sound, scannedOk, hasFreeSlot, hasDelivery}
+use Rattle.model.specs.Growers.{Direction, scannedForOk}
 use Rattle.model.specs.Snapshot.{snapshotText, slotsForBook, isBook}
 use Rattle.model.specs.Weighbridge.{headerNamed, headerOnce, readRows, rowCount, csvText}
 
@@ -64,6 +65,10 @@ module _ (L : ℕ) where
 
   unfoldable pub columnChecks : Column → Call → List Check
   columnChecks c k = lentChecks c ++ callChecks c k
+
+  -- the next or previous grower (02: Slip 3): 2 3 6 8
+  unfoldable pub growerChecks : Column → Direction → ℕ → List Check
+  growerChecks c w g = lentChecks c ++ ask 8 (scannedForOk L c w g) ∷ []
 
   -- partition slice (01: the run call), given the growers alone: 2 3 6
   unfoldable pub partitionChecks : List ℕ → List ℕ → List Check

@@ -187,6 +187,15 @@ pub struct Answer {
     pub totals: Totals,
 }
 
+// What the next and the previous grower answer: a grower and how many records he has, 0 and 0 where there is none.
+#[repr(C)]
+pub struct GrowerAnswer {
+    pub refusal: u32,
+    pub grower: u32,
+    pub records: u64,
+    pub counts: Counts,
+}
+
 // What applying a layout or reading a snapshot answers: the directory, all 0 when refused.
 #[repr(C)]
 pub struct Applied {

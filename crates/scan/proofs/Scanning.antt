@@ -112,13 +112,14 @@ scanning-start b ns p q lo hi ds at h e =
     let z : 0 ≡ p - p = omega arith in
     record { from = omega arith; till = omega arith; here = e; so-far = scan-none b ns p lo hi ds ∙ ap (λ (n : ℕ). scanOf b ns p n lo hi ds) z }
 
-module _ (b : ℕ) (ns : List ℕ) (p q lo hi : ℕ) (g w y : List ℕ) (at i : ℕ) (s : Scan) (w₀ : Scanning b ns p q lo hi (rows g w y) at i s) where
-  -- the part that is lent is the partition
-  lent-part : rows (take (at + getD ns i 0 - at) (drop at g)) (take (at + getD ns i 0 - at) (drop at w)) (take (at + getD ns i 0 - at) (drop at y)) ≡ part i (parts ns (rows g w y))
-  lent-part =
-      let e : at + getD ns i 0 - at ≡ getD ns i 0 = omega arith in
-      rw (rows-part, e, w₀ .here) (sym (part-parts i ns (rows g w y)))
+-- the part that is lent is the partition
+pub lent-part : (ns : List ℕ) (i a n : ℕ) (g w y : List ℕ) → a ≡ startOf ns i → n ≡ getD ns i 0
+    → rows (take (a + n - a) (drop a g)) (take (a + n - a) (drop a w)) (take (a + n - a) (drop a y)) ≡ part i (parts ns (rows g w y))
+lent-part ns i a n g w y ea en =
+    let e : a + n - a ≡ n = omega arith in
+    rw (rows-part, e, ea, en) (sym (part-parts i ns (rows g w y)))
 
+module _ (b : ℕ) (ns : List ℕ) (p q lo hi : ℕ) (g w y : List ℕ) (at i : ℕ) (s : Scan) (w₀ : Scanning b ns p q lo hi (rows g w y) at i s) where
   pub scanning-next : i ≤ q → q < length ns → sumOf ns ≤ length (rows g w y) → (r : Scan)
       → r ≡ scanMore b lo hi s (rows (take (at + getD ns i 0 - at) (drop at g)) (take (at + getD ns i 0 - at) (drop at w)) (take (at + getD ns i 0 - at) (drop at y)))
       → Scanning b ns p q lo hi (rows g w y) (at + getD ns i 0) (i + 1) r
@@ -131,7 +132,8 @@ module _ (b : ℕ) (ns : List ℕ) (p q lo hi : ℕ) (g w y : List ℕ) (at i : 
         from = omega (arith, w₀ .from);
         till = omega arith;
         here = omega (arith, w₀ .here, start-next ns i (omega arith));
-        so-far = e ∙ ap (scanMore b lo hi s) lent-part ∙ ap (λ (z : Scan). scanMore b lo hi z (part i (parts ns (rows g w y)))) (w₀ .so-far) ∙ sym x
+        so-far = e ∙ ap (scanMore b lo hi s) (lent-part ns i at (getD ns i 0) g w y (w₀ .here) refl)
+            ∙ ap (λ (z : Scan). scanMore b lo hi z (part i (parts ns (rows g w y)))) (w₀ .so-far) ∙ sym x
             ∙ ap (λ (n : ℕ). scanOf b ns p n lo hi (rows g w y)) (sym v);
       }
 

@@ -3,8 +3,8 @@ use Prim.Native.Nat.{ℕ, _+_, _≤_}
 use mathlib.Core.Path.{_≡_, sym, ap, _∙_}
 use mathlib.Core.List.{List, _++_}
 use native.Mathlib.Omega.{arith}
-use lib.ListN.{length, take, drop}
-use lib.Seq.{take-add, take-all, length-take-le}
+use lib.ListN.{length, take, drop, take-append-drop}
+use lib.Seq.{take-add, take-all, drop-drop, length-take-le}
 use Rattle.model.specs.declared.Delivery.{Delivery}
 use Rattle.model.specs.Lent.{Even}
 use Rattle.model.specs.Deliveries.{rows}
@@ -30,3 +30,23 @@ module _ {A : Type 0} (all : List Delivery → A) (more : A → ℕ → List Del
 
 pub strides-end : {A : Type 0} (all : List Delivery → A) (g w y : List ℕ) (p : Even g w y) (s : A) (i : ℕ) → Strides all g w y s i → length g ≤ i → s ≡ all (rows g w y)
 strides-end all g w y p s i k h = k .so-far ∙ ap all (take-all i (rows g w y) (omega (arith, length-rows g w y (p .weights) (p .yields))))
+
+-- The same from the back: e records are still ahead, and a step `more` goes on from what the records behind them gave.
+pub record BackStrides {A : Type 0} (all : List Delivery → A) (g w y : List ℕ) (s : A) (e : ℕ) : Type 0 where
+  pub at : e ≤ length g
+  pub so-far : s ≡ all (drop e (rows g w y))
+
+module _ {A : Type 0} (all : List Delivery → A) (more : A → List Delivery → A) (behind : (a b : List Delivery) → all (b ++ a) ≡ more (all a) b)
+    (g w y : List ℕ) (s : A) (e : ℕ) (k : BackStrides all g w y s e) where
+  pub back-strides-next : (n i : ℕ) (r : A) → i + n ≡ e → r ≡ more s (rows (take n (drop i g)) (take n (drop i w)) (take n (drop i y))) → BackStrides all g w y r i
+  back-strides-next n i r h q =
+      let ds : List Delivery = rows g w y in
+      let z : drop n (drop i ds) ≡ drop e ds = drop-drop n i ds ∙ ap (λ (m : ℕ). drop m ds) h in
+      record {
+        at = omega (arith, k .at);
+        so-far = q ∙ ap (more s) (rows-part n i g w y) ∙ ap (λ (x : A). more x (take n (drop i ds))) (k .so-far) ∙ sym (behind (drop e ds) (take n (drop i ds)))
+            ∙ ap (λ (l : List Delivery). all (take n (drop i ds) ++ l)) (sym z) ∙ ap all (take-append-drop n (drop i ds));
+      }
+
+pub back-strides-end : {A : Type 0} (all : List Delivery → A) (g w y : List ℕ) (s : A) → BackStrides all g w y s 0 → s ≡ all (rows g w y)
+back-strides-end all g w y s k = k .so-far

@@ -157,7 +157,7 @@ pub fn surveyed(lens: &[u32], fences: &[u32], g: u32) -> Survey
 }
 
 // How many growers are q: one comparison a grower, where a range takes two.
-fn count_equal(g: &[u32], q: u32) -> usize
+pub fn count_equal(g: &[u32], q: u32) -> usize
     requires { ⌜ length (now g) ≤ mostSlots ⌝ }
     ensures { λ r. ⌜ r ≡ countBetween q q (now (g .entry)) ⌝ }
 {

@@ -10,12 +10,7 @@ use Rattle.model.specs.Lists.{keep}
 use Rattle.model.proofs.Tests.{is-false}
 use Rattle.model.proofs.ListLaws.{flatten-append, keep-append}
 use Rattle.model.proofs.MovesKeep.{All, Sound}
-
-module _ {A : Type 0} (f : A → Bool) where
-  none-of : (P : A → Type 0) (l : List A) → All P l → ((a : A) → P a → f a ≡ false) → keep f l ≡ []
-  unfolding keep All
-  none-of P [] h k = refl
-  none-of P (x ∷ l) h k = rw (k x (h .0)) (none-of P l (h .1) k)
+use Rattle.model.proofs.GrowerLaws.{none-kept}
 
 -- the property of a record's image
 module _ {A B : Type 0} (f : A → B) (P : ℕ → B → Type 0) where
@@ -44,13 +39,13 @@ module _ {A : Type 0} (P : ℕ → A → Type 0) where
 
   module _ (f : A → Bool) where
     -- partitions whose records all fail the test
-    none-kept : (i : ℕ) (ps : List (List A)) → Sound P i ps → ((j : ℕ) (a : A) → i ≤ j → j < i + length ps → P j a → f a ≡ false)
+    none-in : (i : ℕ) (ps : List (List A)) → Sound P i ps → ((j : ℕ) (a : A) → i ≤ j → j < i + length ps → P j a → f a ≡ false)
         → keep f (flatten ps) ≡ []
     unfolding Sound flatten keep
-    none-kept i [] h k = refl
-    none-kept i (p ∷ ps) h k =
+    none-in i [] h k = refl
+    none-in i (p ∷ ps) h k =
         keep-append f p (flatten ps)
-        ∙ ap₂ _++_ (none-of f (P i) p (h .0) (λ a w. k i a (omega arith) (omega arith) w)) (none-kept (i + 1) ps (h .1) (λ j a u v w. k j a (omega arith) (omega arith) w))
+        ∙ ap₂ _++_ (none-kept (P i) f (λ a w. k i a (omega arith) (omega arith) w) p (h .0)) (none-in (i + 1) ps (h .1) (λ j a u v w. k j a (omega arith) (omega arith) w))
 
     cut-at : (n : ℕ) (ps : List (List A)) → keep f (flatten ps) ≡ keep f (flatten (take n ps)) ++ keep f (flatten (drop n ps))
     cut-at n ps =
@@ -63,7 +58,7 @@ module _ {A : Type 0} (P : ℕ → A → Type 0) where
     kept-scan p q ps h only =
         let k : ℕ = q + 1 - p in
         let before : keep f (flatten (take p ps)) ≡ []
-        = none-kept 0 (take p ps) (sound-take p 0 ps h) (λ j a u v w. is-false (f a) (λ t. let z = only j a w t in omega (arith, length-take p ps))) in
+        = none-in 0 (take p ps) (sound-take p 0 ps h) (λ j a u v w. is-false (f a) (λ t. let z = only j a w t in omega (arith, length-take p ps))) in
         let after : keep f (flatten (drop k (drop p ps))) ≡ []
-        = none-kept (0 + p + k) (drop k (drop p ps)) (sound-drop k (0 + p) (drop p ps) (sound-drop p 0 ps h)) (λ j a u v w. is-false (f a) (λ t. let z = only j a w t in omega arith)) in
+        = none-in (0 + p + k) (drop k (drop p ps)) (sound-drop k (0 + p) (drop p ps) (sound-drop p 0 ps h)) (λ j a u v w. is-false (f a) (λ t. let z = only j a w t in omega arith)) in
         sym (cut-at p ps ∙ rw before (cut-at k (drop p ps) ∙ rw after (append-nil _)))

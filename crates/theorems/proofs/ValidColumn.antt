@@ -78,7 +78,7 @@ module _ (L : ℕ) where
     unfolding sound soundGrowers
     sound-growers = everyAt-sound (inPlace (fencesOf L c)) 0 (parts (lengthsOf L c) (c .growers)) (v .sound)
 
-    sound-slots : Sound (λ (p : ℕ) (d : Delivery). T (inPlace (fencesOf L c) p (d .grower))) 0 (parts (lengthsOf L c) (slots c))
+    pub sound-slots : Sound (λ (p : ℕ) (d : Delivery). T (inPlace (fencesOf L c) p (d .grower))) 0 (parts (lengthsOf L c) (slots c))
     sound-slots =
         let f : Delivery → ℕ = λ (d : Delivery). d .grower in
         let e : parts (lengthsOf L c) (c .growers) ≡ map (map f) (parts (lengthsOf L c) (slots c))

@@ -1,5 +1,6 @@
 // Theorems over the definitions of the model. The statements are in specs/, their proofs in proofs/.
 ghost use Rattle.theorems.specs.Ledger.{LedgerAgreesFrom, LedgerAgrees};
+ghost use Rattle.theorems.specs.NextGrower.{NextGrowerAgrees, NextGrowerAfterCalls};
 ghost use Rattle.theorems.specs.Plan.{Demand3};
 ghost use Rattle.theorems.specs.Limits.{LimitsKept, OwnLimitsKept};
 ghost use Rattle.theorems.specs.Snapshot.{WrittenIsRead, ReadIsWritten};
@@ -18,4 +19,9 @@ pub fn import_restores()
 // Does nothing: that the limits permit the layouts on which no find and no insert costs more, likewise.
 pub fn limits_kept()
     ensures { λ _. ⌜ LimitsKept × OwnLimitsKept ⌝ }
+{}
+
+// Does nothing: that the next and the previous grower are the ledger's, likewise.
+pub fn growers_agree()
+    ensures { λ _. ⌜ NextGrowerAgrees × NextGrowerAfterCalls ⌝ }
 {}

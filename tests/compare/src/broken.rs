@@ -3,7 +3,7 @@
 use crate::calls::{Asked, Pair};
 use crate::inputs::{self, Kind, EDGE_COUNTS, MIXES};
 use crate::{Run, Test};
-use meltusk::{Call, Column, Library, Slots, LIBRARIES};
+use meltusk::{Call, Column, Library, Slots, Step, View, LIBRARIES};
 use second::random::Random;
 use second::{Delivery, BLOCK_LIMIT, FENCES, LENGTHS, SLOT_LIMIT, WEIGHT_LIMIT, YIELD_LIMIT};
 
@@ -85,11 +85,28 @@ pub const FAULTS: &[Fault] = &[
     DirectoryLength(131),
 ];
 
+/// The partitions that a step scans, lowest and highest: from the grower's own
+/// to the first that holds a grower it may answer.
+pub fn stepped_over(step: &Step, view: &View) -> (usize, usize) {
+    let own = view.partition_of(step.grower());
+    let last = view.partitions() - 1;
+    let holds = |&p: &usize| {
+        let growers = &view.growers[view.start(p)..][..view.length(p)];
+        growers.iter().any(|&g| step.reaches(g))
+    };
+    match step {
+        Step::Next(_) => (own, (own..=last).find(holds).unwrap_or(last)),
+        Step::Previous(_) => ((0..=own).rev().find(holds).unwrap_or(0), own),
+    }
+}
+
 /// The partitions that a call scans, first and last.
 fn scanned(asked: &Asked, c: &Column) -> Option<(usize, usize)> {
     let view = c.view();
-    let Asked::Call(call) = *asked else {
-        return None;
+    let call = match asked {
+        Asked::Call(call) => *call,
+        Asked::Step(step) => return Some(stepped_over(step, &view)),
+        Asked::Partition(_) => return None,
     };
     match call {
         Call::Find(g) => Some((view.partition_of(g), view.partition_of(g))),
@@ -105,7 +122,7 @@ fn scanned(asked: &Asked, c: &Column) -> Option<(usize, usize)> {
 fn offered(asked: &mut Asked) -> Option<&mut Delivery> {
     match asked {
         Asked::Call(call) => call.offered(),
-        Asked::Partition(_) => None,
+        Asked::Step(_) | Asked::Partition(_) => None,
     }
 }
 
@@ -265,7 +282,7 @@ pub fn base(r: &mut Random) -> Column {
 }
 
 /// What `about` can ask.
-const CALLS: usize = 6;
+const CALLS: usize = 8;
 
 /// One of the calls, about a delivery and a range of growers. A move goes to a
 /// grower near the first `used` slots.
@@ -283,7 +300,9 @@ fn about(
         2 => Call::Insert(d),
         3 => Call::Delete(d),
         4 => Call::Move(d, inputs::near(r, &c.view(), used)),
-        _ => return Asked::Partition(d.grower),
+        5 => return Asked::Partition(d.grower),
+        6 => return Step::Next(d.grower).into(),
+        _ => return Step::Previous(d.grower).into(),
     };
     call.into()
 }

@@ -3,16 +3,18 @@
 use crate::memory::Memory;
 use crate::seen;
 use meltusk::{
-    call_second, Answer, Applied, Call, Column, ColumnSlices, Library, PartitionSlice, Seen, Set,
-    View, DIRECTORY,
+    call_second, step_second, Answer, Applied, Call, Column, ColumnSlices, Library, PartitionSlice,
+    Seen, Set, Step, Stepped, View, DIRECTORY,
 };
 use second::random::Random;
 use std::fmt::Write;
 
-/// What a column is asked: one of the five calls, or where a partition lies.
+/// What a column is asked: one of the five calls, a step from grower to grower,
+/// or where a partition lies.
 #[derive(Clone, Copy, Debug)]
 pub enum Asked {
     Call(Call),
+    Step(Step),
     Partition(u32),
 }
 
@@ -22,9 +24,16 @@ impl From<Call> for Asked {
     }
 }
 
+impl From<Step> for Asked {
+    fn from(step: Step) -> Asked {
+        Asked::Step(step)
+    }
+}
+
 #[derive(Clone, Copy, Debug, PartialEq, Eq)]
 pub enum Outcome {
     Answer(Answer),
+    Stepped(Stepped),
     Partition(PartitionSlice),
 }
 
@@ -32,6 +41,7 @@ impl Outcome {
     pub fn refusal(&self) -> u32 {
         match self {
             Outcome::Answer(a) => a.refusal,
+            Outcome::Stepped(a) => a.refusal,
             Outcome::Partition(a) => a.refusal,
         }
     }
@@ -54,6 +64,7 @@ fn ask_compiled(library: &Library, memory: &mut Memory, asked: &Asked) -> Outcom
         let mut column = slices(lent);
         match asked {
             Asked::Call(call) => Outcome::Answer(library.call(&mut column, call)),
+            Asked::Step(step) => Outcome::Stepped(library.step(&column.view(), step)),
             Asked::Partition(g) => Outcome::Partition(library.partition(&column.view(), *g)),
         }
     })
@@ -64,6 +75,7 @@ fn ask_second(memory: &mut Memory, asked: &Asked) -> Outcome {
         let mut column = slices(lent);
         match asked {
             Asked::Call(call) => Outcome::Answer(call_second(&mut column, call)),
+            Asked::Step(step) => Outcome::Stepped(step_second(&column.view(), step)),
             Asked::Partition(g) => {
                 let span = second::partition_span(column.growers, column.directory, *g);
                 Outcome::Partition(span.into())

@@ -1,7 +1,7 @@
 //! Random columns, sets, layouts and calls.
 
 use crate::calls::Asked;
-use meltusk::{Call, Column, Empty, Library, Set, View};
+use meltusk::{Call, Column, Empty, Library, Set, Step, View};
 use second::random::Random;
 use second::{
     Delivery, UnlaidSet, DIRECTORY_LEN, FENCES, LENGTHS, SLOT_LIMIT, WEIGHT_LIMIT, YIELD_LIMIT,
@@ -323,16 +323,17 @@ fn mostly_held(r: &mut Random, c: &View, used: usize) -> Delivery {
     d
 }
 
-/// How often each call comes: find, range, insert, delete, move, partition.
-pub const MIXES: [[usize; 6]; 4] = [
-    [2, 2, 3, 3, 4, 1],
-    [1, 1, 8, 2, 3, 1],
-    [1, 1, 2, 8, 3, 1],
-    [1, 1, 2, 2, 9, 1],
+/// How often each call comes: find, range, insert, delete, move, partition,
+/// next grower, previous grower.
+pub const MIXES: [[usize; 8]; 4] = [
+    [2, 2, 3, 3, 4, 1, 1, 1],
+    [1, 1, 8, 2, 3, 1, 1, 1],
+    [1, 1, 2, 8, 3, 1, 1, 1],
+    [1, 1, 2, 2, 9, 1, 1, 1],
 ];
 
 /// What a column of proper shape is asked.
-pub fn asked(r: &mut Random, c: &View, mix: &[usize; 6]) -> Asked {
+pub fn asked(r: &mut Random, c: &View, mix: &[usize; 8]) -> Asked {
     let used = c.used();
     let mut at = r.below(mix.iter().sum());
     let mut which = 0;
@@ -360,7 +361,9 @@ pub fn asked(r: &mut Random, c: &View, mix: &[usize; 6]) -> Asked {
         }
         3 => Call::Delete(mostly_held(r, c, used)),
         4 => Call::Move(mostly_held(r, c, used), near(r, c, used)),
-        _ => return Asked::Partition(near(r, c, used)),
+        5 => return Asked::Partition(near(r, c, used)),
+        6 => return Step::Next(near(r, c, used)).into(),
+        _ => return Step::Previous(near(r, c, used)).into(),
     };
     call.into()
 }

@@ -3,7 +3,7 @@
 //! touched.
 
 use crate::{valgrind, Run, Test};
-use meltusk::{Applied, Call, ColumnSlices, Empty, Library, View};
+use meltusk::{Applied, Call, ColumnSlices, Empty, Library, Step, View};
 use second::{
     Delivery, Limits, PriceCard, UnlaidSet, DIRECTORY_LEN, FENCES, HISTOGRAM_LEN, LENGTHS,
 };
@@ -83,7 +83,8 @@ fn five() -> [Call; 5] {
     ]
 }
 
-/// Each call on a column of one record and one free slot, all in partition 0.
+/// Each call and step on a column of one record and one free slot, all in
+/// partition 0.
 fn calls(run: &mut Run, column: &mut ColumnSlices, expected: u32) -> Result<(), String> {
     for call in five() {
         let answer = LIBRARY.call(column, &call);
@@ -91,6 +92,13 @@ fn calls(run: &mut Run, column: &mut ColumnSlices, expected: u32) -> Result<(), 
         let zero = answer.counts.rr == 0 && answer.counts.rw == 0 && answer.totals.records == 0;
         if answer.refusal != expected || !zero {
             return Err(format!("{call:?}: {answer:?} for refusal {expected}"));
+        }
+    }
+    for step in Step::both(0) {
+        let a = LIBRARY.step(&column.view(), &step);
+        run.seen.calls += 1;
+        if (a.refusal, a.grower, a.records, a.counts.rr) != (expected, 0, 0, 0) {
+            return Err(format!("{step:?}: {a:?} for refusal {expected}"));
         }
     }
     Ok(())

@@ -18,6 +18,7 @@
 mod broken;
 mod calls;
 mod csv;
+mod growers;
 mod header;
 mod inputs;
 mod layouts;
@@ -88,6 +89,7 @@ fn tests() -> Vec<(&'static str, Test)> {
     tests.extend(broken::TESTS);
     tests.extend(long::TESTS);
     tests.extend(layouts::TESTS);
+    tests.extend(growers::TESTS);
     tests.push(("every answer of every call has occurred", every_answer));
     tests.extend(snapshots::TESTS);
     tests.extend(csv::TESTS);

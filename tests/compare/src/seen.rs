@@ -2,16 +2,18 @@
 //! scan.
 
 use crate::calls::Asked;
-use meltusk::{Call, Seen};
+use meltusk::{Call, Seen, Step};
 use second::{FENCES, LENGTHS};
 
 /// The refusals of each call, 0 for accepted.
-const ANSWERS: [(&str, &[u32]); 7] = [
+const ANSWERS: [(&str, &[u32]); 9] = [
     ("find", &[0, 2, 3, 6, 8]),
     ("range", &[0, 2, 3, 6, 7, 8]),
     ("insert", &[0, 2, 3, 6, 8, 12]),
     ("delete", &[0, 2, 3, 6, 8, 13]),
     ("move", &[0, 2, 3, 6, 8, 13]),
+    ("next_grower", &[0, 2, 3, 6, 8]),
+    ("previous_grower", &[0, 2, 3, 6, 8]),
     ("partition", &[0, 2, 3, 6]),
     ("apply_layout", &[0, 2, 3, 4, 5, 6, 8]),
 ];
@@ -44,6 +46,8 @@ pub fn name(asked: &Asked) -> &'static str {
         Asked::Call(Call::Insert(_)) => "insert",
         Asked::Call(Call::Delete(_)) => "delete",
         Asked::Call(Call::Move(..)) => "move",
+        Asked::Step(Step::Next(_)) => "next_grower",
+        Asked::Step(Step::Previous(_)) => "previous_grower",
         Asked::Partition(_) => "partition",
     }
 }

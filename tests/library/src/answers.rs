@@ -2,8 +2,8 @@
 //! same types.
 
 use second::{
-    CostAnswer, DirectoryAnswer, ImportAnswer, PlanAnswer, ReadAnswer, SpanAnswer, TextAnswer,
-    WriteAnswer,
+    CostAnswer, DirectoryAnswer, GrowerAnswer, ImportAnswer, PlanAnswer, ReadAnswer, SpanAnswer,
+    TextAnswer, WriteAnswer,
 };
 
 /// MELTUSK_DIRECTORY
@@ -31,6 +31,15 @@ pub struct Answer {
     pub refusal: u32,
     pub counts: Counts,
     pub totals: Totals,
+}
+
+#[repr(C)]
+#[derive(Clone, Copy, Debug, PartialEq, Eq)]
+pub struct Stepped {
+    pub refusal: u32,
+    pub grower: u32,
+    pub records: u64,
+    pub counts: Counts,
 }
 
 #[repr(C)]
@@ -115,6 +124,18 @@ impl From<WriteAnswer> for Answer {
             refusal: a.refusal,
             counts: a.counts.into(),
             totals: Totals::default(),
+        }
+    }
+}
+
+impl From<GrowerAnswer> for Stepped {
+    #[inline]
+    fn from(a: GrowerAnswer) -> Stepped {
+        Stepped {
+            refusal: a.refusal,
+            grower: a.grower,
+            records: a.records,
+            counts: a.counts.into(),
         }
     }
 }

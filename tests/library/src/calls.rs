@@ -1,7 +1,8 @@
-//! The five calls as values, made and recorded by either implementation.
+//! The five calls as values, made and recorded by either implementation, and
+//! the steps from grower to grower.
 
-use crate::answers::Answer;
-use crate::column::ColumnSlices;
+use crate::answers::{Answer, Stepped};
+use crate::column::{ColumnSlices, View};
 use crate::library::Library;
 use second::{Delivery, UnlaidSet};
 
@@ -25,6 +26,33 @@ impl Call {
     }
 }
 
+/// A step to the grower at or above, or at or below.
+#[derive(Clone, Copy, Debug)]
+pub enum Step {
+    Next(u32),
+    Previous(u32),
+}
+
+impl Step {
+    pub fn both(grower: u32) -> [Step; 2] {
+        [Step::Next(grower), Step::Previous(grower)]
+    }
+
+    pub fn grower(&self) -> u32 {
+        match *self {
+            Step::Next(grower) | Step::Previous(grower) => grower,
+        }
+    }
+
+    /// Whether the step may answer a grower.
+    pub fn reaches(&self, grower: u32) -> bool {
+        match *self {
+            Step::Next(from) => grower >= from,
+            Step::Previous(from) => grower <= from,
+        }
+    }
+}
+
 impl Library {
     #[inline]
     pub fn call(&self, column: &mut ColumnSlices, call: &Call) -> Answer {
@@ -34,6 +62,14 @@ impl Library {
             Call::Insert(d) => self.insert(column, d),
             Call::Delete(d) => self.delete(column, d),
             Call::Move(d, new_grower) => self.move_delivery(column, d, new_grower),
+        }
+    }
+
+    #[inline]
+    pub fn step(&self, column: &View, step: &Step) -> Stepped {
+        match *step {
+            Step::Next(grower) => self.next_grower(column, grower),
+            Step::Previous(grower) => self.previous_grower(column, grower),
         }
     }
 
@@ -62,6 +98,20 @@ pub fn call_second(column: &mut ColumnSlices, call: &Call) -> Answer {
         Call::Insert(d) => second::insert(g, w, y, at, d).into(),
         Call::Delete(d) => second::delete(g, w, y, at, d).into(),
         Call::Move(d, new_grower) => second::move_delivery(g, w, y, at, d, new_grower).into(),
+    }
+}
+
+#[inline]
+pub fn step_second(column: &View, step: &Step) -> Stepped {
+    let View {
+        directory: at,
+        growers: g,
+        weights: w,
+        yields: y,
+    } = *column;
+    match *step {
+        Step::Next(grower) => second::next_grower(g, w, y, at, grower).into(),
+        Step::Previous(grower) => second::previous_grower(g, w, y, at, grower).into(),
     }
 }
 

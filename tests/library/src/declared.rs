@@ -1,6 +1,8 @@
 //! The declarations of include/meltusk.h.
 
-use crate::answers::{Answer, Applied, Costed, Imported, PartitionSlice, Planned, Written};
+use crate::answers::{
+    Answer, Applied, Costed, Imported, PartitionSlice, Planned, Stepped, Written,
+};
 
 /// Declares C calls. A parameter `&name: T` is a slice that the call reads and
 /// `mut name: T` one that it writes, each a pointer and a count; every other
@@ -47,6 +49,12 @@ declare! {
         mut directory: u32, mut growers: u32, mut weights: u32, mut yields: u32,
         grower: u32, weight: u32, oil_yield: u32, new_grower: u32
     ) -> Answer;
+    meltusk_next_grower(
+        &directory: u32, &growers: u32, &weights: u32, &yields: u32, grower: u32
+    ) -> Stepped;
+    meltusk_previous_grower(
+        &directory: u32, &growers: u32, &weights: u32, &yields: u32, grower: u32
+    ) -> Stepped;
     meltusk_partition(&directory: u32, &growers: u32, grower: u32) -> PartitionSlice;
     meltusk_record_find(
         mut histograms: u32, block: u32, used: u32, &growers: u32, &weights: u32, &yields: u32,

@@ -11,9 +11,10 @@ mod seen;
 mod set;
 
 pub use answers::{
-    Answer, Applied, Costed, Counts, Imported, PartitionSlice, Planned, Totals, Written, DIRECTORY,
+    Answer, Applied, Costed, Counts, Imported, PartitionSlice, Planned, Stepped, Totals, Written,
+    DIRECTORY,
 };
-pub use calls::{call_second, record_second, Call};
+pub use calls::{call_second, record_second, step_second, Call, Step};
 pub use column::{Column, ColumnSlices, View};
 pub use library::{tally_add, Empty, Library, LIBRARIES};
 pub use seen::{Seen, EDGES};

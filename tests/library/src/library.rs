@@ -1,6 +1,8 @@
 //! Safe calls of the compiled library.
 
-use crate::answers::{Answer, Applied, Costed, Counts, Imported, PartitionSlice, Planned, Written};
+use crate::answers::{
+    Answer, Applied, Costed, Counts, Imported, PartitionSlice, Planned, Stepped, Written,
+};
 use crate::column::{ColumnSlices, View};
 use crate::declared;
 use second::{Delivery, Limits, PriceCard, UnlaidSet};
@@ -107,6 +109,20 @@ impl Library {
         call!(self => meltusk_move(
             mut c.directory, mut c.growers, mut c.weights, mut c.yields,
             d.grower, d.weight, d.oil_yield, new_grower
+        ))
+    }
+
+    #[inline]
+    pub fn next_grower(&self, c: &View, grower: u32) -> Stepped {
+        call!(self => meltusk_next_grower(
+            &c.directory, &c.growers, &c.weights, &c.yields, grower
+        ))
+    }
+
+    #[inline]
+    pub fn previous_grower(&self, c: &View, grower: u32) -> Stepped {
+        call!(self => meltusk_previous_grower(
+            &c.directory, &c.growers, &c.weights, &c.yields, grower
         ))
     }
 

@@ -73,13 +73,13 @@ pub(crate) fn partition_of(directory: &[u32], k: usize, g: u32) -> usize {
 }
 
 #[inline]
-fn length(directory: &[u32], p: usize) -> usize {
+pub(crate) fn length(directory: &[u32], p: usize) -> usize {
     directory[LENGTHS + p] as usize
 }
 
 /// First slot of partition `p`.
 #[inline]
-fn start(directory: &[u32], p: usize) -> usize {
+pub(crate) fn start(directory: &[u32], p: usize) -> usize {
     directory[LENGTHS..LENGTHS + p]
         .iter()
         .map(|&n| n as usize)
@@ -88,14 +88,14 @@ fn start(directory: &[u32], p: usize) -> usize {
 
 /// Blocks that a partition of `n` records counts as.
 #[inline]
-fn block_count(n: usize, b: usize) -> u64 {
+pub(crate) fn block_count(n: usize, b: usize) -> u64 {
     n.div_ceil(b).max(1) as u64
 }
 
 /// Of all blocks scanned the first is a random read, each other a sequential
 /// read.
 #[inline]
-fn scan_counts(blocks: u64) -> Counts {
+pub(crate) fn scan_counts(blocks: u64) -> Counts {
     Counts {
         rr: 1,
         sr: blocks - 1,
@@ -104,7 +104,7 @@ fn scan_counts(blocks: u64) -> Counts {
 }
 
 /// Records looked at together in a scan.
-const STRIDE: usize = 64;
+pub(crate) const STRIDE: usize = 64;
 
 /// Check 8 of all records of one partition, then the totals of its growers
 /// lo to hi. The loops have no branch per record, so each does several

@@ -1,4 +1,5 @@
-//! The ledger: a bag of at most C deliveries, with the same five calls.
+//! The ledger: a bag of at most C deliveries, with the same five calls and the
+//! two that step from grower to grower.
 
 use crate::check;
 use crate::types::*;
@@ -55,6 +56,23 @@ impl Ledger {
     /// A find is a range from g to g.
     pub fn find(&self, g: u32) -> (u32, Totals) {
         self.range(g, g)
+    }
+
+    /// The smallest grower at or above g with a record, and his record count;
+    /// 0 and 0 if there is none.
+    pub fn next_grower(&self, g: u32) -> (u32, u64) {
+        let growers = self.records.iter().map(|d| d.grower);
+        self.counted(growers.filter(|&held| held >= g).min())
+    }
+
+    /// The same downward.
+    pub fn previous_grower(&self, g: u32) -> (u32, u64) {
+        let growers = self.records.iter().map(|d| d.grower);
+        self.counted(growers.filter(|&held| held <= g).max())
+    }
+
+    fn counted(&self, grower: Option<u32>) -> (u32, u64) {
+        grower.map_or((0, 0), |g| (g, self.find(g).1.records))
     }
 
     /// Checks 8 and 12.

@@ -194,6 +194,27 @@ impl WriteAnswer {
     }
 }
 
+/// Answer of the next and the previous grower; grower and records are 0 if
+/// there is none.
+#[derive(Clone, Copy, Debug, PartialEq, Eq)]
+pub struct GrowerAnswer {
+    pub refusal: u32,
+    pub grower: u32,
+    pub records: u64,
+    pub counts: Counts,
+}
+
+impl GrowerAnswer {
+    pub(crate) const fn refused(refusal: u32) -> GrowerAnswer {
+        GrowerAnswer {
+            refusal,
+            grower: 0,
+            records: 0,
+            counts: Counts::ZERO,
+        }
+    }
+}
+
 /// Answer of applying a layout and of reading a snapshot.
 #[derive(Clone, Copy, Debug, PartialEq, Eq)]
 pub struct DirectoryAnswer {

@@ -9,6 +9,8 @@ mod checks;
 mod csv;
 #[path = "selfcheck/groups.rs"]
 mod groups;
+#[path = "selfcheck/growers.rs"]
+mod growers;
 #[path = "selfcheck/model.rs"]
 mod model;
 #[path = "selfcheck/mutants.rs"]
@@ -73,6 +75,27 @@ const GROUPS: &[(&str, Group, u64)] = &[
     ("column at edges of shape", groups::column_edges, 300),
     ("column of largest size", groups::column_largest, 1),
     ("partition slice", groups::partition_slices, 10_000),
+    (
+        "example: next and previous grower",
+        growers::grower_examples,
+        1,
+    ),
+    (
+        "next and previous grower against slot model",
+        growers::grower_slots,
+        40_000,
+    ),
+    (
+        "next and previous grower against ledger",
+        growers::grower_ledger,
+        20_000,
+    ),
+    (
+        "stepping through all growers",
+        growers::grower_stepping,
+        20_000,
+    ),
+    ("growers at edges of shape", growers::grower_edges, 1),
     (
         "snapshot there and back",
         groups::snapshot_round_trip,

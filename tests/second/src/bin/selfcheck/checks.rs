@@ -4,9 +4,12 @@
 use crate::groups::{guarded, Outcome};
 use crate::model::{snapshot_text, text_of};
 use crate::require;
-use crate::subject::{library_call, library_record, Call, Column, Set};
+use crate::subject::{
+    library_call, library_record, library_step, step_refused, Call, Column, Set, Step,
+};
 use second::recorder::{count_index, DE, IN, PQ, RE, RS, SC, UDB, UDF, UTB, UTF};
 use second::*;
+use std::ops::Range;
 
 /// A fault: position in the call's order of checks, number, name, change.
 struct Fault<I> {
@@ -529,6 +532,29 @@ fn removal_checks(call: fn(&Laid) -> Call) -> Outcome {
     alone_and_in_pairs(&base, &faults, &column_call(call))
 }
 
+/// A step that scans these slots; bad values elsewhere do not concern it.
+fn step_checks(step: Step, scanned: Range<usize>) -> Outcome {
+    let mut base = laid();
+    for at in (0..5).filter(|at| !scanned.contains(at)) {
+        base.c.weights[at] = u32::MAX;
+        base.c.yields[at] = u32::MAX;
+    }
+    let mut faults = directory_faults(false);
+    for at in scanned {
+        faults.push(fault(3, 8, "weight scanned", move |l: &mut Laid| {
+            put(&mut l.c.weights, at, 100_001)
+        }));
+        faults.push(fault(3, 8, "yield scanned", move |l: &mut Laid| {
+            put(&mut l.c.yields, at, 10_001)
+        }));
+    }
+    alone_and_in_pairs(&base, &faults, &|l| {
+        let a = library_step(&l.c, &step);
+        require_zero(a.refusal, a == step_refused(a.refusal))?;
+        Ok(a.refusal)
+    })
+}
+
 fn slice_checks() -> Outcome {
     let mut base = laid();
     // The other two slices do not concern this call.
@@ -603,6 +629,10 @@ fn directory_length_checks() -> Outcome {
                     let mut c = l.c.clone();
                     let a = library_call(&mut c, &call);
                     require!(a.refusal == expected && c == l.c, "{len} {call:?}: {a:?}");
+                }
+                for step in Step::both(30) {
+                    let a = library_step(&l.c, &step);
+                    require!(a.refusal == expected, "{len} {step:?}: {a:?}");
                 }
                 let a = partition_span(&l.c.growers, &l.c.directory, 30);
                 require!(a.refusal == expected, "{len} slice: {a:?}");
@@ -1086,6 +1116,14 @@ fn ledger_checks() -> Outcome {
     require!(l.range(2, 1) == (7, Totals::ZERO), "7");
     require!(l == before, "a refusal changed the ledger");
     require!(l.find(1) == (0, Totals::new(1, 2, 6)), "find");
+    for (g, next, previous) in [
+        (0, (1, 1), (0, 0)),
+        (1, (1, 1), (1, 1)),
+        (2, (0, 0), (1, 1)),
+    ] {
+        require!(l.next_grower(g) == next, "next of {g}");
+        require!(l.previous_grower(g) == previous, "previous of {g}");
+    }
     require!(
         l.move_delivery(d, 9) == 0 && l.records() == [Delivery::new(9, 2, 3)],
         "move"
@@ -1141,7 +1179,7 @@ fn recorder_checks() -> Vec<(&'static str, Box<dyn Fn() -> Outcome>)> {
 
 pub fn all() -> Vec<(String, Outcome)> {
     let mut list = recorder_checks();
-    let rest: [(&str, fn() -> Outcome); 19] = [
+    let rest: [(&str, fn() -> Outcome); 21] = [
         ("cost of a layout", cost_checks),
         ("planner", planner_checks),
         ("apply layout", apply_checks),
@@ -1150,6 +1188,9 @@ pub fn all() -> Vec<(String, Outcome)> {
         ("insert", insert_checks),
         ("delete", || removal_checks(|l| Call::Delete(l.d))),
         ("move", || removal_checks(|l| Call::Move(l.d, l.new_grower))),
+        // From the empty partition to the one above it, or below it.
+        ("next grower", || step_checks(Step::Next(31), 3..5)),
+        ("previous grower", || step_checks(Step::Previous(40), 0..3)),
         ("partition slice", slice_checks),
         ("snapshot write", write_checks),
         ("directory of another length", directory_length_checks),

@@ -52,7 +52,7 @@ fn main_histograms(s: &dyn Subject) -> Result<Vec<u32>, String> {
     Ok(h)
 }
 
-fn main_column(s: &dyn Subject) -> Column {
+pub fn main_column(s: &dyn Subject) -> Column {
     let set = main_set();
     let laid = s.apply(&set.view(), &[1, 3]);
     set.column(laid.directory.to_vec())

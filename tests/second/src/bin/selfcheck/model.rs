@@ -1,6 +1,6 @@
 //! Plain models of the rules, written apart from the library.
 
-use crate::subject::{Answer, Call, Column, Set};
+use crate::subject::{step_refused, Answer, Call, Column, Set, Step};
 use second::*;
 
 /// The column as a list of lists: the slots follow by joining them.
@@ -203,6 +203,37 @@ impl SlotModel {
         }
     }
 
+    /// The partitions that a step scans, in its order: from the grower's own to
+    /// the first that holds a grower it may answer.
+    pub fn scanned(&self, step: &Step) -> Vec<usize> {
+        let own = self.partition_of(step.grower());
+        let mut order: Vec<usize> = match step {
+            Step::Next(_) => (own..self.parts.len()).collect(),
+            Step::Previous(_) => (0..=own).rev().collect(),
+        };
+        let holds = |&p: &usize| self.parts[p].iter().any(|d| step.reaches(d.grower));
+        if let Some(last) = order.iter().position(holds) {
+            order.truncate(last + 1);
+        }
+        order
+    }
+
+    pub fn step(&self, step: &Step) -> GrowerAnswer {
+        let scanned = self.scanned(step);
+        let (one, other) = (scanned[0], scanned[scanned.len() - 1]);
+        let Some(counts) = self.scan(one.min(other), one.max(other)) else {
+            return step_refused(8);
+        };
+        let held = || self.parts[other].iter().map(|d| d.grower);
+        let grower = step.first_of(held());
+        GrowerAnswer {
+            refusal: 0,
+            grower: grower.unwrap_or(0),
+            records: held().filter(|&g| Some(g) == grower).count() as u64,
+            counts,
+        }
+    }
+
     pub fn call(&mut self, call: &Call) -> Answer {
         match *call {
             Call::Find(g) => self.read(g, g),
@@ -222,6 +253,14 @@ pub fn ledger_call(ledger: &mut Ledger, call: &Call) -> (u32, Totals) {
         Call::Insert(d) => (ledger.insert(d), Totals::ZERO),
         Call::Delete(d) => (ledger.delete(d), Totals::ZERO),
         Call::Move(d, g) => (ledger.move_delivery(d, g), Totals::ZERO),
+    }
+}
+
+/// A step on the ledger.
+pub fn ledger_step(ledger: &Ledger, step: &Step) -> (u32, u64) {
+    match *step {
+        Step::Next(g) => ledger.next_grower(g),
+        Step::Previous(g) => ledger.previous_grower(g),
     }
 }
 

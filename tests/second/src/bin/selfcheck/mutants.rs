@@ -3,6 +3,7 @@
 
 use crate::csv;
 use crate::groups::{self, Outcome};
+use crate::growers;
 use crate::subject::*;
 use second::planner::layout_of_bits;
 use second::recorder::*;
@@ -17,6 +18,7 @@ const CASES: u64 = 2_000;
 #[derive(Default)]
 struct Mutant {
     call: Option<fn(&mut Column, &Call) -> Answer>,
+    step: Option<fn(&Column, &Step) -> GrowerAnswer>,
     record: Option<fn(&UnlaidSet, &mut [u32], &Call) -> u32>,
     cost: Option<fn(&PriceCard, &UnlaidSet, &[u32], &[u32]) -> CostAnswer>,
     plan: Option<fn(&PriceCard, &Limits, &UnlaidSet, &[u32], &mut [u32]) -> PlanAnswer>,
@@ -35,6 +37,10 @@ impl Subject for Mutant {
             Some(f) => f(c, call),
             None => Library.call(c, call),
         }
+    }
+
+    fn step(&self, c: &Column, step: &Step) -> GrowerAnswer {
+        self.step.unwrap_or(library_step)(c, step)
     }
 
     fn record(&self, set: &UnlaidSet, h: &mut [u32], call: &Call) -> u32 {
@@ -646,6 +652,139 @@ fn hi_excluded(c: &mut Column, call: &Call) -> Answer {
     library_call(c, call)
 }
 
+/// The partitions that a step may scan, in its order.
+fn step_order(c: &Column, step: &Step) -> Vec<usize> {
+    let own = c.partition_of(step.grower());
+    match step {
+        Step::Next(_) => (own..c.k()).collect(),
+        Step::Previous(_) => (0..=own).rev().collect(),
+    }
+}
+
+fn slots_of(c: &Column, p: usize) -> std::ops::Range<usize> {
+    let start: usize = c.lengths()[..p].iter().sum();
+    start..start + c.lengths()[p]
+}
+
+/// Where in the order the first partition is that holds a grower which the step
+/// may answer.
+fn place_of_hit(c: &Column, step: &Step, order: &[usize]) -> Option<usize> {
+    let holds = |&p: &usize| slots_of(c, p).any(|at| step.reaches(c.growers[at]));
+    order.iter().position(holds)
+}
+
+/// The right answer, if all of these partitions are scanned, one at least.
+fn scan_all(c: &Column, step: &Step, scanned: &[usize]) -> GrowerAnswer {
+    let (b, lengths) = (c.directory[0] as usize, c.lengths());
+    let slots = || scanned.iter().flat_map(|&p| slots_of(c, p));
+    let grower = step.first_of(slots().map(|at| c.growers[at]));
+    let blocks: usize = scanned.iter().map(|&p| lengths[p].div_ceil(b).max(1)).sum();
+    if slots().any(|at| !c.slot(at).in_range()) {
+        return step_refused(8);
+    }
+    GrowerAnswer {
+        refusal: 0,
+        grower: grower.unwrap_or(0),
+        records: slots().filter(|&at| Some(c.growers[at]) == grower).count() as u64,
+        counts: Counts::new(1, blocks as u64 - 1, 0),
+    }
+}
+
+/// The grower himself is not answered.
+fn strictly(c: &Column, step: &Step) -> GrowerAnswer {
+    match *step {
+        Step::Next(g) if g < u32::MAX => library_step(c, &Step::Next(g + 1)),
+        Step::Previous(g) if g > 0 => library_step(c, &Step::Previous(g - 1)),
+        _ => library_step(c, step),
+    }
+}
+
+/// The last partition that may be scanned is not.
+fn one_partition_early(c: &Column, step: &Step) -> GrowerAnswer {
+    let mut order = step_order(c, step);
+    if order.len() == 1 {
+        return library_step(c, step);
+    }
+    order.pop();
+    let last = place_of_hit(c, step, &order).unwrap_or(order.len() - 1);
+    scan_all(c, step, &order[..=last])
+}
+
+/// The partition after the hit is scanned too.
+fn on_after_hit(c: &Column, step: &Step) -> GrowerAnswer {
+    let order = step_order(c, step);
+    let last = place_of_hit(c, step, &order).map_or(order.len() - 1, |at| at + 1);
+    scan_all(c, step, &order[..=last.min(order.len() - 1)])
+}
+
+/// Of the partition's growers that may be answered the one in the lowest slot.
+fn first_slot(c: &Column, step: &Step) -> GrowerAnswer {
+    let mut a = library_step(c, step);
+    let order = step_order(c, step);
+    if let (0, Some(at)) = (a.refusal, place_of_hit(c, step, &order)) {
+        let growers = &c.growers[slots_of(c, order[at])];
+        let first = growers.iter().find(|&&g| step.reaches(g));
+        a.grower = *first.expect("a hit");
+        a.records = growers.iter().filter(|&&g| g == a.grower).count() as u64;
+    }
+    a
+}
+
+/// The records of all growers that may be answered are counted.
+fn all_reached_counted(c: &Column, step: &Step) -> GrowerAnswer {
+    let mut a = library_step(c, step);
+    let order = step_order(c, step);
+    if let (0, Some(at)) = (a.refusal, place_of_hit(c, step, &order)) {
+        let slots = slots_of(c, order[at]);
+        a.records = slots.filter(|&s| step.reaches(c.growers[s])).count() as u64;
+    }
+    a
+}
+
+/// The counts are those of the last partition scanned alone.
+fn last_partition_counted(c: &Column, step: &Step) -> GrowerAnswer {
+    let mut a = library_step(c, step);
+    if a.refusal == 0 {
+        let order = step_order(c, step);
+        let last = place_of_hit(c, step, &order).unwrap_or(order.len() - 1);
+        a.counts = scan_all(c, step, &order[last..=last]).counts;
+    }
+    a
+}
+
+/// 8 is asked of all records that the step may scan.
+fn unscanned_judged(c: &Column, step: &Step) -> GrowerAnswer {
+    let a = library_step(c, step);
+    let all = scan_all(c, step, &step_order(c, step));
+    if all.refusal == 8 {
+        return all;
+    }
+    a
+}
+
+/// 8 is not asked of the partition that holds the hit.
+fn hit_not_judged(c: &Column, step: &Step) -> GrowerAnswer {
+    let order = step_order(c, step);
+    let Some(at) = place_of_hit(c, step, &order) else {
+        return library_step(c, step);
+    };
+    let mut good = c.clone();
+    for s in slots_of(c, order[at]) {
+        (good.weights[s], good.yields[s]) = (0, 0);
+    }
+    library_step(&good, step)
+}
+
+/// Downward begins at the partition after the grower's.
+fn down_from_after(c: &Column, step: &Step) -> GrowerAnswer {
+    let mut order = step_order(c, step);
+    if let (Step::Previous(_), true) = (step, order[0] + 1 < c.k()) {
+        order.insert(0, order[0] + 1);
+    }
+    let last = place_of_hit(c, step, &order).unwrap_or(order.len() - 1);
+    scan_all(c, step, &order[..=last])
+}
+
 /// A layout may part equal growers.
 fn parts_equal_growers(set: &UnlaidSet, ends: &[u32]) -> DirectoryAnswer {
     let mut a = apply_layout(set, ends);
@@ -896,6 +1035,13 @@ fn call(f: fn(&mut Column, &Call) -> Answer) -> Mutant {
     }
 }
 
+fn step(f: fn(&Column, &Step) -> GrowerAnswer) -> Mutant {
+    Mutant {
+        step: Some(f),
+        ..Mutant::default()
+    }
+}
+
 fn record(f: fn(&UnlaidSet, &mut [u32], &Call) -> u32) -> Mutant {
     Mutant {
         record: Some(f),
@@ -941,6 +1087,7 @@ fn export(f: fn(usize, &Column, &mut [u8]) -> TextAnswer) -> Mutant {
 pub fn all() -> Vec<(String, Outcome)> {
     use csv::{csv_damaged, csv_examples, csv_round_trip};
     use groups::*;
+    use growers::{grower_edges, grower_examples, grower_ledger, grower_slots, grower_stepping};
     let list: Vec<(&str, Mutant, &[Group])> = vec![
         (
             "t without its own partition",
@@ -1098,6 +1245,74 @@ pub fn all() -> Vec<(String, Outcome)> {
             "hi left out of a range",
             call(hi_excluded),
             &[column_ledger, laid_ledger, column_slots],
+        ),
+        (
+            "the grower himself not answered",
+            step(strictly),
+            &[
+                grower_examples,
+                grower_slots,
+                grower_ledger,
+                grower_stepping,
+            ],
+        ),
+        (
+            "stepping stops a partition early",
+            step(one_partition_early),
+            &[
+                grower_examples,
+                grower_slots,
+                grower_ledger,
+                grower_stepping,
+                grower_edges,
+            ],
+        ),
+        (
+            "scan goes on after a hit",
+            step(on_after_hit),
+            &[grower_examples, grower_slots, grower_edges],
+        ),
+        (
+            "grower of the lowest slot",
+            step(first_slot),
+            &[
+                grower_examples,
+                grower_slots,
+                grower_ledger,
+                grower_stepping,
+                grower_edges,
+            ],
+        ),
+        (
+            "records of all growers reached",
+            step(all_reached_counted),
+            &[
+                grower_examples,
+                grower_slots,
+                grower_ledger,
+                grower_stepping,
+                grower_edges,
+            ],
+        ),
+        (
+            "counts of the last partition scanned",
+            step(last_partition_counted),
+            &[grower_examples, grower_slots, grower_edges],
+        ),
+        (
+            "8 of a partition not scanned",
+            step(unscanned_judged),
+            &[grower_slots],
+        ),
+        (
+            "8 not asked of the hit's partition",
+            step(hit_not_judged),
+            &[grower_slots],
+        ),
+        (
+            "downward from the partition after",
+            step(down_from_after),
+            &[grower_examples, grower_slots],
         ),
         (
             "equal growers parted",

@@ -183,6 +183,49 @@ pub fn column(r: &mut Random) -> Column {
     c
 }
 
+/// A sound column whose partitions are mostly longer than what a scan looks at
+/// together.
+pub fn long_column(r: &mut Random) -> Column {
+    let k = r.within(1, 3);
+    let growers = r.pick(&[2, 30, 3_000]);
+    let mut c = Column {
+        growers: Vec::new(),
+        weights: Vec::new(),
+        yields: Vec::new(),
+        directory: vec![0; DIRECTORY_LEN],
+    };
+    c.directory[0] = r.pick(&[1, 7, 64]);
+    c.directory[1] = k as u32;
+    for p in 0..k {
+        let n = r.within(0, 300);
+        let lowest = p * growers;
+        c.directory[LENGTHS + p] = n as u32;
+        c.directory[FENCES + p] = (lowest + growers - 1) as u32;
+        for _ in 0..n {
+            let g = lowest + r.below(growers);
+            c.push(Delivery::new(g as u32, weight(r), oil_yield(r)));
+        }
+    }
+    c.push(Delivery::new(stale(r), stale(r), stale(r)));
+    c
+}
+
+/// A grower at a fence or at one held, just below or just above, or one of the
+/// ends.
+pub fn asked(r: &mut Random, c: &Column) -> u32 {
+    let used = c.used();
+    let g = match r.below(6) {
+        0 => return r.pick(&[0, u32::MAX]),
+        1..=3 if used > 0 => c.growers[r.below(used)],
+        _ => c.directory[FENCES + r.below(c.k())],
+    };
+    match r.below(3) {
+        0 => g.saturating_sub(1),
+        1 => g.saturating_add(1),
+        _ => g,
+    }
+}
+
 /// A column laid over a random set.
 pub fn laid_column(r: &mut Random) -> Column {
     let free = r.below(4);

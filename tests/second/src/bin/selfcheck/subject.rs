@@ -175,10 +175,69 @@ pub fn library_record(set: &UnlaidSet, histograms: &mut [u32], call: &Call) -> u
     }
 }
 
+/// A step of the payment screen.
+#[derive(Clone, Copy, Debug)]
+pub enum Step {
+    /// To the smallest grower at or above.
+    Next(u32),
+    /// To the largest grower at or below.
+    Previous(u32),
+}
+
+impl Step {
+    /// Both steps from a grower.
+    pub fn both(g: u32) -> [Step; 2] {
+        [Step::Next(g), Step::Previous(g)]
+    }
+
+    pub fn grower(&self) -> u32 {
+        match *self {
+            Step::Next(g) | Step::Previous(g) => g,
+        }
+    }
+
+    /// Whether the step may answer a grower.
+    pub fn reaches(&self, held: u32) -> bool {
+        match *self {
+            Step::Next(g) => held >= g,
+            Step::Previous(g) => held <= g,
+        }
+    }
+
+    /// The one of several growers that the step answers.
+    pub fn first_of(&self, held: impl Iterator<Item = u32>) -> Option<u32> {
+        let reached = held.filter(|&g| self.reaches(g));
+        match self {
+            Step::Next(_) => reached.min(),
+            Step::Previous(_) => reached.max(),
+        }
+    }
+}
+
+pub fn step_refused(refusal: u32) -> GrowerAnswer {
+    GrowerAnswer {
+        refusal,
+        grower: 0,
+        records: 0,
+        counts: Counts::ZERO,
+    }
+}
+
+pub fn library_step(c: &Column, step: &Step) -> GrowerAnswer {
+    match *step {
+        Step::Next(g) => next_grower(&c.growers, &c.weights, &c.yields, &c.directory, g),
+        Step::Previous(g) => previous_grower(&c.growers, &c.weights, &c.yields, &c.directory, g),
+    }
+}
+
 /// The calls that a wrong variant may replace.
 pub trait Subject {
     fn call(&self, c: &mut Column, call: &Call) -> Answer {
         library_call(c, call)
+    }
+
+    fn step(&self, c: &Column, step: &Step) -> GrowerAnswer {
+        library_step(c, step)
     }
 
     fn record(&self, set: &UnlaidSet, histograms: &mut [u32], call: &Call) -> u32 {

@@ -1,0 +1,185 @@
+-- `growers::search`: where the loop stands at the j-th partition of the path, the rest of the path, after the blocks so far, answers what the whole path
+-- answers (`Searching`). Each partition lies in the slices, since the lengths sum to no more (`stops`). Assumes nothing.
+use Prim.Native.Nat.{_+_, _-_, _≤_, _<_}
+use mathlib.Core.Path.{_≡_, _∙_}
+use native.Mathlib.Omega.{arith}
+use borrow.Author.Needs.{needs}
+use borrow.Author.Tests.{not-true, not-false}
+use lib.ListN.{length, getD, length-take, length-drop}
+use Rattle.model.specs.Bounds.{mostSlots}
+use Rattle.model.specs.Lists.{sumOf}
+use Rattle.model.specs.Deliveries.{rows}
+use Rattle.model.specs.Partitions.{startOf}
+use Rattle.model.proofs.Parts.{stop-le}
+use Rattle.model.proofs.Deliveries.{length-rows}
+use Rattle.scan.proofs.Blocks.{blocks-least, blocks-most}
+use Rattle.growers.proofs.Searching.{stepsOf, steps-most, steps-some, steps-back, Met, met, Searching, searching-start, searching-end, searching-bad, searching-hit, searching-next}
+use Rattle.growers.proofs.search.Statement.{statement}
+use Rattle.growers.proofs.search.Tie as tie
+
+abbrev Inv-loop : tie.InvT-loop
+Inv-loop g w y lens from start block grower up steps edge₀ j₀ blocks₀ edge j blocks = Searching block up grower lens g w y from edge j blocks
+
+abbrev μ-loop : tie.MeasureT-loop
+μ-loop g w y lens from start block grower up steps edge₀ j₀ blocks₀ edge j blocks = steps - j
+
+abbrev start : tie.At-loop Inv-loop μ-loop → tie.Start Inv-loop μ-loop
+start c = c .before .before .before .before .before .before .before .before
+
+room : (c : tie.At-loop Inv-loop μ-loop) → let a = start c .args in sumOf (a .lens .now) ≤ length (rows (a .g .now) (a .w .now) (a .y .now))
+room c =
+    let a = start c .args in
+    let p = start c .pre in
+    omega (arith, length-rows (a .g .now) (a .w .now) (a .y .now) (p .1 .1 .weights) (p .1 .1 .yields), p .0 .2)
+
+-- one more step to go
+on-path : (c : tie.In-loop Inv-loop μ-loop) → let a = start (c .before) .args in c .before .loop .j < stepsOf (a .up) (a .lens .now) (a .from)
+on-path c = omega (arith, c .before .before .before .before .either .ensures, c .loop-test .taken)
+
+-- the partition there
+step : (c : tie.After-partition-after Inv-loop μ-loop) → let p = c .before .before in let a = start p .args in
+    Met (a .up) (a .lens .now) (a .from) (p .loop .edge) (p .loop .j) (c .partition-after .result)
+step c = let p = c .before .before in met _ _ _ _ _ _ (start p .pre .0 .0) (on-path (c .before)) (p .loop .inv .here) (c .partition-after .ensures)
+
+begun : (c : tie.After-begins Inv-loop μ-loop) → let i = c .before .before in c .begins .result ≡ startOf (start (i .before .before) .args .lens .now) (i .partition-after .result)
+begun c = c .begins .ensures ∙ step (c .before .before) .start
+
+stops : (c : tie.After-begins Inv-loop μ-loop) → let i = c .before .before in let a = start (i .before .before) .args in
+    c .begins .result + getD (a .lens .now) (i .partition-after .result) 0 ≤ length (a .g .now)
+stops c =
+    let i = c .before .before in
+    let s = start (i .before .before) in
+    omega (arith, begun c, stop-le (s .args .lens .now) (i .partition-after .result) (step i .there), s .pre .0 .2)
+
+small : (c : tie.After-begins Inv-loop μ-loop) → let i = c .before .before in getD (start (i .before .before) .args .lens .now) (i .partition-after .result) 0 ≤ mostSlots
+small c = omega (arith, stops c, start (c .before .before .before .before) .pre .1 .0)
+
+add-either-2 : tie.Need-add-either-2 Inv-loop μ-loop
+add-either-2 c =
+    let s = c .before .before .before .before .before .before in
+    omega (arith, s .pre .0 .4, stop-le (s .args .lens .now) (s .args .from) (s .pre .0 .0), s .pre .0 .2)
+
+loop-holds : tie.Need-loop-holds Inv-loop μ-loop
+loop-holds c =
+    let s = c .before .before .before .before .before .before .before in
+    searching-start _ _ _ _ _ _ _ _ _ _ (s .pre .0 .0) (s .pre .0 .4) (c .either2 .ensures)
+
+partition-after-requires : tie.Need-partition-after-requires Inv-loop μ-loop
+partition-after-requires c κs =
+    let s = start (c .before) in
+    let a = s .args in
+    let h = on-path c in
+    (omega arith, omega (arith, steps-most (a .up) (a .lens .now) (a .from) (s .pre .0 .0)), steps-back (a .up) (a .lens .now) (a .from) _ h)
+
+near-all-requires : tie.Need-near-all-requires Inv-loop μ-loop
+near-all-requires c κs =
+    let p = start (c .before .before .before .before .before .before .before) .pre .1 in (
+      simp (length-take, length-drop) (omega arith),
+      record { weights = simp (length-take, length-drop) (omega arith); yields = simp (length-take, length-drop) (omega arith) },
+    )
+
+returns : tie.Need-returns Inv-loop μ-loop
+returns c =
+    let r = c .before .before .before in
+    let b = r .before .before .before .before in
+    let p = b .before .before .before .before in
+    c .refused .ensures ∙ searching-bad (p .loop .inv) (step (b .before .before)) (begun b) (room p) (r .near-all .ensures) (not-true _ (c .before .if1 .taken))
+
+blocks-of-requires : tie.Need-blocks-of-requires Inv-loop μ-loop
+blocks-of-requires c κs =
+    let b = c .before .before .before .before .before .before in
+    (start (b .before .before .before .before) .pre .0 .3, omega (arith, small b))
+
+add-blocks : tie.Need-add-blocks Inv-loop μ-loop
+add-blocks c =
+    let b = c .before .before .before .before .before .before .before in
+    let i = b .before .before in
+    let p = i .before .before in
+    let a = start p .args in
+    let h = start p .pre in
+    let most = blocks-most (a .block) (getD (a .lens .now) (i .partition-after .result) 0) (h .0 .3) in
+    omega (arith, p .loop .inv .few, on-path (i .before), steps-most (a .up) (a .lens .now) (a .from) (h .0 .0), h .0 .1, small b, c .blocks-of .ensures)
+
+found-requires : tie.Need-found-requires Inv-loop μ-loop
+found-requires c κs =
+    let b = c .before .before in
+    let i = b .before .before .before .before .before .before .before .before .before in
+    let a = start (i .before .before) .args in
+    omega (arith, b .blocks-of .ensures, blocks-least (a .block) (getD (a .lens .now) (i .partition-after .result) 0))
+
+returns-2 : tie.Need-returns-2 Inv-loop μ-loop
+returns-2 c =
+    let k = c .before .before .before in
+    let r = k .before .before .before in
+    let b = r .before .before .before .before in
+    let p = b .before .before .before .before in
+    c .found .ensures
+    ∙ searching-hit (p .loop .inv) (step (b .before .before)) (begun b) (room p) (r .near-all .ensures) (k .blocks-of .ensures) (not-false _ (k .before .if1 .left))
+    (omega (arith, c .before .if2 .taken))
+
+loop-again : tie.Need-loop-again Inv-loop μ-loop
+loop-again c =
+    let k = c .before .before .before in
+    let r = k .before .before .before in
+    let b = r .before .before .before .before in
+    let p = b .before .before .before .before in
+    searching-next (p .loop .inv) (step (b .before .before)) (begun b) (room p) (r .near-all .ensures) (k .blocks-of .ensures) (not-false _ (k .before .if1 .left))
+    (omega (arith, c .before .if2 .left)) (c .either3 .ensures) (start p .pre .0 .3) (small b)
+
+found-requires-2 : tie.Need-found-requires-2 Inv-loop μ-loop
+found-requires-2 c κs =
+    let p = c .before in
+    let a = start p .args in
+    omega (arith, p .loop .inv .some, c .loop-test .left, p .before .before .before .either .ensures, steps-some (a .up) (a .lens .now) (a .from) (start p .pre .0 .0))
+
+returns-3 : tie.Need-returns-3 Inv-loop μ-loop
+returns-3 c =
+    let p = c .before .before in
+    c .found2 .ensures ∙ searching-end (p .loop .inv) (omega (arith, c .before .loop-test .left, p .before .before .before .either .ensures))
+
+pub search-spec : {M : Type 1} → statement M
+search-spec =
+    tie.close
+    (tie.spec
+    Inv-loop
+    μ-loop
+    (λ c. omega arith)
+    (λ c. omega arith)
+    (λ c κs. search needs)
+    (λ c. search needs)
+    (λ c. omega arith)
+    (λ c. omega (arith, c .shared-slice-known5 .given (c .before .before .before .before .before .before .args .from)))
+    add-either-2
+    (λ c κs. search needs)
+    loop-holds
+    partition-after-requires
+    (λ c. omega (arith, step c .there))
+    (λ c. omega (arith, step (c .before) .there))
+    (λ c. omega (arith, c .shared-slice-known6 .given (c .before .partition-after .result)))
+    (λ c κs. step (c .before) .fits)
+    (λ c. omega (arith, stops c))
+    (λ c. omega (arith, stops c))
+    (λ c. omega (arith, stops c))
+    (λ c. omega (arith, stops c))
+    (λ c. omega (arith, stops c))
+    (λ c. omega (arith, stops (c .before)))
+    (λ c. omega (arith, stops (c .before)))
+    (λ c. omega (arith, stops (c .before)))
+    (λ c. omega (arith, stops (c .before)))
+    (λ c. omega (arith, stops (c .before .before)))
+    (λ c. omega (arith, stops (c .before .before)))
+    (λ c. omega (arith, stops (c .before .before)))
+    (λ c. omega (arith, stops (c .before .before)))
+    near-all-requires
+    (λ c κs. search needs)
+    returns
+    blocks-of-requires
+    add-blocks
+    found-requires
+    returns-2
+    (λ c κs. search needs)
+    (λ c. omega arith)
+    (λ c. omega arith)
+    loop-again
+    found-requires-2
+    returns-3)

@@ -1,0 +1,2 @@
+-- What the search for a grower answers: in one partition, and from partition to partition.
+pub mod Searches
