@@ -1,5 +1,5 @@
 // The next grower with deliveries (02: Slip 3): partitions one after the other, upward or downward. Each search is handed only its
-// partition's part of each slice. A flag names the direction: up, or down.
+// partition's part of each slice. A flag names the direction; of two numbers the smaller comes first on the way up, the larger on the way down.
 ghost use mathlib.Core.Path.{_≡_};
 ghost use mathlib.Core.Bool.{true, false, cond};
 ghost use Prim.Native.Nat.{_+_, _-_, _≤_, _<_};
@@ -15,10 +15,8 @@ ghost use Rattle.model.specs.GrowerCalls.{growerAnswer};
 ghost use Rattle.growers.specs.Searches.{directionOf, lastNumber, nearestOr, noneFromTo, lastWanted, badNearest, Fits, nearMore, nearAll, searched};
 use model::Counts;
 use model::GrowerAnswer;
+use model::MOST_NUMBER;
 use model::STRIDE;
-
-// The greatest grower number (01: 32 bits).
-const MOST_NUMBER: u32 = 4294967295;
 
 // A grower, or the greatest number where he is below g.
 fn up_or_last(x: u32, g: u32) -> u32
@@ -125,10 +123,10 @@ fn none_from_to(s: &[u32], g: u32, last: u32, up: bool) -> bool
 }
 
 // Are all values in range, and then the first grower at or past another and how many records he has; 0 and 0 where there is none.
-pub struct Nearest {
-    pub good: bool,
-    pub grower: u32,
-    pub records: u64,
+struct Nearest {
+    good: bool,
+    grower: u32,
+    records: u64,
 }
 
 fn bad_nearest() -> Nearest
@@ -233,7 +231,7 @@ fn near_down(g: &[u32], w: &[u32], y: &[u32], grower: u32) -> Nearest
     near_more(s, &g[0..e], &w[0..e], &y[0..e], grower, false)
 }
 
-// The records of three slices.
+// The records of a partition, of which it is handed its part of each slice.
 fn near_all(g: &[u32], w: &[u32], y: &[u32], grower: u32, up: bool) -> Nearest
     requires { ⌜ (length (now g) ≤ mostSlots) × Even (now g) (now w) (now y) ⌝ }
     ensures { λ r. ⌜ r ≡ nearAll (directionOf up) grower (rows (now (g .entry)) (now (w .entry)) (now (y .entry))) ⌝ }
@@ -271,7 +269,7 @@ fn found(grower: u32, records: u64, blocks: u64) -> GrowerAnswer
     }
 }
 
-// Of one number upward and another downward the one.
+// The one number upward, the other downward.
 fn either(upward: usize, downward: usize, up: bool) -> usize
     ensures { λ r. ⌜ r ≡ cond up upward downward ⌝ }
 {

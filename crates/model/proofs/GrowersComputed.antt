@@ -23,11 +23,18 @@ growers-scanned = record { heavy-scanned = refl; heavy-not-reached = refl; heavy
 pub grower-pieces : GrowerPieces
 unfolding computed
 grower-pieces = record {
+  smallest = refl;
+  largest = refl;
   nothing = refl;
   grower-0 = refl;
   path-up = refl;
   path-down = refl;
   stops-at-once = refl;
+  never-stops = refl;
+  holds-himself = refl;
+  holds-nothing = refl;
+  counts-empty = refl;
+  counts-last = refl;
   ledger-up = refl;
   ledger-down = refl;
   ledger-empty = refl;

@@ -1,16 +1,17 @@
 -- The next grower's edges (02: Slip 3), as statements over the definitions: the ends of the 32 bits, past every fence, an empty column, empty partitions between.
 use Prim.Native.Nat.{ℕ}
 use mathlib.Core.Path.{_≡_}
-use mathlib.Core.Bool.{true}
+use mathlib.Core.Bool.{true, false}
 use mathlib.Core.List.{List, [], _∷_, map}
 use Rattle.model.specs.declared.Counts.{Counts}
 use Rattle.model.specs.declared.GrowerAnswer.{GrowerAnswer}
 use Rattle.model.specs.Bounds.{blockLimit}
-use Rattle.model.specs.Directory.{directoryNumbers}
+use Rattle.model.specs.Deliveries.{delivery}
+use Rattle.model.specs.Directory.{directoryOf, directoryNumbers}
 use Rattle.model.specs.Column.{Column, allRecords}
 use Rattle.model.specs.Accesses.{counts, noCounts}
 use Rattle.model.specs.Questions.{growerChecks}
-use Rattle.model.specs.Growers.{Direction, up, down, nearestOf, path, upToFirst, scannedFor}
+use Rattle.model.specs.Growers.{Direction, up, down, nearest, nearestOf, holdsOne, path, upToFirst, countsScanned, scannedFor}
 use Rattle.model.specs.GrowerCalls.{growerAnswer, growerCall, ledgerGrower}
 use Rattle.model.specs.Examples.{number}
 
@@ -83,11 +84,18 @@ pub record GrowersScanned : Type 0 where
 
 -- the pieces at their edges
 pub record GrowerPieces : Type 0 where
+  pub smallest : nearest up (7 ∷ 5 ∷ 9 ∷ 5 ∷ []) ≡ 5
+  pub largest : nearest down (7 ∷ 5 ∷ 9 ∷ 5 ∷ []) ≡ 9
   pub nothing : nearestOf up 5 [] ≡ record { grower = 0; records = 0 }
   pub grower-0 : nearestOf down 5 (0 ∷ 6 ∷ 0 ∷ []) ≡ record { grower = 0; records = 2 }
   pub path-up : path up 4 3 ≡ 3 ∷ []
   pub path-down : path down 4 0 ≡ 0 ∷ []
   pub stops-at-once : upToFirst (λ (i : ℕ). true) (1 ∷ 2 ∷ []) ≡ 1 ∷ []
+  pub never-stops : upToFirst (λ (i : ℕ). false) (1 ∷ 2 ∷ []) ≡ 1 ∷ 2 ∷ []
+  pub holds-himself : holdsOne down 5 (delivery 5 0 0 ∷ []) ≡ true
+  pub holds-nothing : holdsOne down 5 [] ≡ false
+  pub counts-empty : countsScanned (directoryOf blockLimit (gaps .directory)) (1 ∷ 2 ∷ []) ≡ counts 1 1 0
+  pub counts-last : countsScanned (directoryOf blockLimit (gaps .directory)) (3 ∷ []) ≡ counts 1 1 0
   pub ledger-up : ledgerGrower (allRecords blockLimit gaps) up 10 ≡ record { grower = 35; records = 2 }
   pub ledger-down : ledgerGrower (allRecords blockLimit gaps) down 34 ≡ record { grower = 9; records = 2 }
   pub ledger-empty : ledgerGrower [] up 0 ≡ record { grower = 0; records = 0 }

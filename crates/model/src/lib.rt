@@ -26,6 +26,8 @@ pub const MOST_PRICE: u32 = 1000;
 pub const MOST_LIMIT: u32 = 1000000;
 
 pub const MOST_TALLY: u64 = 1000000000000;
+// The greatest grower number (01: 32 bits).
+pub const MOST_NUMBER: u32 = 4294967295;
 // How many records a loop over slices takes at a time.
 pub const STRIDE: usize = 64;
 
