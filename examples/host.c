@@ -1,7 +1,8 @@
 /*
  * A C host: first the marked examples, each call on a fresh column of growers
  * 10 to 80; then a week at a mill, from the recorded calls to the next plan, with
- * a payment screen that steps from grower to grower; then a weighbridge file.
+ * a payment screen that steps from grower to grower and a settlement sheet; then
+ * a weighbridge file.
  * Prints each step, and exits nonzero if an answer is not the expected one.
  *
  *   cc -std=c11 -Wall -Wextra -Werror -Iinclude examples/host.c \
@@ -563,21 +564,69 @@ static void save_and_read(const column *c)
     judge_refusal(r.refusal, 14);
 }
 
-/* Puts the deliveries in order: a plan is made of a set whose growers never fall. */
-static void put_in_order(column *c, uint32_t used)
+/* The sheet as a plain list of deliveries has it; answers its bytes. */
+static size_t plain_sheet(const column *c, char *text, size_t size)
 {
-    for (uint32_t i = 1; i < used; i++) {
-        uint32_t grower = c->growers[i], weight = c->weights[i], oil_yield = c->yields[i];
-        uint32_t j = i;
+    meltusk_totals t = totals_of(c, 0, UINT32_MAX);
+    uint32_t used = used_slots(c);
+    int64_t last = -1;
+    size_t at = 0;
 
-        for (; j > 0 && c->growers[j - 1] > grower; j--) {
-            c->growers[j] = c->growers[j - 1];
-            c->weights[j] = c->weights[j - 1];
-            c->yields[j] = c->yields[j - 1];
+    for (;;) {
+        int64_t next = INT64_MAX;
+        meltusk_totals of_next;
+
+        for (uint32_t i = 0; i < used; i++) {
+            if (c->growers[i] > last && c->growers[i] < next)
+                next = c->growers[i];
         }
-        c->growers[j] = grower;
-        c->weights[j] = weight;
-        c->yields[j] = oil_yield;
+        if (next == INT64_MAX)
+            break;
+        of_next = totals_of(c, (uint32_t)next, (uint32_t)next);
+        at += (size_t)snprintf(text + at, size - at,
+                               "%20" PRId64 "%20" PRIu64 "%20" PRIu64 "%20" PRIu64 "\n", next,
+                               of_next.records, of_next.weight, of_next.oil);
+        last = next;
+    }
+    at += (size_t)snprintf(text + at, size - at, "%20" PRIu64 "%20" PRIu64 "%20" PRIu64 "\n",
+                           t.records, t.weight, t.oil);
+    return at;
+}
+
+/* Writes the settlement sheet, and the used slots in the order of their growers
+ * to `order`. A text that is a byte too short is refused. */
+static void settle(const column *c, uint32_t order[SLOTS])
+{
+    static uint8_t text[MELTUSK_SHEET_BYTES(SLOTS)];
+    static uint32_t work[SLOTS];
+    char plain[sizeof text + 1];
+    size_t size = plain_sheet(c, plain, sizeof plain);
+    meltusk_written w =
+        meltusk_write_sheet(COLUMN(c), text, sizeof text, order, SLOTS, work, SLOTS);
+
+    printf("The settlement sheet, %" PRIu64 " bytes", w.bytes);
+    judge(w.refusal == 0 && w.bytes == size && memcmp(text, plain, size) == 0);
+    fwrite(text, 1, w.bytes, stdout);
+    printf("By grower, the slots");
+    for (uint32_t i = 0; i < used_slots(c); i++)
+        printf(" %" PRIu32, order[i]);
+    puts("");
+
+    w = meltusk_write_sheet(COLUMN(c), text, size - 1, order, SLOTS, work, SLOTS);
+    printf("The sheet in a byte less");
+    judge_refusal(w.refusal, 15);
+}
+
+/* Puts the deliveries in the order of a sheet: a plan is made of a set whose
+ * growers never fall. */
+static void put_in_order(column *c, uint32_t used, const uint32_t *order)
+{
+    column before = *c;
+
+    for (uint32_t i = 0; i < used; i++) {
+        c->growers[i] = before.growers[order[i]];
+        c->weights[i] = before.weights[order[i]];
+        c->yields[i] = before.yields[order[i]];
     }
 }
 
@@ -632,6 +681,7 @@ int main(void)
     static column mill;
     static uint32_t histograms[MELTUSK_HISTOGRAMS];
     static uint32_t ends[MELTUSK_PARTITIONS];
+    static uint32_t order[SLOTS];
     meltusk_tally tally = {0, 0, 0};
     uint32_t used = fill(&mill);
     size_t ends_count;
@@ -646,11 +696,12 @@ int main(void)
     make_week(&mill, &tally);
     look_up(&mill, 104, 3, 0);
     step_through(&mill, &tally);
+    settle(&mill, order);
     save_and_read(&mill);
 
     puts("\nThe next week, taken to be like this one");
     used = used_slots(&mill);
-    put_in_order(&mill, used);
+    put_in_order(&mill, used, order);
     record_week(histograms, used, &mill, this_week, COUNT_OF(this_week));
     ends_count = plan(histograms, used, &mill, ends);
     lay(&mill, used, ends, ends_count);

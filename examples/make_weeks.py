@@ -21,7 +21,7 @@ payment-week.txt  The season is over: finds by member, ranges by village, a few
 
 Beside each input NAME.txt, NAME.out is the output that is expected. That of
 the main case is the paper's; the other two are the second implementation's,
-and tests/layplan holds the program to all three:
+and tests/programs holds the program to all three:
 
     second-layplan <examples/harvest-week.txt >examples/harvest-week.out
 

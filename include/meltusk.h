@@ -6,9 +6,9 @@
  *
  * Every call takes numbers and slices. A slice is a pointer and a count of
  * elements; a null pointer with count 0 is allowed. Nothing is allocated and
- * nothing is kept between calls; the planner takes some 40 kB of stack, every
- * other call a few. A call reads and writes only inside the slices that it is
- * lent, and ends on every input.
+ * nothing is kept between calls; the planner takes some 40 kB of stack, the
+ * settlement sheet some 220 kB, every other call a few. A call reads and writes
+ * only inside the slices that it is lent, and ends on every input.
  *
  * What no call can check: a slice's memory must be valid, aligned for its
  * elements, initialised and of the stated count for the whole call, and A
@@ -18,11 +18,11 @@
  *
  * A host's round: record a week's calls against an unpartitioned set; plan a
  * layout; apply it; then find, range, insert, delete and move on the column,
- * step from grower to grower, and write and read snapshots of it. To plan
- * again, put the used slots of the three slices in the order of their growers:
- * they are an unpartitioned set then, with a longer block length if they have
- * become more than 64 blocks. Deliveries also come from and go to weighbridge
- * files. examples/host.c does all this.
+ * step from grower to grower, write its settlement sheet, and write and read
+ * snapshots of it. To plan again, put the used slots of the three slices in the
+ * order of their growers (the sheet has it): they are an unpartitioned set then,
+ * with a longer block length if they have become more than 64 blocks. Deliveries
+ * also come from and go to weighbridge files. examples/host.c does all this.
  *
  * REFUSALS
  *
@@ -38,7 +38,7 @@
  *       64 block lengths; the slots to be exported are 0 to C
  *    5  its growers never fall
  *    6  a layout or directory has its shape; and, of a column to be written as
- *       a snapshot, every record is in its grower's partition
+ *       a snapshot or a sheet, every record is in its grower's partition
  *    7  lo is at most hi
  *    8  weights are at most 100,000 and yields at most 10,000
  *    9  the histogram slice has 640 counts, none above 1,000,000
@@ -49,7 +49,7 @@
  *       many slots as it has deliveries
  *   13  the delivery is in its partition
  *   14  the text is a snapshot
- *   15  the output slice is long enough
+ *   15  each output slice is long enough
  *   16  the header line has each needed name, and no broken quote
  *   17  it has no needed name twice
  *   18  each row has as many fields as the header line, no broken quote, and its
@@ -115,6 +115,14 @@
  * MELTUSK_SNAPSHOT_BYTES(M, K) bytes and no other text of the same column: what
  * is read and written again is the same to the byte.
  *
+ * The settlement sheet: a line a grower who has a record, growers rising, with
+ * the grower, his records, their kg and their oil; then a line with the records,
+ * kg and oil of all, which are the sums of the lines above it. Oil is the sum of
+ * weight times yield, of which 10,000 are 1 kg. Every number is decimal,
+ * right-justified in 20 columns with blanks, zero as 0; LF ends a line, and no
+ * byte 0 the text. Of n growers that is MELTUSK_SHEET_BYTES(n) bytes; of a
+ * column without records one line of zeros.
+ *
  * The weighbridge file: deliveries as comma-separated text by RFC 4180, a
  * header line and a row a delivery, without a byte 0 at its end. CRLF or LF
  * ends a line; the last end may be missing. A field may stand in quotes;
@@ -149,6 +157,8 @@ extern "C" {
 #define MELTUSK_FENCES (MELTUSK_LENGTHS + MELTUSK_PARTITIONS)
 /* The bytes of a snapshot of m deliveries in k partitions. */
 #define MELTUSK_SNAPSHOT_BYTES(m, k) (34 + 23 * (size_t)(k) + 34 * (size_t)(m))
+/* The bytes of a sheet of n growers; with n the deliveries they are always enough. */
+#define MELTUSK_SHEET_BYTES(n) (61 + 81 * (size_t)(n))
 /* Bytes that are enough for a weighbridge file of m deliveries. */
 #define MELTUSK_CSV_BYTES(m) (21 + 25 * (size_t)(m))
 
@@ -217,7 +227,7 @@ typedef struct {
     int64_t cost;
 } meltusk_planned;
 
-/* What writing a snapshot and an export answer: how many bytes they wrote. */
+/* What writing a snapshot or a sheet and an export answer: how many bytes they wrote. */
 typedef struct {
     uint32_t refusal;
     uint64_t bytes;
@@ -447,6 +457,24 @@ meltusk_written meltusk_write_snapshot(const uint32_t *directory, size_t directo
                                        const uint32_t *weights, size_t weights_count,
                                        const uint32_t *yields, size_t yields_count,
                                        uint8_t *text, size_t text_count);
+
+/*
+ * Writes the settlement sheet of a column. Checks 2 3 6 8 15 (8: all records;
+ * 15: `text` has as many bytes as the sheet, `order` and `work` a number for each
+ * of the M used slots). Writes MELTUSK_SHEET_BYTES of the growers who have a
+ * record to `text`; the used slots, in rising order of grower and those of one
+ * grower in rising order, to the first M numbers of `order`; and 0 to the first M
+ * of `work`, which the call needs to sort. What lies past them stays. With room
+ * for MELTUSK_SHEET_BYTES(M) it is faster: with less, the growers are counted
+ * first, so that a text that is too short is refused before anything is written.
+ */
+meltusk_written meltusk_write_sheet(const uint32_t *directory, size_t directory_count,
+                                    const uint32_t *growers, size_t growers_count,
+                                    const uint32_t *weights, size_t weights_count,
+                                    const uint32_t *yields, size_t yields_count,
+                                    uint8_t *text, size_t text_count,
+                                    uint32_t *order, size_t order_count,
+                                    uint32_t *work, size_t work_count);
 
 /*
  * Reads a snapshot. Checks 3 12 14; 12 goes ahead of 14 only where line 1 is

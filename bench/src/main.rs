@@ -9,6 +9,7 @@ mod growers;
 mod plans;
 mod race;
 mod sets;
+mod sheets;
 mod snapshots;
 mod sqlite;
 mod sse2;
@@ -21,7 +22,7 @@ use second::BLOCK_LENGTH_LIMIT;
 
 fn heading(call: &str, size: &str, other: &str) {
     println!(
-        "{call:<14}{size:>4}{:>14}{:>14}{:>8}",
+        "{call:<16}{size:>4}{:>14}{:>14}{:>8}",
         "ns ours",
         format!("ns {other}"),
         "ratio"
@@ -40,12 +41,20 @@ fn steps() {
     [1, 8, 64].into_iter().for_each(growers::run);
 }
 
+/// Settlement sheets.
+fn settlements() {
+    heading("sheet", "K", "second");
+    [1, 64].into_iter().for_each(sheets::run);
+}
+
 fn calls() {
     heading("call", "K", "second");
     [1, 8, 64].into_iter().for_each(columns::run);
     [1, 64].into_iter().for_each(snapshots::run);
     println!();
     steps();
+    println!();
+    settlements();
     println!();
     files();
     println!();
@@ -62,6 +71,7 @@ fn main() {
     match arguments[..] {
         [] | ["calls"] => calls(),
         ["growers"] => steps(),
+        ["sheets"] => settlements(),
         ["csv"] => files(),
         ["calibrate"] => calibrate::survey(),
         ["calibrate", block] => match block.parse() {
@@ -70,7 +80,9 @@ fn main() {
         },
         ["weeks"] => weeks::run(),
         ["cards"] => weeks::cards(),
-        _ => fail("bench [calls | growers | csv | calibrate [BLOCK_LENGTH] | weeks | cards]"),
+        _ => fail(
+            "bench [calls | growers | sheets | csv | calibrate [BLOCK_LENGTH] | weeks | cards]",
+        ),
     }
 }
 

@@ -98,7 +98,7 @@ pub fn run(partitions: usize) {
     written.print("write", partitions);
     read.print("read", partitions);
     println!(
-        "{:<14}{partitions:>4}{:>14.1}",
+        "{:<16}{partitions:>4}{:>14.1}",
         "copy of text",
         copied.least()
     );

@@ -50,7 +50,7 @@ impl Times {
     fn line(&self, call: &str, size: usize) -> String {
         let [ours, second] = self.least.map(|time| time.unwrap_or(f64::NAN));
         format!(
-            "{call:<14}{size:>4}{ours:>14.1}{second:>14.1}{:>8.2}",
+            "{call:<16}{size:>4}{ours:>14.1}{second:>14.1}{:>8.2}",
             ours / second
         )
     }

@@ -11,6 +11,7 @@ ghost use Rattle.model.specs.Growers.{up, down};
 ghost use Rattle.model.specs.GrowerCalls.{growerCall};
 ghost use Rattle.model.specs.CsvCalls.{importCall, exportCall};
 ghost use Rattle.model.specs.SnapshotCalls.{writeCall, readCall};
+ghost use Rattle.model.specs.SheetCalls.{sheetCall};
 ghost use Rattle.model.specs.Lent.{columnIn, columnOut, setIn};
 ghost use Rattle.model.specs.Accesses.{counts};
 ghost use Rattle.model.specs.Tallies.{tally, addCall};
@@ -422,6 +423,23 @@ pub extern "C" fn meltusk_read_snapshot(
         ≡ readCall blockLimit (now (text .entry)) (now (growers .entry)) (now (weights .entry)) (now (yields .entry)) ⌝ }
 {
     snapshot::read(text, growers, weights, yields)
+}
+
+// Writes a column's settlement sheet.
+#[no_mangle]
+pub extern "C" fn meltusk_write_sheet(
+    directory: &[u32],
+    growers: &[u32],
+    weights: &[u32],
+    yields: &[u32],
+    text: &mut [u8],
+    order: &mut [u32],
+    work: &mut [u32],
+) -> Written
+    ensures { λ r. ⌜ record { answer = r; text = now (text .exit); order = now (order .exit); work = now (work .exit) }
+        ≡ sheetCall blockLimit (columnIn directory growers weights yields) (now (text .entry)) (now (order .entry)) (now (work .entry)) ⌝ }
+{
+    sheet::write_sheet(directory, growers, weights, yields, text, order, work)
 }
 
 // Imports the rows of a weighbridge file into the slots.

@@ -1,15 +1,18 @@
 -- Tests one after the other, and lists of checks answered by the first "no". Assumes nothing.
 use Prim.Native.Nat.{ℕ, _≤_, _<_}
-use mathlib.Core.Path.{_≡_, refl, sym}
+use mathlib.Core.Path.{_≡_, refl, sym, _∙_}
 use mathlib.Core.Bool.{Bool, true, false, cond, _&&_}
 use mathlib.Core.List.{List, [], _∷_, _++_}
 use borrow.Author.Tests.{lt-leb, le-leb, eq-eqb, ne-eqb}
-use lib.Dec.{leb}
+use native.Mathlib.Omega.{arith}
+use native.Mathlib.Decide.{ℕ-discrete}
+use lib.Dec.{T, leb, leb→le}
 use lib.ListN.{length}
 use Rattle.model.specs.Lists.{every}
 use Rattle.model.specs.Checks.{Check, ask, firstFailed}
 use Rattle.model.specs.Deliveries.{inRange, rows}
 use Rattle.model.specs.Blocks.{slotsOk, slicesOk}
+use Rattle.model.proofs.Tests.{and-fst, and-snd}
 use Rattle.model.proofs.Deliveries.{values-rows}
 use Rattle.checks.specs.Values.{allValuesOk}
 
@@ -49,6 +52,29 @@ failed-first (c ∷ cs) bs h = go (c .holds) refl h (failed-first cs bs)
         → cond b (firstFailed cs) (c .number) ≡ cond b (firstFailed (cs ++ bs)) (c .number)
     go true e n ih = ih n
     go false e n ih = refl
+
+-- A list of checks that begins with a list that passes. No check has the number 0.
+
+unfoldable pub numbered : List Check → Bool
+numbered [] = true
+numbered (c ∷ cs) = leb 1 (c .number) && numbered cs
+
+pub passed-first : (as' bs : List Check) → T (numbered as') → firstFailed as' ≡ 0 → firstFailed (as' ++ bs) ≡ firstFailed bs
+unfolding firstFailed numbered
+passed-first [] bs n h = refl
+passed-first (c ∷ cs) bs n h = go (c .holds) h (passed-first cs bs (and-snd (leb 1 (c .number)) (numbered cs) n))
+  where
+    go : (b : Bool) → cond b (firstFailed cs) (c .number) ≡ 0 → (firstFailed cs ≡ 0 → firstFailed (cs ++ bs) ≡ firstFailed bs)
+        → cond b (firstFailed (cs ++ bs)) (c .number) ≡ firstFailed bs
+    go true z ih = ih z
+    go false z ih = absurd (omega (arith, leb→le 1 (c .number) (and-fst (leb 1 (c .number)) (numbered cs) n)))
+
+pub passed-both : (as' bs : List Check) → T (numbered as') → firstFailed (as' ++ bs) ≡ 0 → (firstFailed as' ≡ 0) × (firstFailed bs ≡ 0)
+passed-both as' bs n h = go (ℕ-discrete (firstFailed as') 0)
+  where
+    go : Dec (firstFailed as' ≡ 0) → (firstFailed as' ≡ 0) × (firstFailed bs ≡ 0)
+    go (yes e) = (e, sym (passed-first as' bs n e) ∙ h)
+    go (no f) = absurd (f (failed-first as' bs f ∙ h))
 
 -- Check 3 of three slices, test by test.
 module _ (g w y : List ℕ) where

@@ -6,16 +6,9 @@ use native.Mathlib.Omega.{arith}
 use lib.ListN.{length, set, replicate, replicate-append-replicate, length-append, length-replicate, length-set}
 use lib.Seq.{append-snoc, set-at, set-append-left}
 use Rattle.model.specs.Directory.{directorySize, padded, directoryNumbers}
+use Rattle.model.proofs.ListLaws.{set-append-add}
 use Rattle.model.proofs.DirectoryLaws.{length-padded}
 use Rattle.directory.specs.Numbers.{blank, withPartition}
-
-set-append-add : (p q : List ℕ) (i x : ℕ) → set (p ++ q) (length p + i) x ≡ p ++ set q i x
-set-append-add [] q i x =
-    let e : 0 + i ≡ i = omega arith in
-    rw e
-set-append-add (a ∷ p) q i x =
-    let e : suc (length p) + i ≡ suc (length p + i) = omega arith in
-    rw e (ap (λ (l : List ℕ). a ∷ l) (set-append-add p q i x))
 
 -- L is the block limit
 module _ (L : ℕ) where

@@ -6,6 +6,7 @@ ghost use lib.ListN.{length, getD};
 ghost use lib.IntN.{natAbs};
 ghost use lib.Dec.{T, ltb, eqb};
 ghost use Rattle.model.specs.Fields.{justified, numberField, signedField};
+ghost use Rattle.model.specs.Sheet.{wideField};
 ghost use Rattle.fields.specs.Reading.{readOf, readAt, fieldOk, valueAt, Blanks};
 ghost use Rattle.fields.specs.Writing.{placed};
 
@@ -21,6 +22,8 @@ pub const WIDTH: usize = 11;
 const LEADING: usize = 10;
 // The columns of a signed number (01: the bill, 20 columns).
 pub const SIGNED_WIDTH: usize = 20;
+// The columns of a number of a settlement sheet (02: 20 columns).
+pub const WIDE: usize = 20;
 // The greatest number (01: 4,294,967,295).
 const MOST: u64 = 4294967295;
 
@@ -145,6 +148,14 @@ pub fn put_number(text: &mut [u8], at: usize, n: u32)
     ensures { λ _. ⌜ now (text .exit) ≡ placed at (numberField n) (now (text .entry)) ⌝ }
 {
     put(text, at, WIDTH, b' ', n as u64);
+}
+
+// A number in 20 columns from a cursor.
+pub fn put_wide(text: &mut [u8], at: usize, n: u64)
+    requires { ⌜ at + 20 ≤ length (now text) ⌝ }
+    ensures { λ _. ⌜ now (text .exit) ≡ placed at (wideField n) (now (text .entry)) ⌝ }
+{
+    put(text, at, WIDE, b' ', n);
 }
 
 // A signed number without its sign.

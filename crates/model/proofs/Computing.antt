@@ -19,10 +19,11 @@ use Rattle.model.specs.Accesses.{blocksOf, blocksScanned, readsOf, scanC
 use Rattle.model.specs.Growers.{nearestFrom, nearest, nearestOf, holdsOne, downFrom, path, upToFirst, countsScanned, scannedFor, scannedForOk}
 use Rattle.model.specs.Fields.{leading, justified, signedField, spelled, readField, line, takeNumbers, afterLineEnd, takeLine, takeLines}
 use Rattle.model.specs.Snapshot.{partitionRows, bookText, headerOk, takeHeader, bookOk, readBook, isBook, slotsForBook}
+use Rattle.model.specs.Sheet.{placedOnce, eachOnce, sheetLines, linesTotals, wideLine, sheetOf, byGrower}
 use Rattle.model.specs.Csv.{afterEnd, behind, takePlain, takeQuoted, takeField, takeFields, takeRecords}
 use Rattle.model.specs.Weighbridge.{timesNamed, columnNamed, headerNamed, headerOnce, numberIn, rowOf, rowsOf, readRows, rowCount, digits, plainNumber, csvText}
 use Rattle.model.specs.Questions.{recorderChecks, costChecks, plannerChecks, applyChecks, callChecks, columnChecks, growerChecks, partitionChecks}
-use Rattle.model.specs.Questions.{writeChecks, readChecks, importChecks, exportChecks, ledgerChecks}
+use Rattle.model.specs.Questions.{writeChecks, sheetChecks, readChecks, importChecks, exportChecks, ledgerChecks}
 use Rattle.model.specs.Recorder.{recorderRefusal, recordCall, recordCalls, acceptedCalls}
 use Rattle.model.specs.Planner.{costCall, plannedEnds, plannerRefusal, planCall}
 use Rattle.model.specs.ColumnCalls.{moveSlices, applyCall, laidColumn, callTotals, columnAfter, columnRefusal, refusedCounts, columnCall, columnCalls, reportAlone, partitionCall}
@@ -31,6 +32,7 @@ use Rattle.model.specs.SnapshotCalls.{readCall, columnRead, writeCall}
 use Rattle.model.specs.CsvCalls.{importCall, exportCall}
 use Rattle.model.specs.Tallies.{tallyChecks}
 use Rattle.model.specs.Program.{callOf, callsOf, sizesOk, takeSizes, readWeek, recordUntilRefused, partitionTexts, planText, weekText, layplan}
+use Rattle.model.specs.SheetCalls.{sheetCall, settlement}
 use Rattle.model.specs.Text.{bytesOf}
 
 unfoldable pub computed : Unit {0}
@@ -47,4 +49,5 @@ unfolding flatten sumOf ceilDiv upFrom every keep rising neverFalls sameList fir
     readWeek recordUntilRefused partitionTexts planText weekText layplan bytesOf afterEnd behind takePlain takeQuoted takeField takeFields takeRecords timesNamed
     columnNamed headerNamed headerOnce numberIn rowOf rowsOf readRows rowCount digits plainNumber csvText importChecks exportChecks importCall exportCall
     nearestFrom nearest nearestOf holdsOne downFrom path upToFirst countsScanned scannedFor scannedForOk growerChecks growerCall ledgerGrower
+    placedOnce eachOnce sheetLines linesTotals wideLine sheetOf byGrower sheetChecks sheetCall settlement
 computed = tt

@@ -105,6 +105,12 @@ module _ {A : Type 0} (P : A → Type 0) where
       go ih (inl e) = subst P (sym e) (h .0)
       go ih (inr k) = ih k
 
+-- all are kept
+pub keep-whole : {A : Type 0} (f : A → Bool) (l : List A) → All (λ (x : A). f x ≡ true) l → keep f l ≡ l
+unfolding keep All
+keep-whole f [] h = refl
+keep-whole f (x ∷ l) h = rw (h .0) (ap (λ (r : List _). x ∷ r) (keep-whole f l (h .1)))
+
 pub all-kept : {A : Type 0} (f : A → Bool) (s : List A) → All (λ (x : A). f x ≡ true) (keep f s)
 unfolding All keep
 all-kept f [] = tt

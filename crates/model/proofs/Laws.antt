@@ -1,7 +1,7 @@
 -- The laws that specs/Laws.antt states. Assumes nothing.
 use Prim.Native.Nat.{ℕ}
 use Rattle.model.specs.Laws.{BlocksInPartitions, FreshBlocks, KeepsRecords, KeepsPartitions, LeavesSlots, CommutesWithMap, SlicesMoveAsOne}
-use Rattle.model.specs.Laws.{CostAdds, LimitsArePrices, NearestIsFirst, CountsOfARange, EveryLayoutListed, TotalOrder, AnswerUnique}
+use Rattle.model.specs.Laws.{CostAdds, LimitsArePrices, NearestIsFirst, CountsOfARange, SheetsAddUp, EveryLayoutListed, TotalOrder, AnswerUnique}
 use native.Mathlib.Omega.{arith}
 use Rattle.model.proofs.LayoutLaws.{laid, every-layout}
 use Rattle.model.proofs.SetLaws.{good, spot, target, part-first, part-end}
@@ -12,6 +12,7 @@ use Rattle.model.proofs.PlanLaws.{cheapest-unique}
 use Rattle.model.proofs.LimitLaws.{limit-prices}
 use Rattle.model.proofs.GrowerLaws.{nearest-is}
 use Rattle.model.proofs.GrowerCounts.{range-counts}
+use Rattle.model.proofs.SheetLaws.{sheet-adds-up}
 use Rattle.model.proofs.MovesMap.{map-inserted, map-deleted, map-moved}
 use Rattle.model.proofs.MovesBag.{insertAt-bag, deleteAt-bag, moveAt-bag}
 use Rattle.model.proofs.MovesKeep.{insertAt-sound, deleteAt-sound, moveAt-sound}
@@ -63,6 +64,9 @@ nearest-is-first w g gs = nearest-is w g gs
 
 pub counts-of-a-range : CountsOfARange
 counts-of-a-range = range-counts
+
+pub sheets-add-up : SheetsAddUp
+sheets-add-up bag = sheet-adds-up bag
 
 pub every-layout-listed : EveryLayoutListed
 every-layout-listed = every-layout

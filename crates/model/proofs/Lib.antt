@@ -33,9 +33,12 @@ pub mod CsvLaws
 pub mod ExportLaws
 pub mod GrowerLaws
 pub mod GrowerCounts
+pub mod OnceLaws
+pub mod SheetLaws
 pub mod Laws
 pub mod Computing
 pub mod Marked
 pub mod BooksComputed
 pub mod CsvComputed
 pub mod GrowersComputed
+pub mod SheetsComputed

@@ -10,9 +10,9 @@ use lib.ListN.{length, take, drop, length-append, take-append-drop}
 use lib.Seq.{take-at, drop-at}
 use Rattle.model.specs.Bounds.{mostNumber}
 use Rattle.model.specs.Lists.{every, onlyIf, andThen}
-use Rattle.model.specs.Fields.{numberField, fieldWidth, lineEnd, line, lines, readField, Taken, taken, takeNumbers, afterLineEnd, takeLine, takeLines}
+use Rattle.model.specs.Fields.{blank, justified, numberField, fieldWidth, lineEnd, line, lines, readField, Taken, taken, takeNumbers, afterLineEnd, takeLine, takeLines}
 use Rattle.model.proofs.Tests.{and-fst, and-snd, and-mk}
-use Rattle.model.proofs.FieldLaws.{length-number, read-number, field-read}
+use Rattle.model.proofs.FieldLaws.{length-justified, length-number, read-number, field-read}
 
 -- Values that may be absent.
 
@@ -92,14 +92,15 @@ fields-taken (suc n) t r e =
 
 -- Lengths.
 
-length-fields : (ns : List ℕ) → length (flatten (map numberField ns)) ≡ 11 * length ns
+-- numbers of w columns each
+pub length-fields : (w : ℕ) → 1 ≤ w → (ns : List ℕ) → length (flatten (map (justified blank w) ns)) ≡ w * length ns
 unfolding flatten
-length-fields [] = refl
-length-fields (n ∷ ns) = omega (arith, length-append (numberField n) (flatten (map numberField ns)), length-number n, length-fields ns)
+length-fields w h [] = omega arith
+length-fields w h (n ∷ ns) = omega (arith, length-append (justified blank w n) (flatten (map (justified blank w) ns)), length-justified blank w n h, length-fields w h ns)
 
 pub length-line : (ns : List ℕ) → length (line ns) ≡ 11 * length ns + 1
 unfolding line
-length-line ns = omega (arith, length-append (flatten (map numberField ns)) (lineEnd ∷ []), length-fields ns)
+length-line ns = omega (arith, length-append (flatten (map numberField ns)) (lineEnd ∷ []), length-fields 11 (omega arith) ns)
 
 -- A line.
 

@@ -2,7 +2,7 @@
 use Prim.Native.Nat.{ℕ, zero, suc, _+_, _-_, _*_, _≤_, _<_}
 use mathlib.Core.Path.{_≡_, refl, sym, ap, _∙_, subst}
 use mathlib.Core.Bool.{Bool, true, false, cond, _&&_, and-assoc}
-use mathlib.Core.List.{List, [], _∷_, _++_, append-assoc, map, flatten}
+use mathlib.Core.List.{List, [], _∷_, _++_, append-assoc, map, flatten, List·Permᴰ, List·Permᴰ·nil, List·Permᴰ·cons, List·Permᴰ·swap, List·Permᴰ·trans}
 use native.Mathlib.Omega.{arith}
 use native.Mathlib.Numerals.{add-one}
 use native.Mathlib.Nat.{div-add-mod', mod-lt, div-eq-of-lt-le, mul-le-mul-right}
@@ -226,3 +226,29 @@ module _ {A : Type 0} (f : A → Bool) where
 
   pub every-back : (n : ℕ) (l : List A) → T (every f l) → T (every f (drop n l))
   every-back n l t = and-snd (every f (take n l)) (every f (drop n l)) (subst T (every-cut n l) t)
+
+-- set behind a front
+pub set-append-add : (p q : List ℕ) (i x : ℕ) → set (p ++ q) (length p + i) x ≡ p ++ set q i x
+set-append-add [] q i x =
+    let e : 0 + i ≡ i = omega arith in
+    rw e
+set-append-add (a ∷ p) q i x =
+    let e : suc (length p) + i ≡ suc (length p + i) = omega arith in
+    rw e (ap (λ (l : List ℕ). a ∷ l) (set-append-add p q i x))
+
+-- what is kept of elements that all pass
+pub every-kept : {A : Type 0} (f p : A → Bool) (l : List A) → T (every f l) → T (every f (keep p l))
+unfolding every keep
+every-kept f p [] t = tt
+every-kept f p (x ∷ l) t = go (p x) (every-kept f p l (and-snd (f x) (every f l) t))
+  where
+    go : (b : Bool) → T (every f (keep p l)) → T (every f (cond b (x ∷ keep p l) (keep p l)))
+    go true h = and-mk (f x) (every f (keep p l)) (and-fst (f x) (every f l) t) h
+    go false h = h
+
+-- lists with the same elements in some order
+pub bag-length : {A : Type 0} {a b : List A} → List·Permᴰ a b → length a ≡ length b
+bag-length List·Permᴰ·nil = refl
+bag-length (List·Permᴰ·cons e p) = ap suc (bag-length p)
+bag-length (List·Permᴰ·swap e f) = refl
+bag-length (List·Permᴰ·trans p q) = bag-length p ∙ bag-length q

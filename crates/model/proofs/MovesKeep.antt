@@ -27,7 +27,7 @@ module _ {A : Type 0} (P : A → Type 0) where
   all-append [] b p q = q
   all-append (x ∷ a) b p q = (p .0, all-append a b (p .1) q)
 
-  all-take : (n : ℕ) (l : List A) → All P l → All P (take n l)
+  pub all-take : (n : ℕ) (l : List A) → All P l → All P (take n l)
   unfolding All
   all-take zero l p = tt
   all-take (suc n) [] p = tt

@@ -46,3 +46,7 @@ mostDeliveries = 1024
 
 abbrev pub mostCalls : ℕ
 mostCalls = 1000
+
+-- the program of the settlement sheet (02: Slip 4): "with 512 slots"
+abbrev pub sheetSlots : ℕ
+sheetSlots = 512

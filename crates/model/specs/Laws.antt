@@ -2,17 +2,18 @@
 use Prim.Native.Nat.{ℕ, _+_, _-_, _*_, _≤_, _<_}
 use mathlib.Core.Path.{_≡_}
 use mathlib.Core.Logic.{_⊎_, _↔_}
-use mathlib.Core.Bool.{Bool}
+use mathlib.Core.Bool.{Bool, cond}
 use mathlib.Core.List.{List, [], _∷_, _++_, map, flatten, List·Memᴰ, List·Permᴰ}
 use lib.ListN.{length, getD, drop}
-use lib.Dec.{T, eqb}
+use lib.Dec.{T, ltb, eqb}
 use lib.IntN.{ℤ, _+ℤ_}
 use Rattle.model.specs.declared.Delivery.{Delivery}
 use Rattle.model.specs.declared.PriceCard.{PriceCard}
 use Rattle.model.specs.declared.Limits.{Limits}
-use Rattle.model.specs.Lists.{sumOf, keep}
+use Rattle.model.specs.Lists.{sumOf, keep, rising}
 use Rattle.model.specs.Checks.{ask, firstFailed}
 use Rattle.model.specs.Place.{place}
+use Rattle.model.specs.Deliveries.{totalsOf}
 use Rattle.model.specs.Blocks.{Set, blocks, lastGrower, blockOf, valuesOk}
 use Rattle.model.specs.Prices.{pricesOk}
 use Rattle.model.specs.Layouts.{endOf, firstOf, partitionOf, isLayout, layoutOk, blockCounts, mostPartitions, longestPartition, permitted, everyLayout}
@@ -24,7 +25,8 @@ use Rattle.model.specs.Lent.{Even}
 use Rattle.model.specs.Directory.{Directory, directoryOf}
 use Rattle.model.specs.Column.{Column, slots, target, lengthsFrom}
 use Rattle.model.specs.Accesses.{blocksOf, scanCounts}
-use Rattle.model.specs.Growers.{Direction, up, down, atOrPast, GrowerCount, nearestOf, countsScanned, scannedFor}
+use Rattle.model.specs.Growers.{Direction, up, down, atOrPast, GrowerCount, nearestOf, countsScanned, scannedFor, growersOf}
+use Rattle.model.specs.Sheet.{lineGrower, sheetLines, linesTotals}
 use Rattle.model.specs.Questions.{setChecks, lentChecks}
 use Rattle.model.specs.ColumnCalls.{moveSlices}
 
@@ -124,6 +126,16 @@ pub record RangeCounts (L : ℕ) (c : Column) (g : ℕ) : Type 0 where
 
 abbrev pub CountsOfARange : Type 0
 CountsOfARange = (L : ℕ) (c : Column) (g : ℕ) → firstFailed (lentChecks L c) ≡ 0 → RangeCounts L c g
+
+-- The settlement sheet (02: Slip 4): "a line per grower in rising order", each grower who has a record once and no other;
+-- "the totals equal the sums over the records", which is their definition, "and the sums of the lines above".
+pub record SheetAddsUp (bag : List Delivery) : Type 0 where
+  pub rise : T (rising (map lineGrower (sheetLines bag)))
+  pub once : (g : ℕ) → length (keep (eqb g) (map lineGrower (sheetLines bag))) ≡ cond (ltb 0 (length (keep (eqb g) (growersOf bag)))) 1 0
+  pub add-up : linesTotals (sheetLines bag) ≡ totalsOf bag
+
+abbrev pub SheetsAddUp : Type 0
+SheetsAddUp = (bag : List Delivery) → SheetAddsUp bag
 
 -- The list of every layout holds each layout, and nothing else.
 abbrev pub EveryLayoutListed : Type 0

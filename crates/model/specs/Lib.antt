@@ -20,6 +20,7 @@ pub mod Accesses
 pub mod Growers
 pub mod Fields
 pub mod Snapshot
+pub mod Sheet
 pub mod Csv
 pub mod Weighbridge
 pub mod Questions
@@ -32,9 +33,11 @@ pub mod SnapshotCalls
 pub mod CsvCalls
 pub mod Tallies
 pub mod Program
+pub mod SheetCalls
 pub mod Laws
 pub mod Text
 pub mod Examples
 pub mod GrowerExamples
 pub mod SnapshotExamples
+pub mod SheetExamples
 pub mod CsvExamples

@@ -7,7 +7,7 @@ use lib.Dec.{leb, ltb, eqb}
 use Rattle.model.specs.declared.Delivery.{Delivery}
 use Rattle.model.specs.declared.PriceCard.{PriceCard}
 use Rattle.model.specs.declared.Limits.{Limits}
-use Rattle.model.specs.Lists.{every, isSome}
+use Rattle.model.specs.Lists.{sumOf, every, isSome}
 use Rattle.model.specs.Checks.{Check, ask}
 use Rattle.model.specs.Prices.{pricesOk, limitsOk}
 use Rattle.model.specs.Deliveries.{firstSlots, inRange, among}
@@ -17,9 +17,10 @@ use Rattle.model.specs.Histograms.{raises, countsOk, roomToRaise}
 use Rattle.model.specs.Layouts.{layoutOk}
 use Rattle.model.specs.Plan.{permittedLayouts}
 use Rattle.model.specs.Directory.{directoryBlockOk, directoryOk}
-use Rattle.model.specs.Column.{Column, allRecords, sound, scannedOk, hasFreeSlot, hasDelivery}
+use Rattle.model.specs.Column.{Column, lengthsOf, allRecords, sound, scannedOk, hasFreeSlot, hasDelivery}
 use Rattle.model.specs.Growers.{Direction, scannedForOk}
 use Rattle.model.specs.Snapshot.{snapshotText, slotsForBook, isBook}
+use Rattle.model.specs.Sheet.{sheetText}
 use Rattle.model.specs.Weighbridge.{headerNamed, headerOnce, readRows, rowCount, csvText}
 
 -- L is the block limit
@@ -77,6 +78,16 @@ module _ (L : ℕ) where
   -- writing a snapshot (01: book): 2 3 6 6 8 15
   unfoldable pub writeChecks : Column → ℕ → List Check
   writeChecks c room = lentChecks c ++ ask 6 (sound L c) ∷ ask 8 (every inRange (allRecords L c)) ∷ ask 15 (leb (length (snapshotText L c)) room) ∷ []
+
+  -- writing a settlement sheet (02: Slip 4): 2 3 6 6 8 15; 15 is put of the text and of the two slices that are sorted in
+  unfoldable pub sheetChecks : Column → ℕ → ℕ → ℕ → List Check
+  sheetChecks c room orderRoom workRoom =
+      let m : ℕ = sumOf (lengthsOf L c) in
+      lentChecks c
+      ++ ask 6 (sound L c)
+      ∷ ask 8 (every inRange (allRecords L c))
+      ∷ ask 15 (leb (length (sheetText L c)) room && (leb m orderRoom && leb m workRoom))
+      ∷ []
 
   -- reading a snapshot: 3 12 14
   unfoldable pub readChecks : List ℕ → List ℕ → List ℕ → List ℕ → List Check

@@ -20,10 +20,10 @@ use Rattle.model.specs.Plan.{permittedLayouts}
 use Rattle.model.specs.Questions.{setChecks, applyChecks, costChecks, plannerChecks}
 use Rattle.model.specs.Lent.{setOf}
 use Rattle.model.proofs.Tests.{and-fst, and-snd, is-true, yes-first}
-use Rattle.checks.proofs.Answers.{failed-first}
+use Rattle.checks.proofs.Answers.{failed-first, numbered, passed-first}
 use Rattle.histograms.proofs.Counts.{counts-long}
 use Rattle.sets.specs.Sized.{Sized, setRefusalOf, countedChecks}
-use Rattle.sets.proofs.Sets.{whole, numbered, passed-first, set-first, blocks-least, blocks-most}
+use Rattle.sets.proofs.Sets.{whole, set-first, blocks-least, blocks-most}
 use Rattle.layout_search.proofs.RowLaws.{stored-more}
 use Rattle.block_costs.specs.Terms.{PricesPass, Counted}
 use Rattle.planner.specs.Given.{givenChecks, Marked}

@@ -20,12 +20,12 @@ use Rattle.model.specs.Recorder.{recorderRefusal, recordCall}
 use Rattle.model.proofs.Tests.{yes-first, is-true}
 use Rattle.model.proofs.Deliveries.{rows-part, length-rows, first-among}
 use Rattle.model.proofs.SetLaws.{spot-of, block-rises}
-use Rattle.checks.proofs.Answers.{failed-first}
+use Rattle.checks.proofs.Answers.{failed-first, numbered, passed-first}
 use Rattle.histograms.specs.Raising.{recorded, raiseSlots, roomAt, raisedAt, spanSlots}
 use Rattle.histograms.proofs.Counts.{counts-long}
 use Rattle.histograms.proofs.Slots.{room-slots, raise-slots}
 use Rattle.sets.specs.Sized.{countedChecks}
-use Rattle.sets.proofs.Sets.{Whole, whole, numbered, passed-first, set-first, blocks-least, blocks-most}
+use Rattle.sets.proofs.Sets.{Whole, whole, set-first, blocks-least, blocks-most}
 
 -- The set has the delivery.
 

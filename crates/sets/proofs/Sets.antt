@@ -1,12 +1,11 @@
 -- The checks of an unpartitioned set, and of a layout of its blocks, test by test. Assumes nothing.
 use Prim.Native.Nat.{ℕ, _+_, _-_, _*_, _≤_, _<_}
-use mathlib.Core.Path.{_≡_, refl, sym, ap, _∙_}
-use mathlib.Core.Bool.{Bool, true, false, cond, not, _&&_}
-use mathlib.Core.List.{List, [], _∷_, _++_}
+use mathlib.Core.Path.{_≡_, sym, ap, _∙_}
+use mathlib.Core.Bool.{true, false, not, _&&_}
+use mathlib.Core.List.{List, _++_}
 use native.Mathlib.Omega.{arith}
-use native.Mathlib.Decide.{ℕ-discrete}
 use borrow.Author.Tests.{lt-leb, le-leb, le-ltb, lt-ltb, eq-eqb, ne-eqb}
-use lib.Dec.{T, leb, eqb, leb→le}
+use lib.Dec.{leb, eqb, leb→le}
 use lib.ListN.{length, getD, take}
 use lib.Seq.{length-take-le}
 use Rattle.model.specs.Bounds.{mostBlockLength}
@@ -23,30 +22,7 @@ use Rattle.model.proofs.Deliveries.{rows-part}
 use Rattle.model.proofs.SetLaws.{sliced}
 use Rattle.sets.specs.Sized.{Sized, setRefusalOf}
 use Rattle.checks.specs.Values.{allValuesOk}
-use Rattle.checks.proofs.Answers.{failed-first, every-rows}
-
--- A list of checks that begins with a list that passes. No check has the number 0.
-
-unfoldable pub numbered : List Check → Bool
-numbered [] = true
-numbered (c ∷ cs) = leb 1 (c .number) && numbered cs
-
-pub passed-first : (as' bs : List Check) → T (numbered as') → firstFailed as' ≡ 0 → firstFailed (as' ++ bs) ≡ firstFailed bs
-unfolding firstFailed numbered
-passed-first [] bs n h = refl
-passed-first (c ∷ cs) bs n h = go (c .holds) h (passed-first cs bs (and-snd (leb 1 (c .number)) (numbered cs) n))
-  where
-    go : (b : Bool) → cond b (firstFailed cs) (c .number) ≡ 0 → (firstFailed cs ≡ 0 → firstFailed (cs ++ bs) ≡ firstFailed bs)
-        → cond b (firstFailed (cs ++ bs)) (c .number) ≡ firstFailed bs
-    go true z ih = ih z
-    go false z ih = absurd (omega (arith, leb→le 1 (c .number) (and-fst (leb 1 (c .number)) (numbered cs) n)))
-
-pub passed-both : (as' bs : List Check) → T (numbered as') → firstFailed (as' ++ bs) ≡ 0 → (firstFailed as' ≡ 0) × (firstFailed bs ≡ 0)
-passed-both as' bs n h = go (ℕ-discrete (firstFailed as') 0)
-  where
-    go : Dec (firstFailed as' ≡ 0) → (firstFailed as' ≡ 0) × (firstFailed bs ≡ 0)
-    go (yes e) = (e, sym (passed-first as' bs n e) ∙ h)
-    go (no f) = absurd (f (failed-first as' bs f ∙ h))
+use Rattle.checks.proofs.Answers.{failed-first, numbered, passed-first, passed-both, every-rows}
 
 -- Check 4.
 

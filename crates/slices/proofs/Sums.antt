@@ -13,8 +13,8 @@ use Rattle.model.specs.Bounds.{mostSlots}
 use Rattle.model.specs.Lent.{Even}
 use Rattle.model.specs.Lists.{sumOf, every, keep}
 use Rattle.model.specs.Deliveries.{LightTotals, plusTotals, inRange, matches, rows, noTotals, totalsOf, totalsBetween}
-use Rattle.model.proofs.Tests.{and-fst, and-snd, and-mk, is-true}
-use Rattle.model.proofs.ListLaws.{sum-append, keep-append, keep-fewer}
+use Rattle.model.proofs.Tests.{and-fst, and-snd, and-mk}
+use Rattle.model.proofs.ListLaws.{sum-append, keep-append, keep-fewer, every-kept}
 use Rattle.model.proofs.Deliveries.{values-rows, length-rows}
 use Rattle.slices.specs.Slices.{allWithin, countBetween, Measured}
 
@@ -44,25 +44,12 @@ oil-most (d ∷ ds) t =
     let p : d .weight * d .«oil_yield» ≤ 100000 * 10000 = mul-le-mul w y in
     omega (arith, oil-most ds (and-snd (inRange d) (every inRange ds) t))
 
-every-kept : (p : Delivery → Bool) (ds : List Delivery) → T (every inRange ds) → T (every inRange (keep p ds))
-unfolding every keep
-every-kept p [] t = tt
-every-kept p (d ∷ ds) t = go (p d) (every-kept p ds (and-snd (inRange d) (every inRange ds) t))
-  where
-    go : (b : Bool) → T (every inRange (keep p ds)) → T (every inRange (cond b (d ∷ keep p ds) (keep p ds)))
-    go true h = subst T (sym (ap (λ (x : Bool). x && every inRange (keep p ds)) (is-true (inRange d) (and-fst (inRange d) (every inRange ds) t)))) h
-    go false h = h
+all-light : (m : ℕ) (ds : List Delivery) → T (every inRange ds) → length ds ≤ m → LightTotals m (totalsOf ds)
+unfolding totalsOf
+all-light m ds t h = record { few = h; light = omega (arith, weights-most ds t); little = omega (arith, oil-most ds t) }
 
 pub totals-light : (lo hi m : ℕ) (ds : List Delivery) → T (every inRange ds) → length ds ≤ m → LightTotals m (totalsBetween lo hi ds)
-unfolding totalsOf
-totals-light lo hi m ds t h =
-    let k = every-kept (matches lo hi) ds t in
-    let n = keep-fewer (matches lo hi) ds in
-    record {
-      few = omega arith;
-      light = omega (arith, weights-most (keep (matches lo hi) ds) k);
-      little = omega (arith, oil-most (keep (matches lo hi) ds) k);
-    }
+totals-light lo hi m ds t h = all-light m (keep (matches lo hi) ds) (every-kept inRange (matches lo hi) ds t) (omega (arith, keep-fewer (matches lo hi) ds))
 
 -- Records that were counted.
 
@@ -96,6 +83,16 @@ keep-full f (d ∷ l) e = go (f d) (keep-full f l) (keep-fewer f l) e
     go true r h k = ap (λ (x : List Delivery). d ∷ x) (r (omega arith))
     go false r h k = let z : ⊥ = omega arith in absurd z
 
+module _ (g w y : List ℕ) (m : Measured g w y) where
+  values : T (every inRange (rows g w y))
+  values = subst T (sym (values-rows g w y (m .even .weights) (m .even .yields))) (and-mk (allWithin 100000 w) (allWithin 10000 y) (m .good-weights) (m .good-yields))
+
+  rows-few : length (rows g w y) ≤ mostSlots
+  rows-few = omega (arith, m .few, length-rows g w y (m .even .weights) (m .even .yields))
+
+  pub rows-light : LightTotals mostSlots (totalsOf (rows g w y))
+  rows-light = all-light mostSlots (rows g w y) values rows-few
+
 module _ (lo hi : ℕ) (g w y : List ℕ) (m : Measured g w y) where
   counted : countBetween lo hi g ≡ length (keep (matches lo hi) (rows g w y))
   counted = count-rows lo hi g w y (m .even .weights) (m .even .yields)
@@ -108,13 +105,9 @@ module _ (lo hi : ℕ) (g w y : List ℕ) (m : Measured g w y) where
   all-between h =
       rw (keep-full (matches lo hi) (rows g w y) (omega (arith, counted, length-rows g w y (m .even .weights) (m .even .yields))))
 
-  values : T (every inRange (rows g w y))
-  values = subst T (sym (values-rows g w y (m .even .weights) (m .even .yields))) (and-mk (allWithin 100000 w) (allWithin 10000 y) (m .good-weights) (m .good-yields))
-
   -- the totals of measured slices are small
   pub measured-light : (t : Totals) → t ≡ totalsBetween lo hi (rows g w y) → LightTotals mostSlots t
-  measured-light t e =
-      subst (LightTotals mostSlots) (sym e) (totals-light lo hi mostSlots (rows g w y) values (omega (arith, m .few, length-rows g w y (m .even .weights) (m .even .yields))))
+  measured-light t e = subst (LightTotals mostSlots) (sym e) (totals-light lo hi mostSlots (rows g w y) (values g w y m) (rows-few g w y m))
 
 -- parts of even slices
 pub even-part : (g w y : List ℕ) (n a : ℕ) → Even g w y → Even (take n (drop a g)) (take n (drop a w)) (take n (drop a y))

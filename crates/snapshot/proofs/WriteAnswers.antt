@@ -26,12 +26,12 @@ use Rattle.model.proofs.Parts.{flatten-parts}
 use Rattle.model.proofs.WriteLaws.{writable, write-is}
 use Rattle.model.proofs.LineLaws.{length-line}
 use Rattle.checks.specs.Values.{allValuesOk}
-use Rattle.checks.proofs.Answers.{failed-first, every-rows}
+use Rattle.checks.proofs.Answers.{failed-first, numbered, passed-first, passed-both, every-rows}
 use Rattle.directory.proofs.LentColumns.{LentColumn, lent-column, count-lengths, count-fences}
 use Rattle.fields.specs.Writing.{placed}
 use Rattle.fields.proofs.Placing.{placed-first, placed-joined}
 use Rattle.snapshot.specs.declared.Checked.{Checked}
-use Rattle.snapshot.specs.Answers.{notChecked, checkedOf}
+use Rattle.snapshot.specs.Answers.{notChecked, soundChecks, checkedColumn, checkedRoom, checkedOf}
 use Rattle.snapshot.proofs.Putting.{rowsOf, length-partitions, length-rows-of}
 
 -- L is the block limit
@@ -62,7 +62,7 @@ module _ (L : ℕ) (c : Column) where
   abbrev rowLines : List ℕ
   rowLines = lines (rowsOf growers weights yields)
 
-  records-are : allRecords L c ≡ rows growers weights yields
+  pub records-are : allRecords L c ≡ rows growers weights yields
   records-are = flatten-parts (lengthsOf L c) (slots c) ∙ sym (rows-part used 0 (c .growers) (c .weights) (c .yields))
 
   head-size : length headLine ≡ 34
@@ -72,7 +72,7 @@ module _ (L : ℕ) (c : Column) where
     part-length : (s : List ℕ) → length s ≡ length (c .growers) → length (take used s) ≡ used
     part-length s e = length-take-le used s (omega (arith, l .shape .room))
 
-    parts-even : Even growers weights yields
+    pub parts-even : Even growers weights yields
     parts-even =
         let g = sym (part-length (c .growers) refl) in
         record { weights = part-length (c .weights) (l .even .weights) ∙ g; yields = part-length (c .yields) (l .even .yields) ∙ g }
@@ -112,19 +112,16 @@ parts-lent L c l el ef =
     let n = count-lengths L c l in
     record { even = rw (el, ef) (count-fences L c l ∙ sym n); many = rw el n; rises = rw ef (l .shape .rises); room = rw el (l .shape .room) }
 
--- The checks.
+-- The checks of a column that is to be written.
 
-module _ (L : ℕ) (c : Column) (room : ℕ) where
-  pub check-lent : (x : Checked) (n : ℕ) → n ≡ firstFailed (lentChecks L c) → (n ≡ 0 → ⊥) → x ≡ notChecked n → x ≡ checkedOf L c room
-  unfolding checkedOf writeChecks
+module _ (L : ℕ) (c : Column) where
+  pub check-lent : (x : Checked) (n : ℕ) → n ≡ firstFailed (lentChecks L c) → (n ≡ 0 → ⊥) → x ≡ notChecked n → x ≡ checkedColumn L c
+  unfolding checkedColumn
   check-lent x n e z q =
-      let f : firstFailed (writeChecks L c room) ≡ n = sym (e ∙ failed-first (lentChecks L c) _ (λ y. z (e ∙ y))) in
+      let f : firstFailed (soundChecks L c) ≡ n = sym (e ∙ failed-first (lentChecks L c) _ (λ y. z (e ∙ y))) in
       q ∙ sym (rw (f, ne-eqb n 0 z))
 
   module _ (p : firstFailed (lentChecks L c) ≡ 0) where
-    size : length (snapshotText L c) ≡ 34 + 23 * count L c + 34 * used L c
-    size = text-size L c (lent-column L c p)
-
     lent-passed : (directoryBlockOk L (c .directory) ≡ true) × (slicesOk (c .growers) (c .weights) (c .yields) ≡ true) × (directoryOk L (length (c .growers)) (c .directory) ≡ true)
     lent-passed =
         let a = yes-first 1 (directoryBlockOk L (c .directory)) _ p in
@@ -132,29 +129,80 @@ module _ (L : ℕ) (c : Column) (room : ℕ) where
         let d = yes-first 5 (directoryOk L (length (c .growers)) (c .directory)) _ (b .1) in
         (is-true _ (a .0), is-true _ (b .0), is-true _ (d .0))
 
-    checks-are : firstFailed (writeChecks L c room) ≡ firstFailed (ask 6 (sound L c) ∷ ask 8 (every inRange (allRecords L c)) ∷ ask 15 (leb (length (snapshotText L c)) room) ∷ [])
-    unfolding writeChecks firstFailed
+    checks-are : firstFailed (soundChecks L c) ≡ firstFailed (ask 6 (sound L c) ∷ ask 8 (every inRange (allRecords L c)) ∷ [])
+    unfolding firstFailed
     checks-are = let l = lent-passed in rw (l .0, l .1, l .2)
 
-    pub check-sound : (x : Checked) → sound L c ≡ false → x ≡ notChecked 6 → x ≡ checkedOf L c room
-    unfolding checkedOf firstFailed
-    check-sound x e q = let f : firstFailed (writeChecks L c room) ≡ 6 = checks-are ∙ rw e in q ∙ sym (rw f)
+    pub check-sound : (x : Checked) → sound L c ≡ false → x ≡ notChecked 6 → x ≡ checkedColumn L c
+    unfolding checkedColumn firstFailed
+    check-sound x e q = let f : firstFailed (soundChecks L c) ≡ 6 = checks-are ∙ rw e in q ∙ sym (rw f)
 
     module _ (e : sound L c ≡ true) where
-      pub check-values : (x : Checked) → every inRange (allRecords L c) ≡ false → x ≡ notChecked 8 → x ≡ checkedOf L c room
-      unfolding checkedOf firstFailed
-      check-values x v q = let f : firstFailed (writeChecks L c room) ≡ 8 = checks-are ∙ rw (e, v) in q ∙ sym (rw f)
+      pub check-values : (x : Checked) → every inRange (allRecords L c) ≡ false → x ≡ notChecked 8 → x ≡ checkedColumn L c
+      unfolding checkedColumn firstFailed
+      check-values x v q = let f : firstFailed (soundChecks L c) ≡ 8 = checks-are ∙ rw (e, v) in q ∙ sym (rw f)
 
-      module _ (v : every inRange (allRecords L c) ≡ true) where
-        pub check-room : (x : Checked) → room < 34 + 23 * count L c + 34 * used L c → x ≡ notChecked 15 → x ≡ checkedOf L c room
-        unfolding checkedOf firstFailed
-        check-room x h q = let f : firstFailed (writeChecks L c room) ≡ 15 = checks-are ∙ rw (e, v, lt-leb (length (snapshotText L c)) room (omega (arith, size))) in q ∙ sym (rw f)
+      pub check-good : every inRange (allRecords L c) ≡ true → (x : Checked) (m : ℕ) → m ≡ used L c → x ≡ record { refusal = 0; used = m } → x ≡ checkedColumn L c
+      unfolding checkedColumn firstFailed
+      check-good v x m u q = let f : firstFailed (soundChecks L c) ≡ 0 = checks-are ∙ rw (e, v) in q ∙ ap (λ (n : ℕ). record { refusal = 0; used = n }) u ∙ sym (rw f)
 
-        pub check-passed : (x : Checked) (m : ℕ) → 34 + 23 * count L c + 34 * used L c ≤ room → m ≡ used L c → x ≡ record { refusal = 0; used = m } → x ≡ checkedOf L c room
-        unfolding checkedOf firstFailed
-        check-passed x m h u q =
-            let f : firstFailed (writeChecks L c room) ≡ 0 = checks-are ∙ rw (e, v, le-leb (length (snapshotText L c)) room (omega (arith, size))) in
-            q ∙ ap (λ (n : ℕ). record { refusal = 0; used = n }) u ∙ sym (rw f)
+-- What is known of a column that passed them, and the check of the room behind them: it is put where the others passed.
+
+pub record Passed (L : ℕ) (c : Column) (x : Checked) : Type 0 where
+  pub all : firstFailed (soundChecks L c) ≡ 0
+  pub lent : LentColumn L c
+  pub is-sound : T (sound L c)
+  pub values : T (every inRange (allRecords L c))
+  pub used-is : x .used ≡ used L c
+
+module _ (L : ℕ) (c : Column) (x : Checked) (e : x ≡ checkedColumn L c) where
+  refusal-there : x .refusal ≡ firstFailed (soundChecks L c)
+  unfolding checkedColumn
+  refusal-there = ap (λ (y : Checked). y .refusal) e
+
+  pub passed : x .refusal ≡ 0 → Passed L c x
+  unfolding checkedColumn numbered
+  passed n =
+      let p : firstFailed (soundChecks L c) ≡ 0 = sym refusal-there ∙ n in
+      let b = passed-both (lentChecks L c) (ask 6 (sound L c) ∷ ask 8 (every inRange (allRecords L c)) ∷ []) tt p in
+      let f = yes-first 5 (sound L c) (ask 8 (every inRange (allRecords L c)) ∷ []) (b .1) in
+      let g = yes-first 7 (every inRange (allRecords L c)) [] (f .1) in
+      record { all = p; lent = lent-column L c (b .0); is-sound = f .0; values = g .0; used-is = ap (λ (y : Checked). y .used) e ∙ rw p }
+
+  pub room-refused : (x .refusal ≡ 0 → ⊥) → (fits : Bool) → x ≡ checkedRoom L c fits
+  unfolding checkedRoom checkedColumn
+  room-refused z fits =
+      let n : ℕ = firstFailed (soundChecks L c) in
+      let o : n ≡ 0 → ⊥ = λ y. z (refusal-there ∙ y) in
+      let f : firstFailed (soundChecks L c ++ ask 15 fits ∷ []) ≡ n = sym (failed-first (soundChecks L c) (ask 15 fits ∷ []) o) in
+      e ∙ sym (rw f)
+
+  pub room-short : x .refusal ≡ 0 → {fits : Bool} → fits ≡ false → (y : Checked) → y ≡ notChecked 15 → y ≡ checkedRoom L c fits
+  unfolding checkedRoom firstFailed numbered
+  room-short n b y q =
+      let w = passed n in
+      let f : firstFailed (soundChecks L c ++ ask 15 false ∷ []) ≡ 15 = passed-first (soundChecks L c) (ask 15 false ∷ []) tt (w .all) in
+      q ∙ sym (rw (b, f))
+
+  pub room-enough : x .refusal ≡ 0 → {fits : Bool} → fits ≡ true → x ≡ checkedRoom L c fits
+  unfolding checkedRoom checkedColumn firstFailed numbered
+  room-enough n b =
+      let w = passed n in
+      let f : firstFailed (soundChecks L c ++ ask 15 true ∷ []) ≡ 0 = passed-first (soundChecks L c) (ask 15 true ∷ []) tt (w .all) in
+      e ∙ sym (rw (b, f))
+
+-- The room of a text.
+
+module _ (L : ℕ) (c : Column) (room : ℕ) (l : LentColumn L c) where
+  pub text-long : room < 34 + 23 * count L c + 34 * used L c → leb (length (snapshotText L c)) room ≡ false
+  text-long h = lt-leb (length (snapshotText L c)) room (omega (arith, text-size L c l, h))
+
+  pub text-fits : 34 + 23 * count L c + 34 * used L c ≤ room → leb (length (snapshotText L c)) room ≡ true
+  text-fits h = le-leb (length (snapshotText L c)) room (omega (arith, text-size L c l, h))
+
+pub checked-room : (L : ℕ) (c : Column) (room : ℕ) → checkedRoom L c (leb (length (snapshotText L c)) room) ≡ checkedOf L c room
+unfolding checkedRoom checkedOf writeChecks
+checked-room L c room = refl
 
 -- The answer.
 

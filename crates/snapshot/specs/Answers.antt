@@ -2,16 +2,17 @@
 use Prim.Native.Nat.{ℕ, _+_, _*_}
 use mathlib.Core.Bool.{Bool, cond, _&&_}
 use mathlib.Core.Option.{Option, none, some}
-use mathlib.Core.List.{List}
+use mathlib.Core.List.{List, [], _∷_, _++_}
 use lib.ListN.{length}
 use lib.Dec.{eqb}
 use Rattle.model.specs.declared.Applied.{Applied}
-use Rattle.model.specs.Lists.{sumOf, rising}
+use Rattle.model.specs.Lists.{sumOf, every, rising}
+use Rattle.model.specs.Deliveries.{inRange}
 use Rattle.model.specs.Directory.{Directory, directoryOf, noDirectory, directoryNumbers}
-use Rattle.model.specs.Checks.{firstFailed}
-use Rattle.model.specs.Column.{Column, lengthsOf}
+use Rattle.model.specs.Checks.{Check, ask, firstFailed}
+use Rattle.model.specs.Column.{Column, lengthsOf, allRecords, sound}
 use Rattle.model.specs.Lent.{Lent, columnOf}
-use Rattle.model.specs.Questions.{writeChecks}
+use Rattle.model.specs.Questions.{lentChecks, writeChecks}
 use Rattle.model.specs.Snapshot.{Book, readBook, slotsForBook}
 use Rattle.model.specs.SnapshotCalls.{ReadResult}
 use Rattle.snapshot.specs.declared.Judged.{Judged}
@@ -52,6 +53,21 @@ module _ (L : ℕ) where
 
   abbrev pub refusedRead : ℕ → Applied
   refusedRead n = record { refusal = n; directory = noDirectory L }
+
+  -- the checks of writing but for the room, 2 3 6 6 8, and how many deliveries there are
+  abbrev pub soundChecks : Column → List Check
+  soundChecks c = lentChecks L c ++ ask 6 (sound L c) ∷ ask 8 (every inRange (allRecords L c)) ∷ []
+
+  unfoldable pub checkedColumn : Column → Checked
+  checkedColumn c =
+      let n : ℕ = firstFailed (soundChecks c) in
+      record { refusal = n; used = cond (eqb n 0) (sumOf (lengthsOf L c)) 0 }
+
+  -- these, and 15: does what is written fit?
+  unfoldable pub checkedRoom : Column → Bool → Checked
+  checkedRoom c fits =
+      let n : ℕ = firstFailed (soundChecks c ++ ask 15 fits ∷ []) in
+      record { refusal = n; used = cond (eqb n 0) (sumOf (lengthsOf L c)) 0 }
 
   -- the checks of writing, and how many deliveries there are
   unfoldable pub checkedOf : Column → ℕ → Checked

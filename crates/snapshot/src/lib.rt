@@ -19,7 +19,7 @@ ghost use Rattle.directory.specs.Numbers.{Numbered};
 ghost use Rattle.fields.specs.Writing.{placed};
 ghost use Rattle.lines.specs.Lines.{textRefusal};
 ghost use Rattle.snapshot.specs.Texts.{headFound, noHead, listedIn, notListed, lowOf, highOf, deliveryOk, deliveriesOk, partsOk, allFrom};
-ghost use Rattle.snapshot.specs.Answers.{numbersOk, notJudged, judgedOf, refusedRead, readOut, notChecked, checkedOf};
+ghost use Rattle.snapshot.specs.Answers.{numbersOk, notJudged, judgedOf, refusedRead, readOut, notChecked, checkedColumn, checkedOf};
 use fields::Field;
 use fields::WIDTH;
 use lines::NOT_A_TEXT;
@@ -426,13 +426,13 @@ fn sound_ok(g: &[u32], lens: &[u32], fences: &[u32]) -> bool
     true
 }
 
-// Checks 2, 3, 6, 6, 8 and 15 of writing into room bytes, and how many deliveries there are.
-struct Checked {
-    refusal: u32,
-    used: usize,
+// What checking a column finds: a refusal, or how many deliveries there are.
+pub struct Checked {
+    pub refusal: u32,
+    pub used: usize,
 }
 
-fn not_checked(n: u32) -> Checked
+pub fn not_checked(n: u32) -> Checked
     ensures { λ r. ⌜ r ≡ notChecked n ⌝ }
 {
     Checked {
@@ -441,8 +441,9 @@ fn not_checked(n: u32) -> Checked
     }
 }
 
-fn check_write(directory: &[u32], g: &[u32], w: &[u32], y: &[u32], room: usize) -> Checked
-    ensures { λ r. ⌜ r ≡ checkedOf blockLimit (columnIn directory g w y) room ⌝ }
+// Checks 2, 3, 6, 6 and 8 of a column that is to be written.
+pub fn check_column(directory: &[u32], g: &[u32], w: &[u32], y: &[u32]) -> Checked
+    ensures { λ r. ⌜ r ≡ checkedColumn blockLimit (columnIn directory g w y) ⌝ }
 {
     let shape = directory::lent(directory, g, w, y, 0);
     let n = shape.refusal;
@@ -460,13 +461,24 @@ fn check_write(directory: &[u32], g: &[u32], w: &[u32], y: &[u32], room: usize) 
     if !checks::values_ok(&w[..m], &y[..m]) {
         return not_checked(8);
     }
-    if room < THREE + TWO * directory::count(directory) + THREE * m {
-        return not_checked(15);
-    }
     Checked {
         refusal: 0,
         used: m,
     }
+}
+
+// These, and 15 of writing into room bytes.
+fn check_write(directory: &[u32], g: &[u32], w: &[u32], y: &[u32], room: usize) -> Checked
+    ensures { λ r. ⌜ r ≡ checkedOf blockLimit (columnIn directory g w y) room ⌝ }
+{
+    let c = check_column(directory, g, w, y);
+    if c.refusal != 0 {
+        return c;
+    }
+    if room < THREE + TWO * directory::count(directory) + THREE * c.used {
+        return not_checked(15);
+    }
+    c
 }
 
 // Writes a column as a text: how many bytes, or a refusal and the text as it was.

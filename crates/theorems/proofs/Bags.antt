@@ -1,21 +1,15 @@
 -- Bags: what the order of a list's elements does not change. Assumes nothing.
-use Prim.Native.Nat.{ℕ, suc, _+_, _*_}
+use Prim.Native.Nat.{ℕ, _+_, _*_}
 use mathlib.Core.Path.{_≡_, refl, ap, ap₂, _∙_}
 use mathlib.Core.Bool.{Bool, true, false, cond, _&&_}
 use mathlib.Core.List.{List, _∷_, map, List·Permᴰ, List·Permᴰ·nil, List·Permᴰ·cons, List·Permᴰ·swap, List·Permᴰ·trans, Permᴰ·refl}
 use native.Mathlib.Omega.{arith}
-use lib.ListN.{length}
 use Rattle.model.specs.declared.Delivery.{Delivery}
 use Rattle.model.specs.Lists.{sumOf, every, keep}
 use Rattle.model.specs.Deliveries.{totalsOf}
+use Rattle.model.proofs.ListLaws.{bag-length}
 
 module _ {A : Type 0} where
-  pub bag-length : {a b : List A} → List·Permᴰ a b → length a ≡ length b
-  bag-length List·Permᴰ·nil = refl
-  bag-length (List·Permᴰ·cons e p) = ap suc (bag-length p)
-  bag-length (List·Permᴰ·swap e f) = refl
-  bag-length (List·Permᴰ·trans p q) = bag-length p ∙ bag-length q
-
   pub bag-every : (f : A → Bool) {a b : List A} → List·Permᴰ a b → every f a ≡ every f b
   unfolding every
   bag-every f List·Permᴰ·nil = refl

@@ -11,6 +11,8 @@ pub mod LaidColumn
 pub mod Ledger
 -- The next grower: the partitions in the order in which they are scanned, and the ledger.
 pub mod NextGrower
+-- The settlement sheet: the order of the records, and the ledger.
+pub mod Sheet
 -- Demand 3: what is recorded, what it costs, what the fresh column reports, what the planner answers.
 pub mod RecordingSums
 pub mod RecordingEntries

@@ -25,14 +25,14 @@ use Rattle.model.specs.Growers.{Direction, up, down, atOrPast, GrowerCount, nea
 use Rattle.model.specs.Growers.{recordsAt, scannedFor, recordsScanned, scannedForOk}
 use Rattle.model.specs.GrowerCalls.{growerCall, ledgerGrower}
 use Rattle.model.proofs.Tests.{is-false, leb-no, and-fst, and-snd, and-mk, first-passed, nothing-failed}
-use Rattle.model.proofs.ListLaws.{flatten-append, every-joined}
+use Rattle.model.proofs.ListLaws.{flatten-append, every-joined, bag-length}
 use Rattle.model.proofs.Parts.{length-parts}
 use Rattle.model.proofs.Places.{placed-mono}
 use Rattle.model.proofs.DirectoryLaws.{length-fences}
 use Rattle.model.proofs.MovesKeep.{All, Sound, all-append}
 use Rattle.model.proofs.GrowerLaws.{Before, all-imply, none-kept, no-hit, no-hit-after, nearest-bag, InTurn, stop-at-first}
 use Rattle.theorems.specs.NextGrower.{SameGrowers, NextGrowerAgrees, AllSameGrowers, none, next, NextGrowerAfterCalls}
-use Rattle.theorems.proofs.Bags.{bag-length, bag-keep}
+use Rattle.theorems.proofs.Bags.{bag-keep}
 use Rattle.theorems.proofs.ValidColumn.{Valid, valid, count-lengths, place-of, target-there, sound-slots, lent-pass}
 use Rattle.theorems.proofs.LaidColumn.{laid-records, laid-valid, laid-capacity}
 use Rattle.theorems.proofs.Ledger.{Steps, step}

@@ -12,7 +12,7 @@ use Rattle.model.specs.Calls.{Call, find, range, insert, delete, move}
 use Rattle.model.specs.Column.{Column, allRecords, hasFreeSlot, hasDelivery}
 use Rattle.model.specs.Questions.{callChecks, columnChecks, ledgerChecks}
 use Rattle.model.specs.ColumnCalls.{columnRefusal}
-use Rattle.theorems.proofs.Bags.{bag-length}
+use Rattle.model.proofs.ListLaws.{bag-length}
 use Rattle.theorems.proofs.OneDelivery.{bag-among}
 use Rattle.theorems.proofs.ValidColumn.{Valid, has-is, scanned-passes, free-slot-is, lent-pass}
 

@@ -26,7 +26,7 @@ use Rattle.model.proofs.MovesRows.{Columns, rows-columns}
 use Rattle.model.proofs.Parts.{flatten-parts}
 use Rattle.model.proofs.DirectoryLaws.{Fits, Shaped, shaped, shaped-passes, numbers-shaped, directory-again, length-lengths, length-fences}
 use Rattle.model.proofs.LineLaws.{Fit, fitsField}
-use Rattle.model.proofs.BookLaws.{Good, room-for, text-read, read-text}
+use Rattle.model.proofs.BookLaws.{Good, IsBookText, room-for, text-read, read-text}
 use Rattle.model.proofs.ColumnBooks.{sound-used, rows-joined, numbers-again}
 use Rattle.model.proofs.SetLaws.{Sliced, sliced, slices-pass}
 use Rattle.model.proofs.WriteLaws.{Writable, writable, writes, write-accepted, write-is}
@@ -223,9 +223,9 @@ module _ (L : ℕ) where
   -- what an accepted reading found
   record WasRead (text gs ws ys : List ℕ) : Type 0 where
     pub book : Book
-    pub is-read : readBook L text ≡ some book
-    pub slices : T (slicesOk gs ws ys)
-    pub room : T (slotsForBook L text (length gs))
+    pub is-text : IsBookText L text book
+    pub slices : Sliced gs ws ys
+    pub enough : length (book .deliveries) ≤ length gs
     pub column : readCall L text gs ws ys .column ≡ bookColumn book gs ws ys
 
   was-read : (text gs ws ys : List ℕ) → readCall L text gs ws ys .refusal ≡ 0 → WasRead text gs ws ys
@@ -238,19 +238,35 @@ module _ (L : ℕ) where
     where
       go : (o : Option Book) → readBook L text ≡ o → T (isSome o) → T (slicesOk gs ws ys) → T (slotsForBook L text (length gs)) → WasRead text gs ws ys
       go none e t s r = absurd t
-      go (some b) e t s r = record { book = b; is-read = e; slices = s; room = r; column = rw (ok, e) }
+      go (some b) e t s r =
+          let i = read-text L text b e in
+          record {
+            book = b;
+            is-text = i;
+            slices = sliced gs ws ys s;
+            enough = leb→le (length (b .deliveries)) (length gs) (subst T (room-for L b (i .good) (length gs)) (subst (λ (u : List ℕ). T (slotsForBook L u (length gs))) (sym (i .text)) r));
+            column = rw (ok, e);
+          }
+
+  -- the column of an accepted reading is valid, and has no more records than there are slots
+  pub read-valid : (text gs ws ys : List ℕ) → readCall L text gs ws ys .refusal ≡ 0
+      → Valid L (readCall L text gs ws ys .column) × (sumOf (lengthsOf L (readCall L text gs ws ys .column)) ≤ length gs)
+  read-valid text gs ws ys ok =
+      let w = was-read text gs ws ys ok in
+      let b : Book = w .book in
+      let g = w .is-text .good in
+      let v : Valid L (bookColumn b gs ws ys) = valid-of (writable-in b gs ws ys g (w .slices) (w .enough) (length (bookText b)) (omega arith)) in
+      let n : sumOf (lengthsOf L (bookColumn b gs ws ys)) ≤ length gs
+      = omega (arith, ap (λ (d : Directory). sumOf (d .lengths)) (there b gs ws ys g (w .slices) (w .enough)), g .total, w .enough) in
+      subst (λ (c : Column). Valid L c × (sumOf (lengthsOf L c) ≤ length gs)) (sym (w .column)) (v, n)
 
   read-written : (text gs ws ys out : List ℕ) → readCall L text gs ws ys .refusal ≡ 0 → length text ≤ length out
       → writeCall L (readCall L text gs ws ys .column) out ≡ record { answer = record { refusal = 0; bytes = length text }; text = text ++ drop (length text) out }
   read-written text gs ws ys out ok h =
       let w = was-read text gs ws ys ok in
-      let b : Book = w .book in
-      let i = read-text L text b (w .is-read) in
-      let n : length (b .deliveries) ≤ length gs
-      = leb→le (length (b .deliveries)) (length gs)
-      (subst T (room-for L b (i .good) (length gs)) (subst (λ (t : List ℕ). T (slotsForBook L t (length gs))) (sym (i .text)) (w .room))) in
+      let i = w .is-text in
       ap (λ (x : Column). writeCall L x out) (w .column)
-      ∙ written-again b gs ws ys (i .good) (sliced gs ws ys (w .slices)) n out (subst (λ (t : List ℕ). length t ≤ length out) (sym (i .text)) h)
+      ∙ written-again (w .book) gs ws ys (i .good) (w .slices) (w .enough) out (subst (λ (t : List ℕ). length t ≤ length out) (sym (i .text)) h)
       ∙ ap (λ (t : List ℕ). record { answer = record { refusal = 0; bytes = length t }; text = t ++ drop (length t) out }) (i .text)
 
 pub written-is-read : WrittenIsRead

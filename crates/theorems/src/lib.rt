@@ -1,6 +1,7 @@
 // Theorems over the definitions of the model. The statements are in specs/, their proofs in proofs/.
 ghost use Rattle.theorems.specs.Ledger.{LedgerAgreesFrom, LedgerAgrees};
 ghost use Rattle.theorems.specs.NextGrower.{NextGrowerAgrees, NextGrowerAfterCalls};
+ghost use Rattle.theorems.specs.Sheet.{SheetAgrees, SheetAfterCalls};
 ghost use Rattle.theorems.specs.Plan.{Demand3};
 ghost use Rattle.theorems.specs.Limits.{LimitsKept, OwnLimitsKept};
 ghost use Rattle.theorems.specs.Snapshot.{WrittenIsRead, ReadIsWritten};
@@ -24,4 +25,9 @@ pub fn limits_kept()
 // Does nothing: that the next and the previous grower are the ledger's, likewise.
 pub fn growers_agree()
     ensures { λ _. ⌜ NextGrowerAgrees × NextGrowerAfterCalls ⌝ }
+{}
+
+// Does nothing: that the settlement sheet is the ledger's, likewise.
+pub fn sheets_agree()
+    ensures { λ _. ⌜ SheetAgrees × SheetAfterCalls ⌝ }
 {}

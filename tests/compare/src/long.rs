@@ -269,6 +269,56 @@ fn snapshots(run: &mut Run) -> Result<(), String> {
     }
 }
 
+/// The sheet of one record 0, 0, 0.
+const SHEET: &[u8] =
+    b"                   0                   1                   0                   0
+                   1                   0                   0
+";
+
+/// A long room, a long order and a long work are enough, long slices are refused
+/// by 3 and a long directory by 6.
+fn sheets(run: &mut Run) -> Result<(), String> {
+    let directory = one_record();
+    let (Some(mut slots), Some(mut lists), Some(mut room), Some(mut long_directory)) = (
+        reserve(run, 1),
+        reserve(run, 0),
+        reserve(run, 0),
+        reserve(run, DIRECTORY_LEN),
+    ) else {
+        return Ok(());
+    };
+    let (zero, mut short) = ([0], [7]);
+    let one = view(&directory, [&zero; 3]);
+    let mut out = [0; SHEET.len()];
+    let long_order = LIBRARY.write_sheet(&one, room.bytes(), lists.slice(), &mut short);
+    let long_work = LIBRARY.write_sheet(&one, &mut out, &mut short, lists.slice());
+    // Each refusal and the one it has to be.
+    let mut refusals = vec![(long_order.refusal, 0), (long_work.refusal, 0)];
+    let long: &[u32] = slots.slice();
+    for columns in [
+        [long, &zero, &zero],
+        [&zero, long, &zero],
+        [&zero, &zero, long],
+    ] {
+        let mut text = [0; SHEET.len()];
+        let a = LIBRARY.write_sheet(&view(&directory, columns), &mut text, &mut [7], &mut [7]);
+        refusals.push((a.refusal, 3));
+    }
+    let long = long_directory.slice();
+    long[..DIRECTORY_LEN].copy_from_slice(&directory);
+    let mut text = [0; SHEET.len()];
+    let a = LIBRARY.write_sheet(&view(long, [&zero; 3]), &mut text, &mut [7], &mut [7]);
+    refusals.push((a.refusal, 6));
+    run.seen.calls += refusals.len() as u64;
+    let right = refusals.iter().all(|(is, should)| is == should);
+    match right && &room.bytes()[..SHEET.len()] == SHEET && out == SHEET {
+        true => Ok(()),
+        false => Err(format!(
+            "refusals {refusals:?}, {long_order:?}, {long_work:?}"
+        )),
+    }
+}
+
 /// The weighbridge file of one delivery 0, 0, 0.
 const FILE: &[u8] = b"grower,weight,yield\r\n0,0,0\r\n";
 
@@ -372,6 +422,7 @@ fn plans(run: &mut Run) -> Result<(), String> {
 pub const TESTS: &[(&str, Test)] = &[
     ("broken input, slice counts past 32 bits", long),
     ("snapshots: slice counts past 32 bits", snapshots),
+    ("sheets: slice counts past 32 bits", sheets),
     ("files: slice counts past 32 bits", files),
     ("plan: slice counts past 32 bits", plans),
 ];

@@ -27,6 +27,7 @@ mod long;
 mod memory;
 mod plan;
 mod seen;
+mod sheets;
 mod snapshots;
 mod tallies;
 mod text;
@@ -92,6 +93,7 @@ fn tests() -> Vec<(&'static str, Test)> {
     tests.extend(growers::TESTS);
     tests.push(("every answer of every call has occurred", every_answer));
     tests.extend(snapshots::TESTS);
+    tests.extend(sheets::TESTS);
     tests.extend(csv::TESTS);
     tests.extend(tallies::TESTS);
     tests.extend(plan::TESTS);

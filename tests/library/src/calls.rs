@@ -1,7 +1,7 @@
-//! The five calls as values, made and recorded by either implementation, and
-//! the steps from grower to grower.
+//! The five calls as values, made and recorded by either implementation, the
+//! steps from grower to grower, and the second implementation's sheet.
 
-use crate::answers::{Answer, Stepped};
+use crate::answers::{Answer, Stepped, Written};
 use crate::column::{ColumnSlices, View};
 use crate::library::Library;
 use second::{Delivery, UnlaidSet};
@@ -113,6 +113,23 @@ pub fn step_second(column: &View, step: &Step) -> Stepped {
         Step::Next(grower) => second::next_grower(g, w, y, at, grower).into(),
         Step::Previous(grower) => second::previous_grower(g, w, y, at, grower).into(),
     }
+}
+
+/// The second implementation's sheet of a column.
+#[inline]
+pub fn sheet_second(
+    column: &View,
+    text: &mut [u8],
+    order: &mut [u32],
+    work: &mut [u32],
+) -> Written {
+    let View {
+        directory: at,
+        growers: g,
+        weights: w,
+        yields: y,
+    } = *column;
+    second::sheet_write(g, w, y, at, text, order, work).into()
 }
 
 pub fn record_second(histograms: &mut [u32], set: &UnlaidSet, call: &Call) -> u32 {

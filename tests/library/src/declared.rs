@@ -90,6 +90,10 @@ declare! {
     meltusk_write_snapshot(
         &directory: u32, &growers: u32, &weights: u32, &yields: u32, mut text: u8
     ) -> Written;
+    meltusk_write_sheet(
+        &directory: u32, &growers: u32, &weights: u32, &yields: u32, mut text: u8,
+        mut order: u32, mut work: u32
+    ) -> Written;
     meltusk_read_snapshot(
         &text: u8, mut growers: u32, mut weights: u32, mut yields: u32
     ) -> Applied;

@@ -14,7 +14,7 @@ pub use answers::{
     Answer, Applied, Costed, Counts, Imported, PartitionSlice, Planned, Stepped, Totals, Written,
     DIRECTORY,
 };
-pub use calls::{call_second, record_second, step_second, Call, Step};
+pub use calls::{call_second, record_second, sheet_second, step_second, Call, Step};
 pub use column::{Column, ColumnSlices, View};
 pub use library::{tally_add, Empty, Library, LIBRARIES};
 pub use seen::{Seen, EDGES};

@@ -205,6 +205,19 @@ impl Library {
     }
 
     #[inline]
+    pub fn write_sheet(
+        &self,
+        c: &View,
+        text: &mut [u8],
+        order: &mut [u32],
+        work: &mut [u32],
+    ) -> Written {
+        call!(self => meltusk_write_sheet(
+            &c.directory, &c.growers, &c.weights, &c.yields, mut text, mut order, mut work
+        ))
+    }
+
+    #[inline]
     pub fn read_snapshot(
         &self,
         text: &[u8],

@@ -1,13 +1,18 @@
 //! Numbers in text: decimal, right-justified in fixed columns.
 
-/// Columns of every number but the printed bill.
+/// Columns of every number but the printed bill and those of a sheet.
 pub const WIDTH: usize = 11;
-/// Columns of the printed bill.
-pub const BILL_WIDTH: usize = 20;
+/// Columns of the printed bill, and of every number of a sheet.
+pub const WIDE: usize = 20;
 
 /// Bytes of a line of `fields` numbers with its LF.
 pub const fn line_size(fields: usize) -> usize {
     fields * WIDTH + 1
+}
+
+/// Bytes of a sheet's line of `fields` numbers with its LF.
+pub const fn wide_line_size(fields: usize) -> usize {
+    fields * WIDE + 1
 }
 
 /// Reads one number at `at`: spaces, then at least one digit, up to 11
@@ -81,8 +86,8 @@ pub fn write_number(out: &mut [u8], at: usize, value: u32) -> usize {
 
 /// Writes a bill in 20 columns at `at`; answers the position after it.
 pub fn write_bill(out: &mut [u8], at: usize, bill: i64) -> usize {
-    write_digits(&mut out[at..at + BILL_WIDTH], bill.unsigned_abs(), bill < 0);
-    at + BILL_WIDTH
+    write_digits(&mut out[at..at + WIDE], bill.unsigned_abs(), bill < 0);
+    at + WIDE
 }
 
 /// Writes a line of numbers and its LF; answers the position after it.
@@ -92,4 +97,21 @@ pub fn write_line(out: &mut [u8], mut at: usize, numbers: &[u32]) -> usize {
     }
     out[at] = b'\n';
     at + 1
+}
+
+/// Writes a sheet's line of numbers and its LF; answers the position after it.
+pub fn write_wide_line(out: &mut [u8], mut at: usize, numbers: &[u64]) -> usize {
+    for &n in numbers {
+        write_digits(&mut out[at..at + WIDE], n, false);
+        at += WIDE;
+    }
+    out[at] = b'\n';
+    at + 1
+}
+
+/// What a program prints of a refused input: the number alone.
+pub fn refusal_text(number: u32) -> Vec<u8> {
+    let mut out = vec![0; line_size(1)];
+    write_line(&mut out, 0, &[number]);
+    out
 }

@@ -1,7 +1,9 @@
 //! The program `layplan` on byte slices: input text to output text.
 
 use crate::check::{self, Checked};
-use crate::field::{line_size, read_line_u32, write_bill, write_line, write_number};
+use crate::field::{
+    line_size, read_line_u32, refusal_text, write_bill, write_line, write_number, WIDE, WIDTH,
+};
 use crate::planner::plan_by_table;
 use crate::recorder::*;
 use crate::types::*;
@@ -111,7 +113,7 @@ fn run(text: &[u8]) -> Checked<Vec<u8>> {
     if plan.refusal != check::ACCEPTED {
         return Err(plan.refusal);
     }
-    let head = crate::field::WIDTH + crate::field::BILL_WIDTH + 1;
+    let head = WIDTH + WIDE + 1;
     let mut out = vec![0; head + plan.count * line_size(2)];
     let at = write_number(&mut out, 0, plan.count as u32);
     let mut at = write_bill(&mut out, at, plan.bill);
@@ -127,9 +129,5 @@ fn run(text: &[u8]) -> Checked<Vec<u8>> {
 
 /// The whole output for an input text: the plan, or only the refusal number.
 pub fn layplan(text: &[u8]) -> Vec<u8> {
-    run(text).unwrap_or_else(|number| {
-        let mut out = vec![0; line_size(1)];
-        write_line(&mut out, 0, &[number]);
-        out
-    })
+    run(text).unwrap_or_else(refusal_text)
 }

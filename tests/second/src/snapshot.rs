@@ -10,14 +10,24 @@ pub const fn snapshot_size(m: usize, k: usize) -> usize {
     line_size(3) + k * line_size(2) + m * line_size(3)
 }
 
-/// Whether every record is in its grower's partition.
+/// Whether every record is in its grower's partition: above the fence before it
+/// and, but for the last, not above its own. No early exit inside a partition, so
+/// that the loop is done several records at a time.
 pub(crate) fn is_sound(growers: &[u32], directory: &[u32], shape: &Shape) -> bool {
+    let fences = &directory[FENCES..FENCES + shape.k];
     let mut at = 0;
     for p in 0..shape.k {
         let past = at + directory[LENGTHS + p] as usize;
-        if !growers[at..past]
+        let lo = if p == 0 { 0 } else { fences[p - 1] + 1 };
+        let hi = if p + 1 == shape.k {
+            u32::MAX
+        } else {
+            fences[p]
+        };
+        let outside = |g: u32| g.wrapping_sub(lo) > hi - lo;
+        if growers[at..past]
             .iter()
-            .all(|&g| partition_of(directory, shape.k, g) == p)
+            .fold(false, |any, &g| any | outside(g))
         {
             return false;
         }

@@ -265,7 +265,7 @@ pub struct SpanAnswer {
     pub count: usize,
 }
 
-/// Answer of writing a snapshot and of an export.
+/// Answer of writing a snapshot or a sheet and of an export.
 #[derive(Clone, Copy, Debug, PartialEq, Eq)]
 pub struct TextAnswer {
     pub refusal: u32,

@@ -1,125 +1,61 @@
--- `snapshot::check_write` meets its contract: past the shape, each test is the check that it is named for. Assumes nothing.
-use mathlib.Core.Path.{_≡_, refl, sym, ap₂, _∙_}
-use mathlib.Core.Bool.{true}
-use mathlib.Core.List.{List}
-use Prim.Native.Nat.{ℕ, _≤_}
+-- `snapshot::check_write` meets its contract: where the column's checks pass, 15 is put of the text's length. Assumes nothing.
+use Prim.Native.Nat.{_≤_}
+use mathlib.Core.Path.{_∙_}
 use native.Mathlib.Omega.{arith}
 use borrow.Author.Needs.{needs}
-use borrow.Author.Tests.{not-true, not-false}
-use lib.ListN.{length}
-use lib.Seq.{length-take-le}
 use Rattle.model.specs.Bounds.{blockLimit, mostSlots}
-use Rattle.model.specs.Lists.{every}
-use Rattle.model.specs.Deliveries.{inRange}
-use Rattle.model.specs.Column.{Column, soundGrowers, allRecords, sound}
+use Rattle.model.specs.Column.{Column}
 use Rattle.model.specs.Lent.{columnOf}
-use Rattle.model.specs.Questions.{lentChecks}
-use Rattle.directory.proofs.Shapes.{Carried, shape-refusal, carried}
-use Rattle.directory.proofs.LentColumns.{LentColumn, lent-column, numbered}
-use Rattle.snapshot.proofs.WriteAnswers.{check-lent, parts-lent, values-there, check-sound, check-values, check-room, check-passed}
+use Rattle.snapshot.proofs.WriteAnswers.{Passed, passed, room-refused, room-short, room-enough, text-long, text-fits, checked-room}
 use Rattle.snapshot.proofs.check_write.Statement.{statement}
 use Rattle.snapshot.proofs.check_write.Tie as tie
 
--- The column, and what is known of it once its shape has passed.
+-- The column, and what is known of it once its own checks have passed.
 
-abbrev lent : tie.Start → Column
-lent s = columnOf (s .args .directory .now) (s .args .g .now) (s .args .w .now) (s .args .y .now)
+abbrev lent : tie.After-check-column → Column
+lent c = let s = c .before .before .before .before .before in columnOf (s .args .directory .now) (s .args .g .now) (s .args .w .now) (s .args .y .now)
 
-abbrev col : tie.Else1 → Column
-col c = lent (c .before .before .before .before .before .before)
+abbrev checked : tie.Else1 → tie.After-check-column
+checked c = c .before .before
 
-carry : (c : tie.Else1) → Carried blockLimit (lentChecks blockLimit (col c)) (col c .directory) 0 (c .before .lent .result)
-carry c = carried blockLimit (lentChecks blockLimit (col c)) (col c .directory) 0 _ (c .before .lent .ensures) (c .if1 .left)
+held : (c : tie.Else1) → Passed blockLimit (lent (checked c)) (checked c .check-column .result)
+held c = passed blockLimit (lent (checked c)) _ (checked c .check-column .ensures) (c .if1 .left)
 
-held : (c : tie.Else1) → LentColumn blockLimit (col c)
-held c = lent-column blockLimit (col c) (carry c .passed)
-
--- the used slots are there, and few
-used : (c : tie.Else1) → (c .before .lent .result .used ≤ length (col c .growers)) × (c .before .lent .result .used ≤ mostSlots)
-used c = let l = held c in let u = carry c .used in (omega (arith, u, l .shape .room), omega (arith, u, l .shape .room, l .most))
-
--- soundness tested, and passed
-abbrev shaped : tie.After-sound-ok → tie.Else1
-shaped c = c .before .before .before
-
-is-sound : (c : tie.After-sound-ok) → sound blockLimit (col (shaped c)) ≡ c .sound-ok .result
-unfolding sound
-is-sound c = sym (c .sound-ok .ensures ∙ ap₂ (λ (a b : List ℕ). soundGrowers a b (col (shaped c) .growers)) (c .before .before .lengths .ensures) (c .before .fences .ensures))
-
-sound-there : (c : tie.Else2) → sound blockLimit (col (shaped (c .before))) ≡ true
-sound-there c = is-sound (c .before) ∙ not-false _ (c .if2 .left)
-
--- the values tested
-abbrev good : tie.After-values-ok → tie.Else2
-good c = c .before .before .before
-
-in-range : (c : tie.After-values-ok) → every inRange (allRecords blockLimit (col (shaped (good c .before)))) ≡ c .values-ok .result
-in-range c = let e = shaped (good c .before) in values-there blockLimit (col e) (held e) _ _ (carry e .used) (c .values-ok .ensures)
-
--- the text's length fits
-abbrev counted : tie.After-count → tie.Else1
-counted c = shaped (good (c .before .before) .before)
-
-fits : (c : tie.After-count) → (c .count .result ≤ blockLimit) × (counted c .before .lent .result .used ≤ mostSlots)
-fits c = (omega (arith, c .count .ensures, held (counted c) .shape .few), used (counted c) .1)
+fits : (c : tie.After-count) → (c .count .result ≤ blockLimit) × (checked (c .before) .check-column .result .used ≤ mostSlots)
+fits c =
+    let w = held (c .before) in
+    (omega (arith, c .count .ensures, w .lent .shape .few), omega (arith, w .used-is, w .lent .shape .room, w .lent .most))
 
 returns : tie.Need-returns
 returns c =
-    let s = c .before .before .before .before .before .before .before in
-    check-lent blockLimit (lent s) _ _ _ (shape-refusal blockLimit (lentChecks blockLimit (lent s)) _ 0 _ (c .before .before .lent .ensures)) (c .before .if1 .taken) (c .not-checked .ensures)
+    let k = c .before .before in
+    room-refused blockLimit (lent k) _ (k .check-column .ensures) (c .if1 .taken) _ ∙ checked-room blockLimit (lent k) _
 
-lengths-requires : tie.Need-lengths-requires
-lengths-requires c κs = numbered blockLimit (col c) (held c)
+count-requires : tie.Need-count-requires
+count-requires c κs = held c .lent .shape .size
 
-fences-requires : tie.Need-fences-requires
-fences-requires c κs = numbered blockLimit (col (c .before)) (held (c .before))
-
-sound-ok-requires : tie.Need-sound-ok-requires
-sound-ok-requires c κs =
-    let e = c .before .before in
-    let p = parts-lent blockLimit (col e) (held e) (c .before .lengths .ensures) (c .fences .ensures) in
-    (p .even, p .rises, p .room)
-
+-- the text's length, counted
 returns-2 : tie.Need-returns-2
 returns-2 c =
-    let e = shaped (c .before .before) in
-    check-sound blockLimit (col e) _ (carry e .passed) _ (is-sound (c .before .before) ∙ not-true _ (c .before .if2 .taken)) (c .not-checked2 .ensures)
-
-slice-aggregate-values-ok : tie.Need-slice-aggregate-values-ok
-slice-aggregate-values-ok c = let e = shaped (c .before .before) in sym (length-take-le _ _ (omega (arith, used e .0, held e .even .weights)))
-
-slice-aggregate-values-ok-2 : tie.Need-slice-aggregate-values-ok-2
-slice-aggregate-values-ok-2 c = let e = shaped (c .before .before .before) in sym (length-take-le _ _ (omega (arith, used e .0, held e .even .yields)))
+    let n = c .before .before .before in
+    let k = checked (n .before) in
+    let w = held (n .before) in
+    room-short blockLimit (lent k) _ (k .check-column .ensures) (n .before .if1 .left)
+    (text-long blockLimit (lent k) _ (w .lent) (omega (arith, w .used-is, n .count .ensures, c .before .if2 .taken))) _ (c .not-checked .ensures)
+    ∙ checked-room blockLimit (lent k) _
 
 returns-3 : tie.Need-returns-3
 returns-3 c =
-    let v = c .before .before in
-    let e = shaped (good v .before) in
-    check-values blockLimit (col e) _ (carry e .passed) (sound-there (good v)) _ (in-range v ∙ not-true _ (c .before .if3 .taken)) (c .not-checked3 .ensures)
-
-count-requires : tie.Need-count-requires
-count-requires c κs = held (shaped (good (c .before) .before)) .shape .size
-
-returns-4 : tie.Need-returns-4
-returns-4 c =
-    let k = c .before .before in
-    let v = k .before .before in
-    let e = counted k in
-    check-room blockLimit (col e) _ (carry e .passed) (sound-there (good v)) (in-range v ∙ not-false _ (k .before .if3 .left)) _
-    (omega (arith, carry e .used, k .count .ensures)) (c .not-checked4 .ensures)
-
-returns-5 : tie.Need-returns-5
-returns-5 c =
-    let k = c .before in
-    let v = k .before .before in
-    let e = counted k in
-    check-passed blockLimit (col e) _ (carry e .passed) (sound-there (good v)) (in-range v ∙ not-false _ (k .before .if3 .left)) _ _
-    (omega (arith, carry e .used, k .count .ensures)) (carry e .used) refl
+    let n = c .before .before in
+    let k = checked (n .before) in
+    let w = held (n .before) in
+    room-enough blockLimit (lent k) _ (k .check-column .ensures) (n .before .if1 .left)
+    (text-fits blockLimit (lent k) _ (w .lent) (omega (arith, w .used-is, n .count .ensures, c .if2 .left)))
+    ∙ checked-room blockLimit (lent k) _
 
 pub check-write-spec : {M : Type 1} → statement M
 check-write-spec =
     tie.close
     (tie.spec
-    (λ c κs. search needs) (λ c κs. search needs) returns lengths-requires fences-requires sound-ok-requires (λ c κs. search needs)
-    returns-2 slice-aggregate-values-ok slice-aggregate-values-ok-2 (λ c κs. search needs) (λ c κs. search needs) returns-3 count-requires
-    (λ c. omega (arith, fits c)) (λ c. omega (arith, fits c)) (λ c. omega (arith, fits c)) (λ c. omega (arith, fits c)) (λ c κs. search needs) returns-4 returns-5)
+    (λ c κs. search needs) returns count-requires (λ c. omega (arith, fits c)) (λ c. omega (arith, fits c)) (λ c. omega (arith, fits (c .before)))
+    (λ c. omega (arith, fits (c .before))) (λ c κs. search needs) returns-2 returns-3)

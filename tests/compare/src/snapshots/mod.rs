@@ -4,7 +4,7 @@ mod calls;
 mod damage;
 mod reading;
 pub mod seen;
-mod writing;
+pub mod writing;
 
 use crate::{Run, Test};
 

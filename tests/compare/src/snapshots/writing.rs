@@ -154,7 +154,7 @@ pub fn laid(run: &mut Run) -> Result<(), String> {
 
 /// One change of a column or of the room for its text.
 #[derive(Clone, Copy, Debug, PartialEq, Eq)]
-enum WriteFault {
+pub enum WriteFault {
     OfColumn(Fault),
     /// A grower just past its partition's part of the growers.
     GrowerAbove,
@@ -171,7 +171,7 @@ use WriteFault::*;
 const ALL: Asked = Asked::Call(Call::Range(0, u32::MAX));
 
 /// Those that leave the directory a directory come first.
-fn faults() -> Vec<WriteFault> {
+pub fn faults() -> Vec<WriteFault> {
     let mut all = vec![
         RoomShort,
         NoRoom,
@@ -186,12 +186,13 @@ fn faults() -> Vec<WriteFault> {
 }
 
 impl WriteFault {
-    fn is_large(self) -> bool {
+    pub fn is_large(self) -> bool {
         matches!(self, OfColumn(fault) if fault.is_large())
     }
 
-    /// Puts the fault; false if it cannot be put here.
-    fn put(self, r: &mut Random, c: &mut Column, room: &mut usize) -> bool {
+    /// Puts the fault; false if it cannot be put here. The room is more than
+    /// enough or exact.
+    pub fn put(self, r: &mut Random, c: &mut Column, room: &mut usize, exact: usize) -> bool {
         match self {
             OfColumn(fault) => return fault.put(r, c, &mut ALL.clone()),
             GrowerAbove | GrowerBelow => return self.put_grower(r, c),
@@ -203,7 +204,7 @@ impl WriteFault {
                 let last = c.view().used() - 1;
                 c.yields[last] = YIELD_LIMIT + 1;
             }
-            RoomShort => *room = size(c) - 1,
+            RoomShort => *room = exact - 1,
             NoRoom => *room = 0,
         }
         true
@@ -225,7 +226,7 @@ impl WriteFault {
     }
 
     /// The refusal of an else accepted column with this fault alone.
-    fn expected(self) -> u32 {
+    pub fn expected(self) -> u32 {
         match self {
             OfColumn(fault) => fault.expected(&ALL),
             GrowerAbove | GrowerBelow => 6,
@@ -248,7 +249,8 @@ pub fn alone(run: &mut Run) -> Result<(), String> {
         let library = inputs::library(r);
         for fault in &faults {
             let (mut c, mut room) = accepted(r);
-            if fault.is_large() && !r.one_in(8) || !fault.put(r, &mut c, &mut room) {
+            let exact = size(&c);
+            if fault.is_large() && !r.one_in(8) || !fault.put(r, &mut c, &mut room, exact) {
                 continue;
             }
             let with = |why| format!("{fault:?}: {why}");
@@ -263,7 +265,7 @@ pub fn alone(run: &mut Run) -> Result<(), String> {
 
 /// The refusal of two faults: the smaller, since the questions are put in
 /// the order of their numbers.
-fn expected_of(first: WriteFault, second: WriteFault) -> u32 {
+pub fn expected_of(first: WriteFault, second: WriteFault) -> u32 {
     match (first, second) {
         // Without 130 numbers there is no B to ask about.
         (OfColumn(Fault::Block(_)), OfColumn(Fault::DirectoryLength(_))) => 6,
@@ -284,10 +286,11 @@ pub fn pairs(run: &mut Run) -> Result<(), String> {
             for &second in &faults[i + 1..] {
                 let large = first.is_large() || second.is_large();
                 let (mut c, mut room) = accepted(r);
-                if large && !r.one_in(8) || !first.put(r, &mut c, &mut room) {
+                let exact = size(&c);
+                if large && !r.one_in(8) || !first.put(r, &mut c, &mut room, exact) {
                     continue;
                 }
-                if c.directory.len() < 2 || !second.put(r, &mut c, &mut room) {
+                if c.directory.len() < 2 || !second.put(r, &mut c, &mut room, exact) {
                     continue;
                 }
                 let with = |why| format!("{first:?} and {second:?}: {why}");
@@ -351,30 +354,38 @@ pub fn one_slot(run: &mut Run) -> Result<(), String> {
     })
 }
 
-/// Columns that may be unsound or hold a value out of range, with up to two
-/// numbers of the directory replaced.
+/// A column that may be unsound or hold a value out of range.
+pub fn any_column(r: &mut Random) -> Column {
+    let kind = r.pick(&[Kind::Sound, Kind::Full, Kind::Unsound]);
+    inputs::column(r, kind)
+}
+
+/// Up to two numbers of a directory are replaced.
+pub fn replace_some(r: &mut Random, c: &mut Column) {
+    for _ in 0..r.below(3) {
+        let k = c.directory[1].clamp(1, 64) as usize;
+        let at = match r.below(6) {
+            0 => r.below(2),
+            1 | 2 => second::LENGTHS + r.below(k),
+            3 | 4 => second::FENCES + r.below(k),
+            _ => r.below(c.directory.len()),
+        };
+        let old = c.directory[at];
+        c.directory[at] = match r.below(6) {
+            0 => r.pick(&[0, 1, 64, 65, 4_096, 4_097, u32::MAX]),
+            1 => c.growers.len() as u32,
+            2 | 3 => old.wrapping_add(1),
+            _ => old.wrapping_sub(1),
+        };
+    }
+}
+
 pub fn any(run: &mut Run) -> Result<(), String> {
     run.cases(64, 15_000, |run, r| {
         let library = inputs::library(r);
-        let kind = r.pick(&[Kind::Sound, Kind::Full, Kind::Unsound]);
-        let mut c = inputs::column(r, kind);
+        let mut c = any_column(r);
         let room = size(&c) + 100 - r.pick(&[0, 0, 0, 100, 101]);
-        for _ in 0..r.below(3) {
-            let k = c.directory[1].clamp(1, 64) as usize;
-            let at = match r.below(6) {
-                0 => r.below(2),
-                1 | 2 => second::LENGTHS + r.below(k),
-                3 | 4 => second::FENCES + r.below(k),
-                _ => r.below(c.directory.len()),
-            };
-            let old = c.directory[at];
-            c.directory[at] = match r.below(6) {
-                0 => r.pick(&[0, 1, 64, 65, 4_096, 4_097, u32::MAX]),
-                1 => c.growers.len() as u32,
-                2 | 3 => old.wrapping_add(1),
-                _ => old.wrapping_sub(1),
-            };
-        }
+        replace_some(r, &mut c);
         write(r, &mut run.seen, &library, &c, room).map(|_| ())
     })
 }

@@ -17,6 +17,8 @@ mod model;
 mod mutants;
 #[path = "selfcheck/random.rs"]
 mod random;
+#[path = "selfcheck/sheets.rs"]
+mod sheets;
 #[path = "selfcheck/subject.rs"]
 mod subject;
 
@@ -102,6 +104,13 @@ const GROUPS: &[(&str, Group, u64)] = &[
         20_000,
     ),
     ("snapshot damaged", groups::snapshot_damaged, 60_000),
+    ("example: settlement sheets", sheets::sheet_examples, 1),
+    ("sheet against a map", sheets::sheet_columns, 20_000),
+    ("sheet against finds", sheets::sheet_finds, 10_000),
+    ("sheet of any column", sheets::sheet_refused, 40_000),
+    ("sheet at edges of shape and size", sheets::sheet_edges, 1),
+    ("example: settlement output", sheets::settlement_examples, 1),
+    ("settlement of books", sheets::settlement_books, 40_000),
     ("example: weighbridge files", csv::csv_examples, 1),
     (
         "weighbridge file there and back",

@@ -5,7 +5,8 @@ use crate::groups::{guarded, Outcome};
 use crate::model::{snapshot_text, text_of};
 use crate::require;
 use crate::subject::{
-    library_call, library_record, library_step, step_refused, Call, Column, Set, Step,
+    library_call, library_record, library_sheet, library_step, step_refused, Call, Column, Room,
+    Set, Step,
 };
 use second::recorder::{count_index, DE, IN, PQ, RE, RS, SC, UDB, UDF, UTB, UTF};
 use second::*;
@@ -354,7 +355,10 @@ struct Laid {
     hi: u32,
     d: Delivery,
     new_grower: u32,
+    /// Bytes of the text that is written.
     room: usize,
+    /// Numbers lent to a sheet's order and to its work.
+    lists: [usize; 2],
 }
 
 /// Three partitions of 3, 0 and 2 records, fences 30, 40, 60, two free slots.
@@ -375,6 +379,7 @@ fn laid() -> Laid {
         d: Delivery::new(30, 200, 2),
         new_grower: 50,
         room,
+        lists: [5; 2],
     }
 }
 
@@ -576,7 +581,8 @@ fn slice_checks() -> Outcome {
     })
 }
 
-fn write_checks() -> Outcome {
+/// The checks of what writes a text of a column.
+fn text_faults() -> Vec<Fault<Laid>> {
     let mut faults = directory_faults(false);
     faults.push(fault(3, 6, "first unsound", |l: &mut Laid| {
         put(&mut l.c.growers, 0, 31)
@@ -594,7 +600,11 @@ fn write_checks() -> Outcome {
     }
     faults.push(fault(5, 15, "room short by 1", |l: &mut Laid| l.room -= 1));
     faults.push(fault(5, 15, "room 0", |l: &mut Laid| l.room = 0));
-    alone_and_in_pairs(&laid(), &faults, &|l| {
+    faults
+}
+
+fn write_checks() -> Outcome {
+    alone_and_in_pairs(&laid(), &text_faults(), &|l| {
         let mut out = vec![b'#'; l.room];
         let c = &l.c;
         let a = snapshot_write(&c.growers, &c.weights, &c.yields, &c.directory, &mut out);
@@ -602,6 +612,34 @@ fn write_checks() -> Outcome {
         if a.refusal != 0 {
             require_same(&out, &vec![b'#'; l.room])?;
         }
+        Ok(a.refusal)
+    })
+}
+
+fn sheet_checks() -> Outcome {
+    let mut base = laid();
+    // No grower has two records.
+    base.room = sheet_size(5);
+    let mut faults = text_faults();
+    for (i, list) in ["order", "work"].into_iter().enumerate() {
+        for n in [0, 4] {
+            let name = format!("{list} of {n}");
+            faults.push(fault(5, 15, &name, move |l: &mut Laid| l.lists[i] = n));
+        }
+    }
+    alone_and_in_pairs(&base, &faults, &|l| {
+        let before = Room {
+            text: vec![b'#'; l.room],
+            order: vec![6; l.lists[0]],
+            work: vec![7; l.lists[1]],
+        };
+        let mut room = before.clone();
+        let a = library_sheet(&l.c, &mut room);
+        require_zero(a.refusal, a.written == 0)?;
+        require!(
+            a.refusal == 0 || room == before,
+            "refused, but a slice changed"
+        );
         Ok(a.refusal)
     })
 }
@@ -639,6 +677,13 @@ fn directory_length_checks() -> Outcome {
                 let c = &l.c;
                 let a = snapshot_write(&c.growers, &c.weights, &c.yields, &c.directory, &mut []);
                 require!(a.refusal == expected, "{len} write: {a:?}");
+                let mut room = Room {
+                    text: Vec::new(),
+                    order: Vec::new(),
+                    work: Vec::new(),
+                };
+                let a = library_sheet(c, &mut room);
+                require!(a.refusal == expected, "{len} sheet: {a:?}");
             }
         }
     }
@@ -770,11 +815,8 @@ fn read_checks() -> Outcome {
 }
 
 /// Faults of line 1: 14 goes ahead of 12.
-fn read_line_1_checks() -> Outcome {
-    let mut faults = vec![
-        fault(0, 3, "short growers", |t: &mut Text| {
-            t.slots[0] = t.slots[1] - 1
-        }),
+fn line_1_faults() -> Vec<Fault<Text>> {
+    vec![
         fault(1, 14, "B 0", |t: &mut Text| t.lines[0][0] = 0),
         fault(1, 14, "B 4097", |t: &mut Text| t.lines[0][0] = 4_097),
         fault(1, 14, "B wide", |t: &mut Text| {
@@ -798,9 +840,42 @@ fn read_line_1_checks() -> Outcome {
         }),
         fault(1, 14, "no digit", |t: &mut Text| t.bytes.push((10, b' '))),
         fault(1, 14, "letter", |t: &mut Text| t.bytes.push((32, b'x'))),
-    ];
+    ]
+}
+
+fn read_line_1_checks() -> Outcome {
+    let mut faults = line_1_faults();
+    faults.push(fault(0, 3, "short growers", |t: &mut Text| {
+        t.slots[0] = t.slots[1] - 1
+    }));
     faults.push(fault(2, 12, "two slots", |t: &mut Text| t.slots = [2; 3]));
     alone_and_in_pairs(&text_base(), &faults, &read_call)
+}
+
+/// The program's refusal number, or 0 for a sheet of three growers.
+fn settlement_call(t: &Text) -> Result<u32, String> {
+    let output = settlement(&t.bytes());
+    let number = (0..=15).find(|n| output == format!("{n:>11}\n").as_bytes());
+    let is_sheet = output.len() == sheet_size(3);
+    let shown = output.escape_ascii();
+    number
+        .or(is_sheet.then_some(0))
+        .ok_or(format!("prints \"{shown}\""))
+}
+
+/// Of line 1 first 14, then 12; then 14 of the rest.
+fn settlement_checks() -> Outcome {
+    let mut faults = line_1_faults();
+    for m in [513, SLOT_LIMIT as u64] {
+        let name = format!("M {m}");
+        faults.push(fault(2, 12, &name, move |t: &mut Text| t.lines[0][1] = m));
+    }
+    for mut f in body_faults() {
+        f.place = 3;
+        faults.push(f);
+    }
+    faults.push(fault(3, 14, "M 512", |t: &mut Text| t.lines[0][1] = 512));
+    alone_and_in_pairs(&text_base(), &faults, &settlement_call)
 }
 
 /// Input of an import.
@@ -1179,7 +1254,7 @@ fn recorder_checks() -> Vec<(&'static str, Box<dyn Fn() -> Outcome>)> {
 
 pub fn all() -> Vec<(String, Outcome)> {
     let mut list = recorder_checks();
-    let rest: [(&str, fn() -> Outcome); 21] = [
+    let rest: [(&str, fn() -> Outcome); 23] = [
         ("cost of a layout", cost_checks),
         ("planner", planner_checks),
         ("apply layout", apply_checks),
@@ -1193,6 +1268,7 @@ pub fn all() -> Vec<(String, Outcome)> {
         ("previous grower", || step_checks(Step::Previous(40), 0..3)),
         ("partition slice", slice_checks),
         ("snapshot write", write_checks),
+        ("sheet", sheet_checks),
         ("directory of another length", directory_length_checks),
         ("snapshot read", read_checks),
         ("snapshot read, line 1", read_line_1_checks),
@@ -1200,6 +1276,7 @@ pub fn all() -> Vec<(String, Outcome)> {
         ("export", export_checks),
         ("layplan with calls", || layplan_checks(true)),
         ("layplan without calls", || layplan_checks(false)),
+        ("settlement", settlement_checks),
         ("tally", tally_checks),
         ("ledger", ledger_checks),
     ];

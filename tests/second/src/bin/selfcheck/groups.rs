@@ -790,7 +790,7 @@ pub fn snapshot_round_trip(s: &dyn Subject, cases: u64) -> Outcome {
 }
 
 /// Refusal that reading a text into `slots` slots must give.
-fn expected_read(text: &[u8], slots: usize) -> u32 {
+pub fn expected_read(text: &[u8], slots: usize) -> u32 {
     let head = text.get(..34).and_then(|h| lines_of(h, &|_, _| Some(3)));
     let Some(head) = head.filter(|h| h.len() == 1) else {
         return 14;
@@ -838,7 +838,7 @@ fn expected_read(text: &[u8], slots: usize) -> u32 {
 }
 
 /// One random damage to a text of numbers.
-fn damage(r: &mut Random, text: &mut Vec<u8>) {
+pub fn damage(r: &mut Random, text: &mut Vec<u8>) {
     if text.is_empty() {
         text.push(b'0');
         return;

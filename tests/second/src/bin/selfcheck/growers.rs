@@ -59,7 +59,7 @@ pub fn grower_examples(s: &dyn Subject, _: u64) -> Outcome {
     Ok(())
 }
 
-fn sound_column(r: &mut Random) -> Column {
+pub fn sound_column(r: &mut Random) -> Column {
     match r.below(20) {
         0 => random::long_column(r),
         1..=6 => random::laid_column(r),
@@ -69,7 +69,7 @@ fn sound_column(r: &mut Random) -> Column {
 
 /// A column of any kind: unsound in one of three, and a weight or a yield out
 /// of range in one of three.
-fn any_column(r: &mut Random) -> Column {
+pub fn any_column(r: &mut Random) -> Column {
     let mut c = sound_column(r);
     let used = c.used();
     if used > 0 && r.one_in(3) {

@@ -2,6 +2,7 @@
 
 use crate::subject::{step_refused, Answer, Call, Column, Set, Step};
 use second::*;
+use std::collections::BTreeMap;
 
 /// The column as a list of lists: the slots follow by joining them.
 #[derive(Clone, Debug)]
@@ -337,16 +338,21 @@ pub fn equation_cost(card: &PriceCard, n: usize, histograms: &[u32], ends: &[u32
     total
 }
 
-/// Text of lines of numbers in 11 columns.
-pub fn text_of(lines: &[Vec<u64>]) -> Vec<u8> {
+/// Text of lines of numbers in so many columns each.
+pub fn text_in(width: usize, lines: &[Vec<u64>]) -> Vec<u8> {
     let mut text = String::new();
     for line in lines {
         for n in line {
-            text.push_str(&format!("{n:>11}"));
+            text.push_str(&format!("{n:>width$}"));
         }
         text.push('\n');
     }
     text.into_bytes()
+}
+
+/// Text of lines of numbers in 11 columns.
+pub fn text_of(lines: &[Vec<u64>]) -> Vec<u8> {
+    text_in(11, lines)
 }
 
 /// Lines of numbers, if the text is exactly what `text_of` prints for them.
@@ -392,4 +398,26 @@ pub fn snapshot_text(c: &Column) -> Vec<u8> {
         ]);
     }
     text_of(&lines)
+}
+
+/// The sheet of a sound column and the used slots in its order, by a map from
+/// each grower to his slots.
+pub fn sheet(c: &Column) -> (Vec<u8>, Vec<u32>) {
+    let mut slots: BTreeMap<u32, Vec<usize>> = BTreeMap::new();
+    for s in 0..c.used() {
+        slots.entry(c.growers[s]).or_default().push(s);
+    }
+    let mut lines: Vec<Vec<u64>> = Vec::new();
+    for (&grower, own) in &slots {
+        let sum = |of: fn(Delivery) -> u64| own.iter().map(|&s| of(c.slot(s))).sum();
+        lines.push(vec![
+            u64::from(grower),
+            own.len() as u64,
+            sum(|d| u64::from(d.weight)),
+            sum(|d| u64::from(d.weight) * u64::from(d.oil_yield)),
+        ]);
+    }
+    lines.push((1..4).map(|i| lines.iter().map(|l| l[i]).sum()).collect());
+    let order = slots.into_values().flatten().map(|s| s as u32);
+    (text_in(20, &lines), order.collect())
 }

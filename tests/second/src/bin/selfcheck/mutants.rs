@@ -4,6 +4,8 @@
 use crate::csv;
 use crate::groups::{self, Outcome};
 use crate::growers;
+use crate::model::text_in;
+use crate::sheets;
 use crate::subject::*;
 use second::planner::layout_of_bits;
 use second::recorder::*;
@@ -29,6 +31,8 @@ struct Mutant {
     export: Option<fn(usize, &Column, &mut [u8]) -> TextAnswer>,
     tally: Option<fn(&mut Tally, &Counts) -> u32>,
     layplan: Option<fn(&[u8]) -> Vec<u8>>,
+    sheet: Option<fn(&Column, &mut Room) -> TextAnswer>,
+    settlement: Option<fn(&[u8]) -> Vec<u8>>,
 }
 
 impl Subject for Mutant {
@@ -113,6 +117,14 @@ impl Subject for Mutant {
 
     fn layplan(&self, text: &[u8]) -> Vec<u8> {
         self.layplan.unwrap_or(layplan)(text)
+    }
+
+    fn sheet(&self, c: &Column, room: &mut Room) -> TextAnswer {
+        self.sheet.unwrap_or(library_sheet)(c, room)
+    }
+
+    fn settlement(&self, text: &[u8]) -> Vec<u8> {
+        self.settlement.unwrap_or(settlement)(text)
     }
 }
 
@@ -854,6 +866,267 @@ fn blanked_tail(c: &Column, out: &mut [u8]) -> TextAnswer {
     a
 }
 
+/// Records, kg and oil of these records.
+fn sums(records: &[Delivery]) -> Vec<u64> {
+    let weight = |d: &Delivery| u64::from(d.weight);
+    vec![
+        records.len() as u64,
+        records.iter().map(weight).sum(),
+        records
+            .iter()
+            .map(|d| weight(d) * u64::from(d.oil_yield))
+            .sum(),
+    ]
+}
+
+/// A grower's line of these records, which are his.
+fn line_of(records: &[Delivery]) -> Vec<u64> {
+    [vec![u64::from(records[0].grower)], sums(records)].concat()
+}
+
+/// The lines of the right sheet.
+fn right_lines(c: &Column) -> Vec<Vec<u64>> {
+    let mut records = c.records();
+    records.sort_unstable();
+    let of_growers = records.chunk_by(|x, y| x.grower == y.grower);
+    let mut lines: Vec<Vec<u64>> = of_growers.map(line_of).collect();
+    lines.push(sums(&records));
+    lines
+}
+
+/// An accepted sheet has this text, as much of it as there is room for.
+fn with_text(c: &Column, room: &mut Room, text: fn(&Column) -> Vec<u8>) -> TextAnswer {
+    let mut a = library_sheet(c, room);
+    if a.refusal == 0 {
+        let text = text(c);
+        a.written = text.len().min(room.text.len());
+        room.text[..a.written].copy_from_slice(&text[..a.written]);
+    }
+    a
+}
+
+/// Growers stand in the order of their first slots.
+fn in_slot_order(c: &Column, room: &mut Room) -> TextAnswer {
+    with_text(c, room, |c| {
+        let mut lines = right_lines(c);
+        let last = lines.pop();
+        let place = |l: &Vec<u64>| c.growers.iter().position(|&g| u64::from(g) == l[0]);
+        lines.sort_by_key(place);
+        lines.extend(last);
+        text_in(20, &lines)
+    })
+}
+
+/// A grower is listed once for each run of his records.
+fn once_per_run(c: &Column, room: &mut Room) -> TextAnswer {
+    with_text(c, room, |c| {
+        let records = c.records();
+        let runs = records.chunk_by(|x, y| x.grower == y.grower);
+        let mut lines: Vec<Vec<u64>> = runs.map(line_of).collect();
+        lines.push(sums(&records));
+        text_in(20, &lines)
+    })
+}
+
+/// The last line has the last partition's totals.
+fn last_partition_totals(c: &Column, room: &mut Room) -> TextAnswer {
+    with_text(c, room, |c| {
+        let mut lines = right_lines(c);
+        lines.pop();
+        lines.push(sums(&c.records()[slots_of(c, c.k() - 1)]));
+        text_in(20, &lines)
+    })
+}
+
+/// Oil is all kg times the first record's yield.
+fn oil_of_first_yield(c: &Column, room: &mut Room) -> TextAnswer {
+    with_text(c, room, |c| {
+        let mut lines = right_lines(c);
+        let last = lines.len() - 1;
+        for line in &mut lines[..last] {
+            let first = c
+                .records()
+                .into_iter()
+                .find(|d| u64::from(d.grower) == line[0]);
+            line[3] = line[2] * first.map_or(0, |d| u64::from(d.oil_yield));
+        }
+        lines[last][2] = lines[..last].iter().map(|line| line[3]).sum();
+        text_in(20, &lines)
+    })
+}
+
+/// Every number stands in 11 columns.
+fn eleven_columns(c: &Column, room: &mut Room) -> TextAnswer {
+    with_text(c, room, |c| text_in(11, &right_lines(c)))
+}
+
+/// Nothing is printed of an empty column.
+fn empty_as_nothing(c: &Column, room: &mut Room) -> TextAnswer {
+    with_text(c, room, |c| match c.used() {
+        0 => Vec::new(),
+        _ => text_in(20, &right_lines(c)),
+    })
+}
+
+/// The column's records in one partition, of whose fence no grower is past.
+fn in_one_partition(c: &Column) -> Column {
+    let mut one = c.clone();
+    one.directory[1..].fill(0);
+    one.directory[1..3].copy_from_slice(&[1, c.used() as u32]);
+    one.directory[FENCES] = u32::MAX;
+    one
+}
+
+/// An unsound column is printed.
+fn unsound_printed(c: &Column, room: &mut Room) -> TextAnswer {
+    library_sheet(&in_one_partition(c), room)
+}
+
+/// 8 goes ahead of 6.
+fn values_ahead_of_soundness(c: &Column, room: &mut Room) -> TextAnswer {
+    let mut a = library_sheet(c, room);
+    if a.refusal == 6 && c.records().iter().any(|d| !d.in_range()) {
+        a.refusal = 8;
+    }
+    a
+}
+
+/// 8 is not asked of the last record.
+fn last_record_not_judged(c: &Column, room: &mut Room) -> TextAnswer {
+    let mut good = c.clone();
+    if let Some(last) = c.used().checked_sub(1) {
+        good.weights[last] = c.weights[last].min(WEIGHT_LIMIT);
+        good.yields[last] = c.yields[last].min(YIELD_LIMIT);
+    }
+    library_sheet(&good, room)
+}
+
+/// The text needs room for a line a record.
+fn line_for_each_record(c: &Column, room: &mut Room) -> TextAnswer {
+    let before = room.clone();
+    let a = library_sheet(c, room);
+    if a.refusal != 0 || room.text.len() >= sheet_size(c.used()) {
+        return a;
+    }
+    *room = before;
+    TextAnswer {
+        refusal: 15,
+        written: 0,
+    }
+}
+
+/// Order and work may be short.
+fn lists_not_asked(c: &Column, room: &mut Room) -> TextAnswer {
+    let (order, work) = (room.order.len(), room.work.len());
+    room.order.resize(order.max(c.used()), 0);
+    room.work.resize(work.max(c.used()), 0);
+    let a = library_sheet(c, room);
+    room.order.truncate(order);
+    room.work.truncate(work);
+    a
+}
+
+/// What is refused by 15 has its order written.
+fn order_when_refused(c: &Column, room: &mut Room) -> TextAnswer {
+    let a = library_sheet(c, room);
+    if a.refusal == 15 {
+        for (slot, to) in room.order.iter_mut().enumerate() {
+            *to = slot as u32;
+        }
+    }
+    a
+}
+
+/// Of one grower the highest slot comes first.
+fn ties_fall(c: &Column, room: &mut Room) -> TextAnswer {
+    let a = library_sheet(c, room);
+    if a.refusal == 0 {
+        let order = &mut room.order[..c.used()];
+        order.sort_by_key(|&slot| (c.growers[slot as usize], u32::MAX - slot));
+    }
+    a
+}
+
+/// The work slice keeps a number.
+fn work_left(c: &Column, room: &mut Room) -> TextAnswer {
+    let a = library_sheet(c, room);
+    if let (0, Some(last)) = (a.refusal, c.used().checked_sub(1)) {
+        room.work[last] = 1;
+    }
+    a
+}
+
+/// Order and work are cleared to their ends.
+fn lists_cleared(c: &Column, room: &mut Room) -> TextAnswer {
+    let a = library_sheet(c, room);
+    if a.refusal == 0 {
+        room.order[c.used()..].fill(0);
+        room.work[c.used()..].fill(0);
+    }
+    a
+}
+
+/// Bytes past the sheet are blanked.
+fn blanked_sheet(c: &Column, room: &mut Room) -> TextAnswer {
+    let a = library_sheet(c, room);
+    if a.refusal == 0 {
+        room.text[a.written..].fill(b' ');
+    }
+    a
+}
+
+/// A book of 513 deliveries is printed.
+fn slot_too_many(text: &[u8]) -> Vec<u8> {
+    let mut c = Column {
+        growers: vec![0; 513],
+        weights: vec![0; 513],
+        yields: vec![0; 513],
+        directory: Vec::new(),
+    };
+    let read = Library.snapshot_read(text, &mut c);
+    c.directory = read.directory.to_vec();
+    match read.refusal {
+        0 => text_in(20, &right_lines(&c)),
+        _ => settlement(text),
+    }
+}
+
+/// 14 always goes ahead of 12.
+fn book_ahead_of_full(text: &[u8]) -> Vec<u8> {
+    let out = settlement(text);
+    match out == b"         12\n" && groups::expected_read(text, SLOT_LIMIT) == 14 {
+        true => b"         14\n".to_vec(),
+        false => out,
+    }
+}
+
+/// The refusal number stands in 20 columns.
+fn wide_refusal(text: &[u8]) -> Vec<u8> {
+    let out = settlement(text);
+    match out.len() {
+        12 => [&b"         "[..], &out].concat(),
+        _ => out,
+    }
+}
+
+/// A line is printed ahead of the refusal number.
+fn refusal_not_alone(text: &[u8]) -> Vec<u8> {
+    let out = settlement(text);
+    match out.len() {
+        12 => [&text_in(20, &[vec![0; 3]])[..], &out].concat(),
+        _ => out,
+    }
+}
+
+/// A byte after the book is ignored.
+fn book_tail_ignored(text: &[u8]) -> Vec<u8> {
+    let out = settlement(text);
+    match text.split_last() {
+        Some((_, shorter)) if out == b"         14\n" => settlement(shorter),
+        _ => out,
+    }
+}
+
 /// An import that refuses some texts that should be accepted.
 fn refused_if(text: &[u8], c: &mut Column, is_bad: bool) -> ImportAnswer {
     let before = c.clone();
@@ -1084,10 +1357,28 @@ fn export(f: fn(usize, &Column, &mut [u8]) -> TextAnswer) -> Mutant {
     }
 }
 
+fn sheet(f: fn(&Column, &mut Room) -> TextAnswer) -> Mutant {
+    Mutant {
+        sheet: Some(f),
+        ..Mutant::default()
+    }
+}
+
+fn settled(f: fn(&[u8]) -> Vec<u8>) -> Mutant {
+    Mutant {
+        settlement: Some(f),
+        ..Mutant::default()
+    }
+}
+
 pub fn all() -> Vec<(String, Outcome)> {
     use csv::{csv_damaged, csv_examples, csv_round_trip};
     use groups::*;
     use growers::{grower_edges, grower_examples, grower_ledger, grower_slots, grower_stepping};
+    use sheets::{
+        settlement_books, settlement_examples, sheet_columns, sheet_edges, sheet_examples,
+        sheet_finds, sheet_refused,
+    };
     let list: Vec<(&str, Mutant, &[Group])> = vec![
         (
             "t without its own partition",
@@ -1349,6 +1640,111 @@ pub fn all() -> Vec<(String, Outcome)> {
                 ..Mutant::default()
             },
             &[snapshot_round_trip],
+        ),
+        (
+            "growers in slot order",
+            sheet(in_slot_order),
+            &[sheet_examples, sheet_columns, sheet_finds, sheet_edges],
+        ),
+        (
+            "a grower listed once for each run",
+            sheet(once_per_run),
+            &[sheet_examples, sheet_columns, sheet_finds, sheet_edges],
+        ),
+        (
+            "totals of the last partition alone",
+            sheet(last_partition_totals),
+            &[sheet_examples, sheet_columns, sheet_finds, sheet_edges],
+        ),
+        (
+            "oil of the first yield",
+            sheet(oil_of_first_yield),
+            &[sheet_examples, sheet_columns, sheet_finds],
+        ),
+        (
+            "sheet in 11 columns",
+            sheet(eleven_columns),
+            &[sheet_examples, sheet_columns, sheet_finds, sheet_edges],
+        ),
+        (
+            "empty column printed as nothing",
+            sheet(empty_as_nothing),
+            &[sheet_examples, sheet_columns, sheet_finds],
+        ),
+        (
+            "unsound column printed",
+            sheet(unsound_printed),
+            &[sheet_examples, sheet_refused],
+        ),
+        (
+            "8 ahead of soundness",
+            sheet(values_ahead_of_soundness),
+            &[sheet_refused],
+        ),
+        (
+            "8 not asked of the last record",
+            sheet(last_record_not_judged),
+            &[sheet_refused],
+        ),
+        (
+            "room for a line a record",
+            sheet(line_for_each_record),
+            &[sheet_examples, sheet_columns, sheet_refused, sheet_edges],
+        ),
+        (
+            "order and work not asked for",
+            sheet(lists_not_asked),
+            &[sheet_columns, sheet_refused],
+        ),
+        (
+            "order written when refused",
+            sheet(order_when_refused),
+            &[sheet_columns, sheet_refused],
+        ),
+        (
+            "slots of one grower in falling order",
+            sheet(ties_fall),
+            &[sheet_examples, sheet_columns, sheet_refused, sheet_edges],
+        ),
+        (
+            "work not all zeros",
+            sheet(work_left),
+            &[sheet_examples, sheet_columns, sheet_refused, sheet_edges],
+        ),
+        (
+            "order and work cleared past M",
+            sheet(lists_cleared),
+            &[sheet_examples, sheet_columns, sheet_refused],
+        ),
+        (
+            "bytes past the sheet blanked",
+            sheet(blanked_sheet),
+            &[sheet_examples, sheet_columns, sheet_refused],
+        ),
+        (
+            "a slot too many in the program",
+            settled(slot_too_many),
+            &[settlement_examples],
+        ),
+        (
+            "14 ahead of 12 in the program",
+            settled(book_ahead_of_full),
+            &[settlement_examples, settlement_books],
+        ),
+        (
+            "refusal number in 20 columns",
+            settled(wide_refusal),
+            &[settlement_examples, settlement_books],
+        ),
+        (
+            "refusal number not alone",
+            settled(refusal_not_alone),
+            &[settlement_examples, settlement_books],
+        ),
+        (
+            "book with a byte left over",
+            settled(book_tail_ignored),
+            &[settlement_books],
         ),
         (
             "LF alone ends no line",

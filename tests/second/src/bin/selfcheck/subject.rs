@@ -230,6 +230,26 @@ pub fn library_step(c: &Column, step: &Step) -> GrowerAnswer {
     }
 }
 
+/// What writing a sheet is lent.
+#[derive(Clone, Debug, PartialEq, Eq)]
+pub struct Room {
+    pub text: Vec<u8>,
+    pub order: Vec<u32>,
+    pub work: Vec<u32>,
+}
+
+pub fn library_sheet(c: &Column, room: &mut Room) -> TextAnswer {
+    sheet_write(
+        &c.growers,
+        &c.weights,
+        &c.yields,
+        &c.directory,
+        &mut room.text,
+        &mut room.order,
+        &mut room.work,
+    )
+}
+
 /// The calls that a wrong variant may replace.
 pub trait Subject {
     fn call(&self, c: &mut Column, call: &Call) -> Answer {
@@ -291,6 +311,14 @@ pub trait Subject {
 
     fn layplan(&self, text: &[u8]) -> Vec<u8> {
         layplan(text)
+    }
+
+    fn sheet(&self, c: &Column, room: &mut Room) -> TextAnswer {
+        library_sheet(c, room)
+    }
+
+    fn settlement(&self, text: &[u8]) -> Vec<u8> {
+        settlement(text)
     }
 }
 

@@ -1,0 +1,2 @@
+-- What a batch of slots holds.
+pub mod Batches

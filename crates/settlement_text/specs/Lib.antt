@@ -1,0 +1,2 @@
+-- A text at the front of the output's array.
+pub mod Texts

@@ -1,0 +1,3 @@
+-- Slots of a part of the growers, and what a sheet's checks and its call answer.
+pub mod PartOrder
+pub mod SheetAnswers

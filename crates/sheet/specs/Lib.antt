@@ -1,0 +1,2 @@
+-- What checking a column for a sheet finds.
+pub mod Answers

@@ -1,0 +1,2 @@
+-- Runs of one grower's slots in an order.
+pub mod Runs

@@ -1,0 +1,773 @@
+//! Settlement sheets: columns good and bad, with every kind of room for the
+//! text, the order and the work.
+
+use crate::broken;
+use crate::calls::{directory_text, slots_text, Pair, NAMES};
+use crate::inputs::{self, Kind, EDGE_COUNTS, MIXES};
+use crate::lists;
+use crate::memory::Memory;
+use crate::snapshots::writing::{self, any_column, replace_some, WriteFault};
+use crate::text::{old_bytes, old_slots, shown, TEXT};
+use crate::{Run, Test};
+use meltusk::{sheet_second, spread_growers, Column, Empty, Library, Seen, Slots, View, LIBRARIES};
+use second::random::Random;
+use second::{sheet_size, BLOCK_LIMIT, DIRECTORY_LEN, FENCES, LENGTHS, SLOT_LIMIT, WEIGHT_LIMIT};
+use std::collections::{BTreeMap, BTreeSet};
+use std::fmt::Write;
+
+/// The refusals of the call, 0 for accepted.
+const ANSWERS: [(&str, &[u32]); 1] = [("write_sheet", &[0, 2, 3, 6, 8, 15])];
+
+const WRITTEN: [&str; 21] = [
+    "sheet: no delivery in one partition",
+    "sheet: several partitions, all empty",
+    "sheet: an empty partition beside others",
+    "sheet: 64 partitions",
+    "sheet: one grower with several deliveries",
+    "sheet: several growers, all different",
+    "sheet: a grower's deliveries not side by side",
+    "sheet: growers of a partition not in order",
+    "sheet: grower 0",
+    "sheet: grower 4,294,967,295",
+    "sheet: no free slot",
+    "sheet: a free slot out of range",
+    "sheet: text exact",
+    "sheet: text to spare",
+    "sheet: text for every slot's line",
+    "sheet: order exact",
+    "sheet: order to spare",
+    "sheet: work exact",
+    "sheet: work to spare",
+    "sheet: more than 8,192 growers, text exact",
+    "sheet: more than 16,384 growers, text exact",
+];
+
+const SHORT: [&str; 6] = [
+    "sheet: text one byte short",
+    "sheet: no text",
+    "sheet: order one short",
+    "sheet: work one short",
+    "sheet: more than 8,192 growers, text one byte short",
+    "sheet: more than 16,384 growers, text one byte short",
+];
+
+/// Of a column refused by 6 although its directory has its shape.
+const UNSOUND: &str = "sheet: an unsound column";
+
+/// Growers about the counts at which one that works in batches of 8,192 has to
+/// go on.
+const MANY: [usize; 9] = [
+    8_191, 8_192, 8_193, 16_383, 16_384, 16_385, 20_000, 24_576, 24_577,
+];
+
+/// How many bytes and numbers are lent.
+#[derive(Clone, Copy, Debug)]
+struct Room {
+    text: usize,
+    order: usize,
+    work: usize,
+}
+
+/// The sheet and the order of the slots by another writer than those compared,
+/// of a column whose directory has its shape.
+fn sheet(c: &Column) -> (Vec<u8>, Vec<u32>) {
+    let mut growers: BTreeMap<u32, ([u64; 3], Vec<u32>)> = BTreeMap::new();
+    let mut all = [0; 3];
+    for i in 0..c.view().used() {
+        let d = c.view().slot(i);
+        let (sums, slots) = growers.entry(d.grower).or_default();
+        let (weight, oil_yield) = (u64::from(d.weight), u64::from(d.oil_yield));
+        for sums in [sums, &mut all] {
+            for (sum, more) in sums.iter_mut().zip([1, weight, weight * oil_yield]) {
+                *sum += more;
+            }
+        }
+        slots.push(i as u32);
+    }
+    let mut text = String::new();
+    for (grower, ([records, weight, oil], _)) in &growers {
+        let _ = writeln!(text, "{grower:>20}{records:>20}{weight:>20}{oil:>20}");
+    }
+    let _ = writeln!(text, "{:>20}{:>20}{:>20}", all[0], all[1], all[2]);
+    let order = growers.into_values().flat_map(|(_, slots)| slots);
+    (text.into_bytes(), order.collect())
+}
+
+/// The room that a column of proper shape needs.
+fn exact(c: &Column) -> Room {
+    let used = c.view().used();
+    let mut growers = c.growers[..used].to_vec();
+    growers.sort_unstable();
+    growers.dedup();
+    Room {
+        text: sheet_size(growers.len()),
+        order: used,
+        work: used,
+    }
+}
+
+/// What the call is lent to write.
+#[derive(Clone)]
+struct Lent {
+    text: Memory<u8>,
+    /// Order and work.
+    lists: Memory,
+}
+
+const LISTS: [&str; 2] = ["order", "work"];
+
+impl Lent {
+    fn new(r: &mut Random, room: Room) -> Lent {
+        let [order, work, _] = old_slots(r, [room.order, room.work, 0]);
+        let text = old_bytes(r, room.text);
+        Lent {
+            text: Memory::new(r, &[&text]),
+            lists: Memory::new(r, &[&order, &work]),
+        }
+    }
+
+    fn lend<A>(&mut self, call: impl FnOnce(&mut [u8], &mut [u32], &mut [u32]) -> A) -> A {
+        let Lent { text, lists } = self;
+        text.lend(|[text]| lists.lend(|[order, work]| call(text, order, work)))
+    }
+
+    fn equals(&self, other: &Lent) -> bool {
+        self.text.equals(&other.text) && self.lists.equals(&other.lists)
+    }
+
+    /// Whether an accepted column left its sheet, its order and zeros, and past
+    /// them what was there before.
+    fn holds(&self, before: &Lent, (text, order): (&[u8], &[u32])) -> bool {
+        fn is<T: PartialEq>(after: &[T], before: &[T], front: &[T]) -> bool {
+            after.starts_with(front) && after[front.len()..] == before[front.len()..]
+        }
+        let (lists, old) = (&self.lists, &before.lists);
+        is(self.text.slice(0), before.text.slice(0), text)
+            && is(lists.slice(0), old.slice(0), order)
+            && is(lists.slice(1), old.slice(1), &vec![0; order.len()])
+    }
+}
+
+/// Notes a column that was to be written as a sheet.
+fn note(seen: &mut Seen, c: &Column, room: Room, refusal: u32) {
+    seen.answer("write_sheet", refusal);
+    if !matches!(refusal, 0 | 15) {
+        return;
+    }
+    let (k, used) = (c.view().partitions(), c.view().used());
+    let lengths = &c.directory[LENGTHS..LENGTHS + k];
+    let growers = &c.growers[..used];
+    let need = exact(c);
+    let lines = (need.text - sheet_size(0)) / 81;
+    if refusal == 15 {
+        let enough = room.order >= used && room.work >= used;
+        let is_short = enough && room.text + 1 == need.text;
+        let there = [
+            is_short,
+            enough && room.text == 0,
+            room.text >= need.text && room.order + 1 == used && room.work >= used,
+            room.text >= need.text && room.work + 1 == used && room.order >= used,
+            is_short && lines > 8_192,
+            is_short && lines > 16_384,
+        ];
+        SHORT
+            .iter()
+            .zip(there)
+            .for_each(|(kind, there)| seen.kind(there, kind));
+        return;
+    }
+    let runs = growers.chunk_by(|a, b| a == b).count();
+    let starts = (0..k).map(|p| c.view().start(p)..c.view().start(p + 1));
+    let falls = starts.into_iter().any(|part| !growers[part].is_sorted());
+    let there = [
+        k == 1 && used == 0,
+        k > 1 && used == 0,
+        used > 0 && lengths.contains(&0),
+        k == BLOCK_LIMIT,
+        lines == 1 && used > 1,
+        lines == used && used > 1,
+        runs > lines,
+        falls,
+        growers.contains(&0),
+        growers.contains(&u32::MAX),
+        used == c.growers.len(),
+        c.weights[used..].iter().any(|&w| w > WEIGHT_LIMIT),
+        room.text == need.text,
+        room.text > need.text,
+        room.text >= sheet_size(c.growers.len()),
+        room.order == used && used > 0,
+        room.order > used,
+        room.work == used && used > 0,
+        room.work > used,
+        lines > 8_192 && room.text == need.text,
+        lines > 16_384 && room.text == need.text,
+    ];
+    WRITTEN
+        .iter()
+        .zip(there)
+        .for_each(|(kind, there)| seen.kind(there, kind));
+}
+
+/// Writes the sheet of a column by both; compares answers, texts, lists, slices
+/// and guards, and what is left with a third writer. Answers the refusal.
+fn write(
+    r: &mut Random,
+    seen: &mut Seen,
+    library: &Library,
+    c: &Column,
+    room: Room,
+) -> Result<u32, String> {
+    let before = Lent::new(r, room);
+    let (mut compiled_lent, mut second_lent) = (before.clone(), before.clone());
+    let mut slots = Memory::new(r, &[&c.growers, &c.weights, &c.yields, &c.directory]);
+    let slots_before = slots.clone();
+    let compiled = slots.lend(|[growers, weights, yields, directory]| {
+        let column = View {
+            directory,
+            growers,
+            weights,
+            yields,
+        };
+        compiled_lent.lend(|text, order, work| library.write_sheet(&column, text, order, work))
+    });
+    let second = second_lent.lend(|text, order, work| sheet_second(&c.view(), text, order, work));
+    note(seen, c, room, second.refusal);
+    let slices = slots.counts(&NAMES).chain(before.text.counts(&TEXT));
+    seen.lent(
+        "write_sheet",
+        library,
+        slices.chain(before.lists.counts(&LISTS)),
+    );
+    let same =
+        compiled == second && compiled_lent.equals(&second_lent) && slots.equals(&slots_before);
+    let left = match second.refusal {
+        0 => {
+            let (text, order) = sheet(c);
+            second.bytes == text.len() as u64 && compiled_lent.holds(&before, (&text, &order))
+        }
+        _ => second.bytes == 0 && compiled_lent.equals(&before),
+    };
+    if same && left {
+        return Ok(second.refusal);
+    }
+    Err(format!(
+        "write_sheet: compiled {compiled:?}, second {second:?}, left as it has to be {left}; {}; {}; {}; \
+         text {}, {room:?}, {}, {}",
+        compiled_lent.text.compared(&second_lent.text, &TEXT),
+        compiled_lent.lists.compared(&second_lent.lists, &LISTS),
+        slots.compared(&slots_before, &NAMES),
+        shown(compiled_lent.text.slice(0)),
+        directory_text(&c.directory),
+        slots_text(&c.growers, &c.weights, &c.yields)
+    ))
+}
+
+/// A column of proper shape is accepted, or refused by 15.
+fn accepted(
+    run: &mut Run,
+    r: &mut Random,
+    library: &Library,
+    c: &Column,
+    room: Room,
+) -> Result<(), String> {
+    let need = exact(c);
+    let enough = room.text >= need.text && room.order >= need.order && room.work >= need.work;
+    let expected = if enough { 0 } else { 15 };
+    match write(r, &mut run.seen, library, c, room)? {
+        refusal if refusal == expected => Ok(()),
+        refusal => Err(format!("{room:?} of {need:?}: refusal {refusal}")),
+    }
+}
+
+/// A column with each room exact, each alone one short, and some to spare.
+fn rooms(run: &mut Run, r: &mut Random, library: &Library, c: &Column) -> Result<(), String> {
+    let need = exact(c);
+    let (text, used) = (need.text, need.order);
+    let spare = |r: &mut Random, n: usize| n + r.pick(&[0, 1, 3, 200]);
+    let all = Room {
+        text: sheet_size(c.growers.len()),
+        order: c.growers.len(),
+        work: c.growers.len(),
+    };
+    let any = Room {
+        text: spare(r, text),
+        order: spare(r, used),
+        work: spare(r, used),
+    };
+    let short = |n: usize| n.saturating_sub(1);
+    let few = r.below(text);
+    for room in [
+        need,
+        all,
+        any,
+        Room {
+            text: text - 1,
+            ..need
+        },
+        Room {
+            text: text - 1,
+            ..all
+        },
+        Room { text: few, ..any },
+        Room { text: 0, ..need },
+        Room {
+            order: short(used),
+            ..any
+        },
+        Room {
+            work: short(used),
+            ..any
+        },
+        Room {
+            order: short(used),
+            ..need
+        },
+        Room {
+            work: short(used),
+            ..need
+        },
+        Room { order: 0, ..any },
+        Room { work: 0, ..any },
+    ] {
+        accepted(run, r, library, c, room)?;
+    }
+    Ok(())
+}
+
+/// The sheet of 01's main column, line by line.
+const MAIN: &str =
+    "                  10                   1                 100              200000
+                  20                   1                 100              200000
+                  30                   1                 100              200000
+                  40                   1                 100              200000
+                  50                   1                 100              200000
+                  60                   1                 100              200000
+                  70                   1                 100              200000
+                  80                   1                 100              200000
+                   8                 800             1600000
+";
+
+fn main_sheet(run: &mut Run) -> Result<(), String> {
+    let library = Library { empty: Empty::Null };
+    let c = lists::main_column();
+    let (mut text, mut order, mut work) = (vec![0; MAIN.len()], [9; 9], [9; 9]);
+    let a = library.write_sheet(&c.view(), &mut text, &mut order, &mut work);
+    let expected = ([0, 1, 2, 3, 4, 5, 6, 7, 9], [0, 0, 0, 0, 0, 0, 0, 0, 9]);
+    run.seen.calls += 1;
+    let good = a.refusal == 0 && text == MAIN.as_bytes() && (order, work) == expected;
+    match good {
+        true => rooms(run, &mut Random::new(0), &library, &c),
+        false => Err(format!("{a:?}, {}, {order:?}, {work:?}", shown(&text))),
+    }
+}
+
+fn sound(run: &mut Run) -> Result<(), String> {
+    run.cases(120, 4_000, |run, r| {
+        let library = inputs::library(r);
+        let kind = match r.below(40) {
+            0 => Kind::Large,
+            1..=9 => Kind::Full,
+            _ => Kind::Sound,
+        };
+        let c = inputs::clean_column(r, kind);
+        rooms(run, r, &library, &c)
+    })
+}
+
+/// The sheet as a host makes it of finds and steps from grower to grower.
+fn by_calls(library: &Library, c: &Column) -> String {
+    let (mut text, view) = (String::new(), c.view());
+    let mut from = Some(0);
+    while let Some(step) = from.map(|g| library.next_grower(&view, g)) {
+        if step.records == 0 {
+            break;
+        }
+        let t = library.find(&view, step.grower).totals;
+        let (grower, [records, weight, oil]) = (step.grower, [t.records, t.weight, t.oil]);
+        let _ = writeln!(text, "{grower:>20}{records:>20}{weight:>20}{oil:>20}");
+        from = grower.checked_add(1);
+    }
+    let t = library.range(&view, 0, u32::MAX).totals;
+    let _ = writeln!(text, "{:>20}{:>20}{:>20}", t.records, t.weight, t.oil);
+    text
+}
+
+/// A layout is applied, then calls are made; a sheet is written between, and has
+/// what the other calls answer.
+fn laid(run: &mut Run) -> Result<(), String> {
+    run.cases(121, 1_500, |run, r| {
+        let library = inputs::library(r);
+        let column = lists::laid_column(run, r, &library)?;
+        let mut pair = Pair::new(r, &column);
+        let mix = r.pick(&MIXES);
+        for _ in 0..r.within(2, 4) {
+            let c = pair.column();
+            rooms(run, r, &library, &c)?;
+            let (by_calls, by_slots) = (by_calls(&library, &c), sheet(&c).0);
+            if by_calls.as_bytes() != by_slots {
+                return Err(format!("finds and steps make {by_calls:?} of {c:?}"));
+            }
+            for _ in 0..r.below(20) {
+                let asked = inputs::asked(r, &pair.view(), &mix);
+                pair.ask(&mut run.seen, &library, asked)?;
+            }
+        }
+        Ok(())
+    })
+}
+
+/// Exchanges records inside each partition: none, some, or all at random; or the
+/// first of each go to its end.
+fn stir(r: &mut Random, c: &mut Column) {
+    let view = c.view();
+    let parts: Vec<(usize, usize)> = (0..view.partitions())
+        .map(|p| (view.start(p), view.length(p)))
+        .filter(|&(_, n)| n > 1)
+        .collect();
+    let how = r.below(4);
+    for (start, n) in parts {
+        if how == 3 {
+            let by = r.below(n);
+            for slice in c.slices() {
+                slice[start..start + n].rotate_left(by);
+            }
+        }
+        let exchanges = match how {
+            0 => 0,
+            2 => n - 1,
+            _ => n.min(20),
+        };
+        for i in (1..=exchanges).rev() {
+            let (x, y) = match how {
+                2 => (start + i, start + r.below(i + 1)),
+                _ => (start + r.below(n), start + r.below(n)),
+            };
+            for slice in c.slices() {
+                slice.swap(x, y);
+            }
+        }
+    }
+}
+
+/// So many growers, each with one to `most` records, in `k` partitions; a free
+/// slot in one of two.
+fn column_of(r: &mut Random, growers: usize, most: usize, k: usize) -> Column {
+    let count = growers as u32;
+    let held: Vec<u32> = match r.below(3) {
+        0 => (0..count).collect(),
+        1 => (0..count).map(|g| u32::MAX - (count - 1 - g)).collect(),
+        _ => spread_growers(r, growers),
+    };
+    // How many growers each partition and those before it have.
+    let mut pasts = BTreeSet::from([growers]);
+    while pasts.len() < k {
+        pasts.insert(r.within(1, growers));
+    }
+    let mut c = Column {
+        directory: vec![0; DIRECTORY_LEN],
+        growers: Vec::new(),
+        weights: Vec::new(),
+        yields: Vec::new(),
+    };
+    c.directory[..2].copy_from_slice(&[r.pick(&[1, 64, 4_096]), k as u32]);
+    let mut first = 0;
+    for (p, past) in pasts.into_iter().enumerate() {
+        let before = c.growers.len();
+        for &g in &held[first..past] {
+            for _ in 0..r.within(1, most) {
+                c.growers.push(g);
+                c.weights.push(inputs::weight(r));
+                c.yields.push(inputs::oil_yield(r));
+            }
+        }
+        c.directory[LENGTHS + p] = (c.growers.len() - before) as u32;
+        c.directory[FENCES + p] = held[past - 1];
+        first = past;
+    }
+    let free = usize::from(c.growers.len() < SLOT_LIMIT && r.one_in(2));
+    c.resize(c.growers.len() + free);
+    c
+}
+
+/// Each room exact, the text one byte short, and room for every slot's line.
+fn exact_rooms(run: &mut Run, r: &mut Random, library: &Library, c: &Column) -> Result<(), String> {
+    let need = exact(c);
+    let (text, all) = (need.text - 1, sheet_size(c.growers.len()));
+    for room in [need, Room { text, ..need }, Room { text: all, ..need }] {
+        accepted(run, r, library, c, room)?;
+    }
+    Ok(())
+}
+
+/// Columns of some and of many growers, stirred inside their partitions.
+fn stirred(run: &mut Run) -> Result<(), String> {
+    run.cases(122, 600, |run, r| {
+        let library = inputs::library(r);
+        let k = r.pick(&[1, 2, 9, 64]);
+        let growers = r.pick(&[1, 2, 70, 300]).max(k);
+        let most = r.pick(&[1, 2, 20]);
+        let mut c = column_of(r, growers, most, k);
+        stir(r, &mut c);
+        rooms(run, r, &library, &c)
+    })
+}
+
+fn many_growers(run: &mut Run) -> Result<(), String> {
+    run.cases(123, 6, |run, r| {
+        let library = inputs::library(r);
+        for growers in MANY {
+            let (most, k) = (r.pick(&[1, 1, 2, 9]), r.pick(&[1, 2, 64]));
+            let mut c = column_of(r, growers, most, k);
+            stir(r, &mut c);
+            exact_rooms(run, r, &library, &c)?;
+        }
+        Ok(())
+    })
+}
+
+/// One grower in some ten thousand slots, alone and beside others.
+fn large_growers(run: &mut Run) -> Result<(), String> {
+    run.cases(124, 4, |run, r| {
+        let library = inputs::library(r);
+        for growers in [1, 2, 3] {
+            let mut c = column_of(r, growers, 20_000, 1);
+            stir(r, &mut c);
+            exact_rooms(run, r, &library, &c)?;
+        }
+        Ok(())
+    })
+}
+
+/// 262,144 deliveries: all of one grower, and each of another; the largest
+/// weights and yields.
+fn largest(run: &mut Run) -> Result<(), String> {
+    run.cases(125, 1, |run, r| {
+        let library = inputs::library(r);
+        for growers in [SLOT_LIMIT, 1] {
+            let mut c = column_of(r, growers, 1, 64.min(growers));
+            let last = c.growers[growers - 1];
+            c.growers.resize(SLOT_LIMIT, last);
+            c.weights = vec![100_000; SLOT_LIMIT];
+            c.yields = vec![10_000; SLOT_LIMIT];
+            if growers == 1 {
+                c.directory[LENGTHS] = SLOT_LIMIT as u32;
+            }
+            stir(r, &mut c);
+            exact_rooms(run, r, &library, &c)?;
+        }
+        Ok(())
+    })
+}
+
+/// One change of a column or of a room.
+#[derive(Clone, Copy, Debug, PartialEq, Eq)]
+enum Fault {
+    Written(WriteFault),
+    OrderShort,
+    NoOrder,
+    WorkShort,
+    NoWork,
+}
+
+use Fault::*;
+
+/// Those of a room come first.
+fn faults() -> Vec<Fault> {
+    let mut all = vec![OrderShort, NoOrder, WorkShort, NoWork];
+    all.extend(writing::faults().into_iter().map(Written));
+    all
+}
+
+impl Fault {
+    fn is_large(self) -> bool {
+        matches!(self, Written(fault) if fault.is_large())
+    }
+
+    /// Puts the fault; false if it cannot be put here.
+    fn put(self, r: &mut Random, c: &mut Column, room: &mut Room, need: Room) -> bool {
+        match self {
+            Written(fault) => return fault.put(r, c, &mut room.text, need.text),
+            OrderShort => room.order = need.order - 1,
+            NoOrder => room.order = 0,
+            WorkShort => room.work = need.work - 1,
+            NoWork => room.work = 0,
+        }
+        true
+    }
+
+    fn expected(self) -> u32 {
+        match self {
+            Written(fault) => fault.expected(),
+            _ => 15,
+        }
+    }
+}
+
+/// The refusal of two faults, of which the second is put later.
+fn expected_of(first: Fault, second: Fault) -> u32 {
+    match (first, second) {
+        (Written(first), Written(second)) => writing::expected_of(first, second),
+        // The first is of a room, and 15 is the last check.
+        _ if second.expected() == 0 => 15,
+        _ => second.expected(),
+    }
+}
+
+/// A column that is accepted, the room it has and the room it needs.
+fn base(r: &mut Random) -> (Column, Room, Room) {
+    let c = broken::base(r);
+    let need = exact(&c);
+    let room = Room {
+        text: need.text + r.pick(&[0, 1, 500]),
+        order: need.order + r.below(3),
+        work: need.work + r.below(3),
+    };
+    (c, room, need)
+}
+
+fn alone(run: &mut Run) -> Result<(), String> {
+    let faults = faults();
+    run.cases(126, 60, |run, r| {
+        let library = inputs::library(r);
+        for fault in &faults {
+            let (mut c, mut room, need) = base(r);
+            if fault.is_large() && !r.one_in(8) || !fault.put(r, &mut c, &mut room, need) {
+                continue;
+            }
+            let with = |why| format!("{fault:?}: {why}");
+            let refusal = write(r, &mut run.seen, &library, &c, room).map_err(with)?;
+            if refusal != fault.expected() {
+                return Err(format!("{fault:?}: refusal {refusal}"));
+            }
+        }
+        Ok(())
+    })
+}
+
+fn pairs(run: &mut Run) -> Result<(), String> {
+    let faults = faults();
+    run.cases(127, 10, |run, r| {
+        let library = inputs::library(r);
+        for (i, &first) in faults.iter().enumerate() {
+            for &second in &faults[i + 1..] {
+                let large = first.is_large() || second.is_large();
+                let (mut c, mut room, need) = base(r);
+                if large && !r.one_in(8) || !first.put(r, &mut c, &mut room, need) {
+                    continue;
+                }
+                if c.directory.len() < 2 || !second.put(r, &mut c, &mut room, need) {
+                    continue;
+                }
+                let with = |why| format!("{first:?} and {second:?}: {why}");
+                let refusal = write(r, &mut run.seen, &library, &c, room).map_err(with)?;
+                if refusal != expected_of(first, second) {
+                    return Err(format!("{first:?} and {second:?}: refusal {refusal}"));
+                }
+            }
+        }
+        Ok(())
+    })
+}
+
+/// Columns that may be unsound or hold a value out of range, with up to two
+/// numbers of the directory replaced.
+fn any(run: &mut Run) -> Result<(), String> {
+    run.cases(128, 15_000, |run, r| {
+        let library = inputs::library(r);
+        let mut c = any_column(r);
+        let need = exact(&c);
+        let less = |r: &mut Random, n: usize| (n + 2).saturating_sub(r.pick(&[0, 0, 0, 2, 3]));
+        let room = Room {
+            text: less(r, need.text),
+            order: less(r, need.order),
+            work: less(r, need.work),
+        };
+        let shaped = c.directory.clone();
+        replace_some(r, &mut c);
+        let refusal = write(r, &mut run.seen, &library, &c, room)?;
+        run.seen
+            .kind(refusal == 6 && c.directory == shaped, UNSOUND);
+        Ok(())
+    })
+}
+
+/// Growers, weights, yields, directory, text, order and work, each alone at the
+/// edge counts; then nothing lent.
+fn edge_counts(run: &mut Run) -> Result<(), String> {
+    run.cases(129, 1, |run, r| {
+        for library in LIBRARIES {
+            for lent in 0..7 {
+                for n in EDGE_COUNTS {
+                    let (mut c, mut room, need) = base(r);
+                    let (expected, least) = match lent {
+                        0..=2 => (3, usize::MAX),
+                        3 => (6, usize::MAX),
+                        4 => (15, need.text),
+                        _ => (15, need.order),
+                    };
+                    match lent {
+                        6 => room.work = n,
+                        5 => room.order = n,
+                        4 => room.text = n,
+                        3 => c.directory.resize(n, 0),
+                        i => c.slices()[i].resize(n, 0),
+                    }
+                    let expected = if n < least { expected } else { 0 };
+                    let refusal = write(r, &mut run.seen, &library, &c, room)?;
+                    if refusal != expected {
+                        return Err(format!("slice {lent} of {n}: refusal {refusal}"));
+                    }
+                }
+            }
+            let (mut c, ..) = base(r);
+            c.resize(0);
+            c.directory.clear();
+            let nothing = Room {
+                text: 0,
+                order: 0,
+                work: 0,
+            };
+            let refusal = write(r, &mut run.seen, &library, &c, nothing)?;
+            if refusal != 3 {
+                return Err(format!("nothing lent: refusal {refusal}"));
+            }
+        }
+        Ok(())
+    })
+}
+
+/// Columns of one slot, used or free.
+fn one_slot(run: &mut Run) -> Result<(), String> {
+    run.cases(130, 100, |run, r| {
+        let library = inputs::library(r);
+        for is_used in [false, true] {
+            let c = inputs::one_slot(r, is_used);
+            rooms(run, r, &library, &c)?;
+        }
+        Ok(())
+    })
+}
+
+fn every_case(run: &mut Run) -> Result<(), String> {
+    let kinds = [&WRITTEN[..], &SHORT, &[UNSOUND]].concat();
+    run.seen.complete(&ANSWERS, &kinds)
+}
+
+pub const TESTS: &[(&str, Test)] = &[
+    ("sheets: the main column's sheet", main_sheet),
+    ("sheets: sound columns", sound),
+    ("sheets: laid columns after calls, beside finds", laid),
+    ("sheets: stirred inside the partitions", stirred),
+    ("sheets: more than 8,192 and 16,384 growers", many_growers),
+    ("sheets: growers with many deliveries", large_growers),
+    ("sheets: 262,144 deliveries", largest),
+    ("sheets: each fault alone", alone),
+    ("sheets: two faults", pairs),
+    ("sheets: any column", any),
+    ("sheets: each slice at the edge counts", edge_counts),
+    ("sheets: columns of one slot", one_slot),
+    (
+        "sheets: every answer and every case has occurred",
+        every_case,
+    ),
+];
