@@ -6,7 +6,7 @@
  *
  * Every call takes numbers and slices. A slice is a pointer and a count of
  * elements; a null pointer with count 0 is allowed. Nothing is allocated and
- * nothing is kept between calls; the planner takes some 40 kB of stack, the
+ * nothing is kept between calls; the planner takes some 90 kB of stack, the
  * settlement sheet some 220 kB, every other call a few. A call reads and writes
  * only inside the slices that it is lent, and ends on every input.
  *

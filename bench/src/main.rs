@@ -61,6 +61,11 @@ fn calls() {
     heading("call", "K", "SSE2");
     [1, 64].into_iter().for_each(sse2::run);
     println!();
+    planner();
+}
+
+/// The planner, by the count of blocks.
+fn planner() {
     heading("call", "N", "second");
     [8, 16, 32, 64].into_iter().for_each(plans::run);
 }
@@ -73,6 +78,7 @@ fn main() {
         ["growers"] => steps(),
         ["sheets"] => settlements(),
         ["csv"] => files(),
+        ["plans"] => planner(),
         ["calibrate"] => calibrate::survey(),
         ["calibrate", block] => match block.parse() {
             Ok(block @ 1..=BLOCK_LENGTH_LIMIT) => calibrate::run(block),
@@ -81,7 +87,7 @@ fn main() {
         ["weeks"] => weeks::run(),
         ["cards"] => weeks::cards(),
         _ => fail(
-            "bench [calls | growers | sheets | csv | calibrate [BLOCK_LENGTH] | weeks | cards]",
+            "bench [calls | growers | sheets | csv | plans | calibrate [BLOCK_LENGTH] | weeks | cards]",
         ),
     }
 }

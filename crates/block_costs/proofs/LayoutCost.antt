@@ -16,20 +16,20 @@ use Rattle.model.proofs.Integers.{Is, is-pos, is-add, is-shift}
 use Rattle.model.proofs.LayoutLaws.{Cut}
 use Rattle.layout_search.specs.Sums.{sum, upto, span, spans}
 use Rattle.layout_search.specs.Task.{Covers}
-use Rattle.layout_search.specs.Terms.{termsPerBlock, addsOf, takesOf}
+use Rattle.layout_search.specs.RunningSums.{sumsPerPlace, fixed, perBlockBefore, perBlockAfter, perPartitionAdded, perPartitionSaved, partOf, addsOf, takesOf}
 use Rattle.layout_search.proofs.SumLaws.{sum-none, sum-split, sum-cong}
-use Rattle.block_costs.specs.Terms.{Loaded}
-use Rattle.block_costs.proofs.TermLaws.{is-term}
+use Rattle.block_costs.specs.Terms.{termOf, Summed}
+use Rattle.block_costs.proofs.TermLaws.{part-is}
 use Rattle.block_costs.proofs.BlockCost.{block-cost}
 
 -- the first partition's blocks, and the others
 
-place-in : (e i : ℕ) (es : List ℕ) → i ≤ e → place (e ∷ es) i ≡ 0
+pub place-in : (e i : ℕ) (es : List ℕ) → i ≤ e → place (e ∷ es) i ≡ 0
 unfolding place
 place-in e i [] h = refl
 place-in e i (f ∷ es) h = rw (le-leb i e h)
 
-place-past : (e i : ℕ) (es : List ℕ) → e < i → 1 ≤ length es → place (e ∷ es) i ≡ place es i + 1
+pub place-past : (e i : ℕ) (es : List ℕ) → e < i → 1 ≤ length es → place (e ∷ es) i ≡ place es i + 1
 unfolding place
 place-past e i [] h k = absurd (omega arith)
 place-past e i (f ∷ es) h k = rw (lt-leb i e h)
@@ -77,7 +77,7 @@ unfolding Cut
 covers-cut f [] n c = c
 covers-cut f (e ∷ es) n c = (c .0, c .1, covers-cut (e + 1) es n (c .2))
 
-sum-is : (f : ℕ → ℤ) (p m : ℕ → ℕ) (n : ℕ) → ((i : ℕ) → i < n → Is (f i) (p i) (m i)) → Is (sumBlocks n f) (sum p 0 n) (sum m 0 n)
+pub sum-is : (f : ℕ → ℤ) (p m : ℕ → ℕ) (n : ℕ) → ((i : ℕ) → i < n → Is (f i) (p i) (m i)) → Is (sumBlocks n f) (sum p 0 n) (sum m 0 n)
 unfolding sumBlocks sum
 sum-is f p m zero h = is-pos 0
 sum-is f p m (suc n) h =
@@ -86,18 +86,26 @@ sum-is f p m (suc n) h =
     is-add _ _ _ _ _ _ (sum-is f p m n (λ i u. h i (omega arith))) k
 
 -- the cost is what the terms add, less what they take off
-module _ (L : ℕ) (c : PriceCard) (hs : List ℕ) (n : ℕ) (old terms : List ℕ) (l : Loaded L c hs (n * termsPerBlock) old terms) (ends : List ℕ) where
-  at-block : (i : ℕ) → i < n
-      → Is (sumHistograms histograms (λ (h : Histogram). price c ends h i *ℤ pos (count L hs (at h i)))) (atPlace (addsOf terms) 0 ends i) (atPlace (λ i b f k. takesOf terms i k) 0 ends i)
-  unfolding atPlace addsOf takesOf before
-  at-block i g =
-      let e = is-term L c hs n old terms l i g in
-      rw (e 0 (omega arith), e 1 (omega arith), e 2 (omega arith), e 3 (omega arith), e 4 (omega arith)) (block-cost L c ends hs i)
+module _ (L : ℕ) (c : PriceCard) (hs : List ℕ) (n : ℕ) (sums : List ℕ) (s : Summed L c hs ((n + 1) * sumsPerPlace) sums) (ends : List ℕ) where
+  -- one block's, by its place
+  pub block-by-sums : (i : ℕ) → i < n
+      → Is (sumHistograms histograms (λ (h : Histogram). price c ends h i *ℤ pos (count L hs (at h i)))) (addsOf sums i (before ends i) (after ends i) (trailing ends i))
+      (takesOf sums i (trailing ends i))
+  unfolding addsOf takesOf termOf
+  block-by-sums i g =
+      let e : (q : ℕ) → q < sumsPerPlace → partOf sums q i ≡ termOf L c hs q i = λ q h. part-is L c hs n sums s q i h g in
+      rw (e fixed (omega arith), e perBlockBefore (omega arith), e perBlockAfter (omega arith), e perPartitionAdded (omega arith), e perPartitionSaved (omega arith))
+      (block-cost L c ends hs i)
 
-  pub layout-cost : Cut 0 ends n → Is (costOf L c n ends hs) (spans (addsOf terms) 0 ends) (spans (λ i b f k. takesOf terms i k) 0 ends)
+  at-block : (i : ℕ) → i < n
+      → Is (sumHistograms histograms (λ (h : Histogram). price c ends h i *ℤ pos (count L hs (at h i)))) (atPlace (addsOf sums) 0 ends i) (atPlace (λ i b f k. takesOf sums i k) 0 ends i)
+  unfolding atPlace before
+  at-block i g = block-by-sums i g
+
+  pub layout-cost : Cut 0 ends n → Is (costOf L c n ends hs) (spans (addsOf sums) 0 ends) (spans (λ i b f k. takesOf sums i k) 0 ends)
   unfolding costOf
   layout-cost k =
       let z : n ≡ n - 0 = omega arith in
-      let u = ap (sum (atPlace (addsOf terms) 0 ends) 0) z ∙ by-partitions (addsOf terms) n 0 ends k in
-      let d = ap (sum (atPlace (λ i b f k. takesOf terms i k) 0 ends) 0) z ∙ by-partitions (λ i b f k. takesOf terms i k) n 0 ends k in
-      is-shift _ _ _ _ _ (sum-is _ (atPlace (addsOf terms) 0 ends) (atPlace (λ i b f k. takesOf terms i k) 0 ends) n at-block) (omega (arith, u, d))
+      let u = ap (sum (atPlace (addsOf sums) 0 ends) 0) z ∙ by-partitions (addsOf sums) n 0 ends k in
+      let d = ap (sum (atPlace (λ i b f k. takesOf sums i k) 0 ends) 0) z ∙ by-partitions (λ i b f k. takesOf sums i k) n 0 ends k in
+      is-shift _ _ _ _ _ (sum-is _ (atPlace (addsOf sums) 0 ends) (atPlace (λ i b f k. takesOf sums i k) 0 ends) n at-block) (omega (arith, u, d))

@@ -2,3 +2,5 @@
 pub mod TermLaws
 pub mod BlockCost
 pub mod LayoutCost
+pub mod PartitionPrice
+pub mod PricesComputed

@@ -1,12 +1,13 @@
--- The five terms of a block's cost, from prices and histograms (01: the bill): each is a price times a sum of counts.
-use Prim.Native.Nat.{ℕ, zero, suc, _+_, _*_, _/_, _%_, _≤_, _<_}
+-- The five terms of a block's cost, from prices and histograms (01: the bill), each a price times a sum of counts; and their running sums.
+use Prim.Native.Nat.{ℕ, zero, suc, _+_, _*_, _≤_, _<_}
 use mathlib.Core.Path.{_≡_}
 use mathlib.Core.List.{List}
 use lib.ListN.{length, getD}
 use Rattle.model.specs.declared.PriceCard.{PriceCard}
 use Rattle.model.specs.Bounds.{mostCount, mostPrice}
 use Rattle.model.specs.Histograms.{Histogram, pq, rs, re, sc, de, ins, udf, utf, udb, utb, at, histogramsSize, count}
-use Rattle.layout_search.specs.Terms.{termsPerBlock}
+use Rattle.layout_search.specs.Sums.{sum}
+use Rattle.layout_search.specs.RunningSums.{sumsPerPlace, sumAt}
 
 -- L is the block limit
 module _ (L : ℕ) (c : PriceCard) (hs : List ℕ) (i : ℕ) where
@@ -36,18 +37,25 @@ module _ (L : ℕ) (c : PriceCard) (hs : List ℕ) (i : ℕ) where
   unfoldable pub perPartitionSavedOf : ℕ
   perPartitionSavedOf = (c .rr + c .«rw») * (n utf + n udb)
 
--- the terms of all blocks, in that order
-abbrev pub pick : ℕ → ℕ → ℕ → ℕ → ℕ → ℕ → ℕ
-pick zero a b c d e = a
-pick (suc zero) a b c d e = b
-pick (suc (suc zero)) a b c d e = c
-pick (suc (suc (suc zero))) a b c d e = d
-pick (suc (suc (suc (suc n)))) a b c d e = e
+-- the seven that are added up, in the order of the running sums: those that depend on the block's place in its partition also times the block's number
+abbrev pub pick : ℕ → ℕ → ℕ → ℕ → ℕ → ℕ → ℕ → ℕ → ℕ
+pick zero a b c d e f g = a
+pick (suc zero) a b c d e f g = b
+pick (suc (suc zero)) a b c d e f g = c
+pick (suc (suc (suc zero))) a b c d e f g = d
+pick (suc (suc (suc (suc zero)))) a b c d e f g = e
+pick (suc (suc (suc (suc (suc zero))))) a b c d e f g = f
+pick (suc (suc (suc (suc (suc (suc n)))))) a b c d e f g = g
 
-unfoldable pub termAt : ℕ → PriceCard → List ℕ → ℕ → ℕ
-termAt L c hs y =
-    let i : ℕ = y / termsPerBlock in
-    pick (y % termsPerBlock) (fixedOf L c hs i) (perBlockBeforeOf L c hs i) (perBlockAfterOf L c hs i) (perPartitionAddedOf L c hs i) (perPartitionSavedOf L c hs i)
+unfoldable pub termOf : ℕ → PriceCard → List ℕ → ℕ → ℕ → ℕ
+termOf L c hs q i =
+    let before : ℕ = perBlockBeforeOf L c hs i in
+    let after : ℕ = perBlockAfterOf L c hs i in
+    pick q (fixedOf L c hs i) before (before * i) after (after * i) (perPartitionAddedOf L c hs i) (perPartitionSavedOf L c hs i)
+
+-- 02, Slip 5: "the histograms are to be added up once, into running sums": sum q over the blocks before j
+unfoldable pub runningSum : ℕ → PriceCard → List ℕ → ℕ → ℕ → ℕ
+runningSum L c hs q j = sum (termOf L c hs q) 0 j
 
 -- prices that pass check 1, and histograms that pass check 9
 pub record PricesPass (c : PriceCard) : Type 0 where
@@ -61,7 +69,15 @@ pub record Counted (L : ℕ) (hs : List ℕ) : Type 0 where
   pub long : length hs ≡ histogramsSize L
   pub each : (x : ℕ) → getD hs x 0 ≤ mostCount
 
--- the terms before y are in place
-pub record Loaded (L : ℕ) (c : PriceCard) (hs : List ℕ) (y : ℕ) (old terms : List ℕ) : Type 0 where
-  pub long : length terms ≡ length old
-  pub here : (x : ℕ) → x < y → getD terms x 0 ≡ termAt L c hs x
+-- the first y are 0
+pub record Cleared (y : ℕ) (old sums : List ℕ) : Type 0 where
+  pub long : length sums ≡ length old
+  pub none : (x : ℕ) → x < y → getD sums x 0 ≡ 0
+
+-- the first y of the running sums are in place
+pub record Summed (L : ℕ) (c : PriceCard) (hs : List ℕ) (y : ℕ) (sums : List ℕ) : Type 0 where
+  pub here : (q j : ℕ) → q < sumsPerPlace → j * sumsPerPlace + q < y → sumAt sums q j ≡ runningSum L c hs q j
+
+pub record Loaded (L : ℕ) (c : PriceCard) (hs : List ℕ) (y : ℕ) (old sums : List ℕ) : Type 0 where
+  pub long : length sums ≡ length old
+  pub summed : Summed L c hs y sums

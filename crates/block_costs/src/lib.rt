@@ -1,16 +1,19 @@
-// The cost of a block's counts by five terms, from prices and histograms.
+// The cost of a block's counts by five terms, from prices and histograms, and the running sums of the terms.
 ghost use mathlib.Core.Path.{_≡_};
-ghost use Prim.Native.Nat.{_+_, _*_, _≤_, _<_};
+ghost use Prim.Native.Nat.{_+_, _*_, _^_, _≤_, _<_};
 ghost use lib.ListN.{length, getD};
 ghost use Rattle.model.specs.Bounds.{blockLimit, mostCount, mostPrice};
-ghost use Rattle.layout_search.specs.Terms.{termsPerBlock};
-ghost use Rattle.block_costs.specs.Terms.{fixedOf, perBlockBeforeOf, perBlockAfterOf, perPartitionAddedOf, perPartitionSavedOf, termAt};
-ghost use Rattle.block_costs.specs.Terms.{PricesPass, Counted, Loaded};
+ghost use Rattle.layout_search.specs.RunningSums.{sumsPerPlace};
+ghost use Rattle.block_costs.specs.Terms.{fixedOf, perBlockBeforeOf, perBlockAfterOf, perPartitionAddedOf, perPartitionSavedOf, termOf};
+ghost use Rattle.block_costs.specs.Terms.{PricesPass, Counted, Cleared, Summed, Loaded};
+ghost use Rattle.block_costs.specs.Price.{PriceIs01, SumsFit};
 use layout_search::FIXED;
 use layout_search::PER_BLOCK_AFTER;
 use layout_search::PER_BLOCK_BEFORE;
 use layout_search::PER_PARTITION_ADDED;
-use layout_search::TERMS_PER_BLOCK;
+use layout_search::SUMS_PER_PLACE;
+use layout_search::WEIGHTED_AFTER;
+use layout_search::WEIGHTED_BEFORE;
 use model::DE;
 use model::IN;
 use model::PQ;
@@ -113,42 +116,87 @@ fn per_partition_saved(card: PriceCard, h: &[u32], i: usize) -> u64
     product(card.rr + card.rw, c)
 }
 
-// The term at place y.
-fn term(card: PriceCard, h: &[u32], y: usize) -> u64
+// A term times the block's number.
+fn weighted(x: u64, i: usize) -> u64
+    requires { ⌜ (x ≤ 2 ^ 33) × (i < blockLimit) ⌝ }
+    ensures { λ r. ⌜ r ≡ x * i ⌝ }
+{
+    x * i as u64
+}
+
+// What block i adds to sum q.
+fn term(card: PriceCard, h: &[u32], q: usize, i: usize) -> u64
     requires { ⌜ Counted blockLimit (now h) ⌝ }
     requires { ⌜ PricesPass card ⌝ }
-    requires { ⌜ y < blockLimit * termsPerBlock ⌝ }
-    ensures { λ r. ⌜ r ≡ termAt blockLimit card (now (h .entry)) y ⌝ }
+    requires { ⌜ (q < sumsPerPlace) × (i < blockLimit) ⌝ }
+    ensures { λ r. ⌜ r ≡ termOf blockLimit card (now (h .entry)) q i ⌝ }
 {
-    let i = y / TERMS_PER_BLOCK;
-    let j = y % TERMS_PER_BLOCK;
-    if j == FIXED {
+    if q == FIXED {
         return fixed(card, h, i);
     }
-    if j == PER_BLOCK_BEFORE {
+    if q == PER_BLOCK_BEFORE {
         return per_block_before(card, h, i);
     }
-    if j == PER_BLOCK_AFTER {
+    if q == WEIGHTED_BEFORE {
+        return weighted(per_block_before(card, h, i), i);
+    }
+    if q == PER_BLOCK_AFTER {
         return per_block_after(card, h, i);
     }
-    if j == PER_PARTITION_ADDED {
+    if q == WEIGHTED_AFTER {
+        return weighted(per_block_after(card, h, i), i);
+    }
+    if q == PER_PARTITION_ADDED {
         return per_partition_added(card, h, i);
     }
     per_partition_saved(card, h, i)
 }
 
-// The terms of n blocks.
-pub fn load(card: PriceCard, h: &[u32], n: usize, terms: &mut [u64])
+// The sums at place i + 1: those at place i, and what block i adds.
+fn add_block(card: PriceCard, h: &[u32], sums: &mut [u64], i: usize)
     requires { ⌜ Counted blockLimit (now h) ⌝ }
     requires { ⌜ PricesPass card ⌝ }
-    requires { ⌜ (n ≤ blockLimit) × (n * termsPerBlock ≤ length (now terms)) ⌝ }
-    ensures { λ _. ⌜ Loaded blockLimit card (now (h .entry)) (n * termsPerBlock) (now (terms .entry)) (now (terms .exit)) ⌝ }
+    requires { ⌜ (i < blockLimit) × ((i + 2) * sumsPerPlace ≤ length (now sums)) ⌝ }
+    requires { ⌜ Summed blockLimit card (now h) ((i + 1) * sumsPerPlace) (now sums) ⌝ }
+    ensures { λ _. ⌜ Loaded blockLimit card (now (h .entry)) ((i + 2) * sumsPerPlace) (now (sums .entry)) (now (sums .exit)) ⌝ }
 {
-    let last = n * TERMS_PER_BLOCK;
-    let mut y = 0;
-    while y < last {
-        let v = term(card, h, y);
-        terms[y] = v;
-        y += 1;
+    let at = i * SUMS_PER_PLACE;
+    let mut q = 0;
+    while q < SUMS_PER_PLACE {
+        let x = sums[at + q] + term(card, h, q, i);
+        sums[at + SUMS_PER_PLACE + q] = x;
+        q += 1;
     }
 }
+
+// The sums at place 0, of no block.
+fn clear_first(sums: &mut [u64])
+    requires { ⌜ sumsPerPlace ≤ length (now sums) ⌝ }
+    ensures { λ _. ⌜ Cleared sumsPerPlace (now (sums .entry)) (now (sums .exit)) ⌝ }
+{
+    let mut q = 0;
+    while q < SUMS_PER_PLACE {
+        sums[q] = 0;
+        q += 1;
+    }
+}
+
+// The running sums of n blocks.
+pub fn add_up(card: PriceCard, h: &[u32], n: usize, sums: &mut [u64])
+    requires { ⌜ Counted blockLimit (now h) ⌝ }
+    requires { ⌜ PricesPass card ⌝ }
+    requires { ⌜ (n ≤ blockLimit) × ((n + 1) * sumsPerPlace ≤ length (now sums)) ⌝ }
+    ensures { λ _. ⌜ Loaded blockLimit card (now (h .entry)) ((n + 1) * sumsPerPlace) (now (sums .entry)) (now (sums .exit)) ⌝ }
+{
+    clear_first(sums);
+    let mut i = 0;
+    while i < n {
+        add_block(card, h, sums, i);
+        i += 1;
+    }
+}
+
+// Does nothing: its contract is that the price by the sums is 01's, and that the sums fit, so that both stand in the list of what is proved.
+pub fn price_by_sums()
+    ensures { λ _. ⌜ PriceIs01 × SumsFit ⌝ }
+{}

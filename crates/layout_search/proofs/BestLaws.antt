@@ -11,6 +11,10 @@ use Rattle.layout_search.specs.Sums.{span}
 use Rattle.layout_search.specs.Task.{Task, Layout}
 use Rattle.layout_search.specs.Table.{Low, Hit, Near, Best, Scan, Cand, Offer, nothing, offered}
 
+pub layout-count : (t : Task) (a : ℕ) (es : List ℕ) → Layout t a es → length es + a ≤ t .n
+layout-count t a [] l = omega (arith, l)
+layout-count t a (e ∷ es) l = let r = layout-count t (e + 1) es (l .3) in omega (arith, l .0)
+
 pub scan-start : (t : Task) (a k : ℕ) → Scan t a k a (2 ^ 62)
 scan-start t a k = record {
   low = λ d es h l p. absurd (omega (arith, l .0));
@@ -39,7 +43,7 @@ module _ (t : Task) (a k e m : ℕ) (s : Scan t a k e m) where
   scan-drop x f h g = record { low = more x (λ u. omega arith) (λ es l p. absurd (f es l p)); hit = λ u. absurd (omega arith); near = λ u. absurd (omega arith) }
 
 module _ (t : Task) (a k e y x : ℕ) (c : Cand t a k e y x) where
-  cand-low : (es : List ℕ) → Layout t a (e ∷ es) → length es ≡ k → Low t a x (e ∷ es)
+  pub cand-low : (es : List ℕ) → Layout t a (e ∷ es) → length es ≡ k → Low t a x (e ∷ es)
   cand-low es l p =
       let r = c .rest .low es (l .3) p in
       let g = c .rest .near (c .some) in
@@ -47,14 +51,14 @@ module _ (t : Task) (a k e y x : ℕ) (c : Cand t a k e y x) where
       let d : span (t .down) a e (length es + 1) ≡ span (t .down) a e (k + 1) = ap (λ (v : ℕ). span (t .down) a e (v + 1)) p in
       (omega arith, omega arith)
 
-  cand-hit : Hit t a (k + 1) x
+  pub cand-hit : Hit t a (k + 1) x
   cand-hit =
       let r = c .rest .hit (c .some) in
       let u : span (t .up) a e (length (r .0) + 1) ≡ span (t .up) a e (k + 1) = ap (λ (v : ℕ). span (t .up) a e (v + 1)) (r .2) in
       let d : span (t .down) a e (length (r .0) + 1) ≡ span (t .down) a e (k + 1) = ap (λ (v : ℕ). span (t .down) a e (v + 1)) (r .2) in
       (e ∷ r .0, (c .start, c .inside, c .okay, r .1), omega arith, omega arith)
 
-  cand-near : Near t a x
+  pub cand-near : Near t a x
   cand-near = let g = c .rest .near (c .some) in (omega arith, omega arith)
 
   scan-keep : (m : ℕ) → Scan t a k e m → m ≤ x → Scan t a k (e + 1) m
@@ -100,7 +104,7 @@ best-past t k h = record { low = past-low t k h; hit = λ g. absurd (omega arith
 
 -- one end tried
 
-no-true : {A : Type 0} → true ≡ false → A
+pub no-true : {A : Type 0} → true ≡ false → A
 no-true e = absurd (subst T e tt)
 
 pub offer-not-ok : (t : Task) (a k e y x : ℕ) → t .ok a e ≡ false → x ≡ 2 ^ 62 → Offer t a k e y x

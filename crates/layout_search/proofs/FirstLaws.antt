@@ -31,8 +31,12 @@ module _ (t : Task) (val : ℕ → ℕ → ℕ) (a k e m b x : ℕ) (s : Tried t
       go (nothing q f) g = absurd (omega arith)
       go (offered c) g = c
 
-pub tried-done : (t : Task) (val : ℕ → ℕ → ℕ) (a k e m b : ℕ) → Tried t val a k e m b → e ≡ t .n → Chose t val a k m b
-tried-done t val a k e m b s h = record { best = scan-done t a k m (subst (λ (v : ℕ). Scan t a k v m) h (s .scan)); first = s .first }
+-- no first partition ends at e or later
+pub tried-done : (t : Task) (val : ℕ → ℕ → ℕ) (a k e m b : ℕ) → Tried t val a k e m b → ((d : ℕ) (ds : List ℕ) → Layout t a (d ∷ ds) → length ds ≡ k → d < e) → Chose t val a k m b
+tried-done t val a k e m b s h = record {
+  best = scan-done t a k m (record { low = λ d ds u l p. s .scan .low d ds (h d ds l p) l p; hit = s .scan .hit; near = s .scan .near });
+  first = s .first;
+}
 
 -- the table's number is one
 best-same : (t : Task) (a k m v : ℕ) → Best t a k m → Best t a k v → v < 2 ^ 62 → m ≡ v

@@ -16,11 +16,8 @@ use Rattle.layout_search.specs.Sums.{span}
 use Rattle.layout_search.specs.Task.{Task, Layout, adds, takes, Allowed, Ahead, Least}
 use Rattle.layout_search.specs.Table.{Best, Chosen, valOf, Rows, Lowest, Written}
 use Rattle.layout_search.specs.Answer.{answer, Answered, nothing, tight, found}
+use Rattle.layout_search.proofs.BestLaws.{layout-count}
 use Rattle.layout_search.proofs.FirstLaws.{Earliest, chosen-layout, chosen-number, chosen-earliest}
-
-layout-count : (t : Task) (a : ℕ) (es : List ℕ) → Layout t a es → length es + a ≤ t .n
-layout-count t a [] l = omega (arith, l)
-layout-count t a (e ∷ es) l = let r = layout-count t (e + 1) es (l .3) in omega (arith, l .0)
 
 -- the order among layouts in as many partitions
 

@@ -92,11 +92,18 @@ pub record Filling (t : Task) (k a : ℕ) (old new : List ℕ) : Type 0 where
   pub here : (j : ℕ) → j < a → Best t j (k + 1) (getD new (k * t .n + j) 0)
 
 pub filling-start : (t : Task) (k : ℕ) (old : List ℕ) → Filling t k 0 old old
-filling-start t k old = record { count = omega arith; kept = record { long = refl; same = λ i h. refl }; here = λ j h. absurd (omega arith) }
+filling-start t k old = record { count = omega arith; kept = record { long = refl; same = λ i h. refl; past = λ i h. refl }; here = λ j h. absurd (omega arith) }
 
-module _ (t : Task) (k a v : ℕ) (old new : List ℕ) (f : Filling t k a old new) (h : a < t .n) (room : (k + 1) * t .n ≤ length old) (b : Best t a (k + 1) v) where
+module _ (t : Task) (k a v : ℕ) (old new : List ℕ) (f : Filling t k a old new) (h : a < t .n) (few : k + 1 ≤ t .n) (room : t .n * t .n ≤ length old)
+    (b : Best t a (k + 1) v) where
+  below : k * t .n + a < t .n * t .n
+  below = omega (arith, row-place (t .n) k a h, rows-below (t .n) (k + 1) (t .n) few)
+
   inside : k * t .n + a < length new
-  inside = omega (arith, row-place (t .n) k a h, f .kept .long)
+  inside = omega (arith, below, f .kept .long)
+
+  other : (i : ℕ) → (i ≡ k * t .n + a → ⊥) → getD (set new (k * t .n + a) v) i 0 ≡ getD new i 0
+  other i g = getD-set-other new (k * t .n + a) i v 0 g
 
   here-more : (j : ℕ) → j < a + 1 → Best t j (k + 1) (getD (set new (k * t .n + a) v) (k * t .n + j) 0)
   here-more j g = go (ℕ-discrete j a)
@@ -108,7 +115,11 @@ module _ (t : Task) (k a v : ℕ) (old new : List ℕ) (f : Filling t k a old ne
   pub filling-more : Filling t k (a + 1) old (set new (k * t .n + a) v)
   filling-more = record {
     count = omega arith;
-    kept = record { long = length-set new _ v ∙ f .kept .long; same = λ i g. getD-set-other new (k * t .n + a) i v 0 (λ q. absurd (omega arith)) ∙ f .kept .same i g };
+    kept = record {
+      long = length-set new _ v ∙ f .kept .long;
+      same = λ i g. other i (λ q. absurd (omega arith)) ∙ f .kept .same i g;
+      past = λ i g. other i (λ q. absurd (omega (arith, below))) ∙ f .kept .past i g;
+    };
     here = here-more;
   }
 

@@ -2,12 +2,13 @@
 -- A number is 2 ^ 60 and a cost; 2 ^ 62 stands for no layout.
 use Prim.Native.Nat.{ℕ, _+_, _-_, _*_, _^_, _≤_, _<_}
 use mathlib.Core.Path.{_≡_}
-use mathlib.Core.Bool.{true, cond}
+use mathlib.Core.Bool.{Bool, true, cond}
 use mathlib.Core.List.{List, [], _∷_}
 use lib.Dec.{eqb}
 use lib.ListN.{length, getD, take, drop}
 use Rattle.layout_search.specs.Sums.{span}
 use Rattle.layout_search.specs.Task.{searchLimit, Task, Layout, adds, takes}
+use Rattle.layout_search.specs.RunningSums.{perPartitionAdded, perPartitionSaved, sumAt, LocalPrice}
 
 -- m is not above the number of es
 abbrev pub Low : Task → ℕ → ℕ → List ℕ → Type 0
@@ -79,10 +80,44 @@ Row t k table = (a : ℕ) → a ≤ t .n → Best t a k (valOf (t .n) table k a)
 abbrev pub Rows : Task → ℕ → List ℕ → Type 0
 Rows t k table = (j : ℕ) → j ≤ k → Row t j table
 
--- the rows up to k are as they were
+-- the rows up to k are as they were, and what stands past the n rows
 pub record Kept (n k : ℕ) (old new : List ℕ) : Type 0 where
   pub long : length new ≡ length old
   pub same : (i : ℕ) → i < k * n → getD new i 0 ≡ getD old i 0
+  pub past : (i : ℕ) → n * n ≤ i → getD new i 0 ≡ getD old i 0
+
+-- past the n rows stand the local prices, n to a first block: those of the first blocks before a
+abbrev pub LocalPrices : List ℕ → ℕ → ℕ → List ℕ → Type 0
+LocalPrices sums n a table = (b e : ℕ) → b < a → b ≤ e → e < n → LocalPrice sums b e (getD table (n * n + b * n + e) 0)
+
+-- those of first block a that end before block e; what stood before them stays
+pub record LocalRow (sums : List ℕ) (n a e : ℕ) (old new : List ℕ) : Type 0 where
+  pub long : length new ≡ length old
+  pub before : (i : ℕ) → i < n * n + a * n → getD new i 0 ≡ getD old i 0
+  pub here : (d : ℕ) → a ≤ d → d < e → LocalPrice sums a d (getD new (n * n + a * n + d) 0)
+
+-- x is the number for what comes after block e in k partitions, with k + 1 times the sums of partitions at e + 1: the same for each first block.
+-- 2 ^ 62 where no partition that ends at e has k behind it
+pub data Tail (sums : List ℕ) (t : Task) (fits : ℕ → Bool) (k e x : ℕ) : Type 0 where
+  noTail : x ≡ 2 ^ 62 → ((a : ℕ) (es : List ℕ) → Layout t a (e ∷ es) → length es ≡ k → ⊥) → Tail sums t fits k e x
+  someTail : (y : ℕ) → fits e ≡ true → Best t (e + 1) k y → y < 2 ^ 62
+      → x + sumAt sums perPartitionSaved (e + 1) * (k + 1) ≡ y + sumAt sums perPartitionAdded (e + 1) * (k + 1) → Tail sums t fits k e x
+
+-- those of the ends before e
+pub record Tails (sums : List ℕ) (t : Task) (fits : ℕ → Bool) (k e : ℕ) (row : List ℕ) : Type 0 where
+  pub room : t .n ≤ length row
+  pub here : (d : ℕ) → d < e → Tail sums t fits k d (getD row d 0)
+
+-- tails and local prices from s to before e that can be added
+pub record Small (row table : List ℕ) (at s e : ℕ) : Type 0 where
+  pub tail : (d : ℕ) → s ≤ d → d < e → getD row d 0 ≤ 2 ^ 62
+  pub price : (d : ℕ) → s ≤ d → d < e → getD table (at + d) 0 ≤ 2 ^ 61
+
+-- m is the least of 2 ^ 62 and f s to f (e - 1)
+pub record LeastOf (f : ℕ → ℕ) (s e m : ℕ) : Type 0 where
+  pub top : m ≤ 2 ^ 62
+  pub low : (d : ℕ) → s ≤ d → d < e → m ≤ f d
+  pub hit : m < 2 ^ 62 → (d : ℕ) × (s ≤ d) × (d < e) × (m ≡ f d)
 
 -- m is the least number of the counts before j, and b the first count that has it
 pub record Lowest (val : ℕ → ℕ) (j b m : ℕ) : Type 0 where

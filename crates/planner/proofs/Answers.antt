@@ -1,5 +1,5 @@
 -- What the search answers is the planner's answer, and a layout's number its cost. Assumes nothing.
-use Prim.Native.Nat.{ℕ, suc, _*_, _^_, _≤_, _<_}
+use Prim.Native.Nat.{ℕ, suc, _+_, _*_, _^_, _≤_, _<_}
 use mathlib.Core.Path.{_≡_, refl, sym, ap, _∙_, subst}
 use mathlib.Core.Bool.{Bool, true, false, not, cond}
 use mathlib.Core.Option.{Option, none, some}
@@ -25,13 +25,13 @@ use Rattle.model.proofs.Integers.{is-sub, eq-is}
 use Rattle.model.proofs.LayoutLaws.{laid}
 use Rattle.model.proofs.PlanLaws.{permitted-listed, listed-permitted, cheapest-chosen, chosen-cheapest, none-permitted}
 use Rattle.layout_search.specs.Task.{Covers, Least}
-use Rattle.layout_search.specs.Terms.{termsPerBlock, taskOf, Numbered}
+use Rattle.layout_search.specs.RunningSums.{sumsPerPlace, taskOf, Numbered}
 use Rattle.layout_search.specs.Answer.{answer, Answered, nothing, tight, found}
-use Rattle.block_costs.specs.Terms.{Loaded}
+use Rattle.block_costs.specs.Terms.{Summed}
 use Rattle.block_costs.proofs.LayoutCost.{cut-covers, layout-cost}
 use Rattle.planner.specs.Given.{givenChecks, Marked}
 use Rattle.planner.proofs.Given.{plan-failed, plan-passed}
-use Rattle.planner.proofs.Permitted.{Ready, task, permitted-allowed, allowed-permitted, cost-by-terms, least-cheapest, cheapest-least}
+use Rattle.planner.proofs.Permitted.{Ready, task, permitted-allowed, allowed-permitted, cost-by-sums, least-cheapest, cheapest-least}
 
 -- is any layout permitted?
 module _ (p : PriceCard) (l : Limits) (s : Set) where
@@ -81,7 +81,7 @@ module _ (L : ℕ) (p : PriceCard) (l : Limits) (s : Set) (hs out : List ℕ) wh
     unfolding plannerRefusal
     refusal-is n e = plan-passed L p s hs l (length (plannedEnds L p l s hs)) (length out) given ∙ last-two _ _ n e
 
-    module _ {old terms : List ℕ} {fits : List Bool} (w : Ready L p s hs old terms fits) where
+    module _ {sums : List ℕ} {fits : List Bool} (w : Ready L p s hs sums fits) where
       abbrev goal : Planned → List ℕ → Type 0
       goal r new = _≡_ {A = PlanResult} (record { answer = r; ends = new }) (planCall L p l s hs out)
 
@@ -103,18 +103,18 @@ module _ (L : ℕ) (p : PriceCard) (l : Limits) (s : Set) (hs out : List ℕ) wh
       answered-task new r (found es h room e q) =
           let c = least-cheapest l w es h in
           let f = ends-planned es (chosen-cheapest p l s L hs es (w .some) c) in
-          let z = cost-by-terms l w es (h .allowed .0) in
+          let z = cost-by-sums l w es (h .allowed .0) in
           subst (λ (v : List ℕ). goal r v) (sym q) (subst (λ (v : Planned). goal v (es ++ drop (length es) out)) (sym e)
           (subst (λ (v : ℤ). goal (answer 0 (length es) v) (es ++ drop (length es) out)) z
           (plan-accepted es (refusal-is 0 (rw (any-so p l s es (c .allowed) (w .some), f, le-leb (length es) (length out) room) refl)) f)))
 
     -- the search's answer, where n, longest and most are what they must be
-    pub answered-plan : (n longest most : ℕ) (old terms : List ℕ) (were fits : List Bool) (new : List ℕ) (r : Planned)
+    pub answered-plan : (n longest most : ℕ) (sums : List ℕ) (were fits : List Bool) (new : List ℕ) (r : Planned)
         → n ≡ blocks s → longest ≡ longestPartition p l → most ≡ mostPartitions p l → 1 ≤ blocks s
-        → Loaded L p hs (n * termsPerBlock) old terms → Marked (s .block) (s .used) (s .growers) n were fits → Answered (taskOf terms fits longest n) most out new r
+        → Summed L p hs ((n + 1) * sumsPerPlace) sums → Marked (s .block) (s .used) (s .growers) n were fits → Answered (taskOf sums fits longest n) most out new r
         → _≡_ {A = PlanResult} (record { answer = r; ends = new }) (planCall L p l s hs out)
-    answered-plan n longest most old terms were fits new r a b c few load marks h =
-        let w : Ready L p s hs old terms fits = record { loaded = rw a at load; marks = λ i g. marks .here i (omega arith); some = few } in
+    answered-plan n longest most sums were fits new r a b c few added marks h =
+        let w : Ready L p s hs sums fits = record { summed = rw a at added; marks = λ i g. marks .here i (omega arith); some = few } in
         answered-task w new r (rw (a, b, c) at h)
 
 -- the cost of a layout
@@ -126,11 +126,11 @@ module _ (L : ℕ) (p : PriceCard) (s : Set) (ends hs : List ℕ) where
   unfolding costCall
   cost-refused n e h = rw (sym e, ne-eqb n 0 h)
 
-  pub cost-answered : (n m : ℕ) (old terms : List ℕ) (z : ℤ) → firstFailed (costChecks L p s ends hs) ≡ 0 → T (layoutOk s ends) → n ≡ blocks s
-      → Loaded L p hs (n * termsPerBlock) old terms → Numbered terms ends m → z ≡ subℕ m (2 ^ 60)
+  pub cost-answered : (n m : ℕ) (sums : List ℕ) (z : ℤ) → firstFailed (costChecks L p s ends hs) ≡ 0 → T (layoutOk s ends) → n ≡ blocks s
+      → Summed L p hs ((n + 1) * sumsPerPlace) sums → Numbered sums ends m → z ≡ subℕ m (2 ^ 60)
       → _≡_ {A = Costed} (record { refusal = 0; cost = z }) (costCall L p s ends hs)
   unfolding costCall
-  cost-answered n m old terms z e t a load num f =
-      let c = layout-cost L p hs (blocks s) old terms (rw a at load) ends (laid s ends t .cut) in
+  cost-answered n m sums z e t a added num f =
+      let c = layout-cost L p hs (blocks s) sums (rw a at added) ends (laid s ends t .cut) in
       let g : subℕ m (2 ^ 60) ≡ costOf L p (blocks s) ends hs = eq-is _ _ _ _ _ _ (is-sub m (2 ^ 60)) c (omega (arith, num .is)) in
       rw (e, f, g)

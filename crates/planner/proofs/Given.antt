@@ -1,31 +1,29 @@
 -- What it says that the checks of a plan and of a cost are passed. Assumes nothing.
-use Prim.Native.Nat.{ℕ, zero, suc, _+_, _-_, _/_, _≤_, _<_}
+use Prim.Native.Nat.{ℕ, _+_, _-_, _/_, _≤_, _<_}
 use mathlib.Core.Path.{_≡_, refl, ap, _∙_}
 use mathlib.Core.Bool.{Bool, true, false, not, _&&_, and-true}
 use mathlib.Core.List.{List, [], _∷_, _++_}
 use native.Mathlib.Omega.{arith}
 use borrow.Author.Tests.{lt-leb, le-leb}
-use lib.Dec.{T, leb, eqb, leb→le}
-use lib.ListN.{length, getD, set, length-set}
+use lib.Dec.{T, leb, eqb}
+use lib.ListN.{length, set, length-set}
 use Rattle.model.specs.declared.PriceCard.{PriceCard}
 use Rattle.model.specs.declared.Limits.{Limits}
-use Rattle.model.specs.Bounds.{mostCount, mostPrice}
-use Rattle.model.specs.Lists.{every}
 use Rattle.model.specs.Checks.{Check, ask, firstFailed}
 use Rattle.model.specs.Prices.{priceOk, pricesOk, limitsOk}
 use Rattle.model.specs.Blocks.{Set, blocks, valuesOk}
-use Rattle.model.specs.Histograms.{histogramsSize, countsOk}
+use Rattle.model.specs.Histograms.{countsOk}
 use Rattle.model.specs.Layouts.{layoutOk, separatesNone, longestPartition}
 use Rattle.model.specs.Plan.{permittedLayouts}
 use Rattle.model.specs.Questions.{setChecks, applyChecks, costChecks, plannerChecks}
 use Rattle.model.specs.Lent.{setOf}
-use Rattle.model.proofs.Tests.{and-fst, and-snd, is-true, yes-first}
+use Rattle.model.proofs.Tests.{and-fst, yes-first}
 use Rattle.checks.proofs.Answers.{failed-first, numbered, passed-first}
-use Rattle.histograms.proofs.Counts.{counts-long}
 use Rattle.sets.specs.Sized.{Sized, setRefusalOf, countedChecks}
 use Rattle.sets.proofs.Sets.{whole, set-first, blocks-least, blocks-most}
 use Rattle.layout_search.proofs.RowLaws.{stored-more}
 use Rattle.block_costs.specs.Terms.{PricesPass, Counted}
+use Rattle.block_costs.proofs.TermLaws.{prices-pass, counted}
 use Rattle.planner.specs.Given.{givenChecks, Marked}
 
 -- check 1, test by test
@@ -41,37 +39,6 @@ module _ (p : PriceCard) where
   pub rw-left : priceOk (p .rr) ≡ true → priceOk (p .sr) ≡ true → priceOk (p .«rw») ≡ pricesOk p
   unfolding pricesOk
   rw-left e f = rw (e, f)
-
-  prices-pass : T (pricesOk p) → PricesPass p
-  unfolding pricesOk
-  prices-pass t =
-      let a = priceOk (p .rr) in
-      let b = priceOk (p .sr) in
-      let c = priceOk (p .«rw») in
-      let x = and-fst a b (and-fst (a && b) c t) in
-      let y = and-snd a b (and-fst (a && b) c t) in
-      let z = and-snd (a && b) c t in
-      record {
-        rr-least = leb→le 1 (p .rr) (and-fst (leb 1 (p .rr)) (leb (p .rr) mostPrice) x);
-        rr-most = leb→le (p .rr) mostPrice (and-snd (leb 1 (p .rr)) (leb (p .rr) mostPrice) x);
-        sr-least = leb→le 1 (p .sr) (and-fst (leb 1 (p .sr)) (leb (p .sr) mostPrice) y);
-        sr-most = leb→le (p .sr) mostPrice (and-snd (leb 1 (p .sr)) (leb (p .sr) mostPrice) y);
-        rw-most = leb→le (p .«rw») mostPrice (and-snd (leb 1 (p .«rw»)) (leb (p .«rw») mostPrice) z);
-      }
-
--- check 9
-count-small : (hs : List ℕ) → T (every (λ (n : ℕ). leb n mostCount) hs) → (x : ℕ) → getD hs x 0 ≤ mostCount
-unfolding every
-count-small [] t x = omega arith
-count-small (n ∷ hs) t zero = leb→le n mostCount (and-fst (leb n mostCount) _ t)
-count-small (n ∷ hs) t (suc x) = count-small hs (and-snd (leb n mostCount) _ t) x
-
-counted : (L : ℕ) (hs : List ℕ) → T (countsOk L hs) → Counted L hs
-unfolding countsOk
-counted L hs t =
-    let a = eqb (length hs) (histogramsSize L) in
-    let b = every (λ (n : ℕ). leb n mostCount) hs in
-    record { long = counts-long L hs (is-true (a && b) t); each = count-small hs (and-snd a b t) }
 
 module _ (L : ℕ) (s : Set) where
   -- 7 asks nothing here, and no values are offered

@@ -1,7 +1,7 @@
 -- The layouts that the search allows are the permitted ones, and its least is the cheapest. Assumes nothing.
 use Prim.Native.Nat.{ℕ, _+_, _-_, _*_, _≤_, _<_}
 use mathlib.Core.Path.{_≡_, refl, sym, _∙_, subst}
-use mathlib.Core.Bool.{Bool, true, false, cond, _&&_}
+use mathlib.Core.Bool.{Bool, false, _&&_}
 use mathlib.Core.List.{List, [], _∷_}
 use native.Mathlib.Omega.{arith}
 use lib.Dec.{T, leb, leb→le, le→leb}
@@ -19,24 +19,21 @@ use Rattle.model.proofs.Integers.{Is, is-sub, eq-is}
 use Rattle.model.proofs.Order.{comesBefore-intro, comesBefore-elim}
 use Rattle.model.proofs.LayoutLaws.{Cut, layout-cut, cut-is-layout}
 use Rattle.layout_search.specs.Task.{Task, Layout, Covers, adds, takes, Allowed, Least}
-use Rattle.layout_search.specs.Terms.{termsPerBlock, taskOf}
-use Rattle.layout_search.proofs.TermLaws.{ok-yes}
-use Rattle.block_costs.specs.Terms.{Loaded}
+use Rattle.layout_search.specs.RunningSums.{sumsPerPlace, taskOf}
+use Rattle.layout_search.proofs.PriceLaws.{ok-yes}
+use Rattle.layout_search.proofs.TailLaws.{fits-of}
+use Rattle.block_costs.specs.Terms.{Summed}
 use Rattle.block_costs.proofs.LayoutCost.{covers-cut, layout-cost}
 
-both : (b c : Bool) → cond b c false ≡ true → T b × T c
-both true c e = (tt, of-true c e)
-both false c e = absurd (subst T (sym e) tt)
-
--- the terms of all blocks are loaded, and where an end may stand is marked
-pub record Ready (L : ℕ) (p : PriceCard) (s : Set) (hs old terms : List ℕ) (fits : List Bool) : Type 0 where
-  pub loaded : Loaded L p hs (blocks s * termsPerBlock) old terms
+-- the terms of all blocks are added up, and where an end may stand is marked
+pub record Ready (L : ℕ) (p : PriceCard) (s : Set) (hs sums : List ℕ) (fits : List Bool) : Type 0 where
+  pub summed : Summed L p hs ((blocks s + 1) * sumsPerPlace) sums
   pub marks : (i : ℕ) → i < blocks s → getD fits i false ≡ separatesNone s i
   pub some : 1 ≤ blocks s
 
-module _ (l : Limits) {L : ℕ} {p : PriceCard} {s : Set} {hs old terms : List ℕ} {fits : List Bool} (w : Ready L p s hs old terms fits) where
+module _ (l : Limits) {L : ℕ} {p : PriceCard} {s : Set} {hs sums : List ℕ} {fits : List Bool} (w : Ready L p s hs sums fits) where
   abbrev pub task : Task
-  task = taskOf terms fits (longestPartition p l) (blocks s)
+  task = taskOf sums fits (longestPartition p l) (blocks s)
 
   abbrev short : ℕ → Bool
   short n = leb n (longestPartition p l)
@@ -58,8 +55,9 @@ module _ (l : Limits) {L : ℕ} {p : PriceCard} {s : Set} {hs old terms : List �
   layout-ends a [] l = (tt, tt)
   layout-ends a (e ∷ es) l =
       let r = layout-ends (e + 1) es (l .3) in
-      let b = both (short (e + 1 - a)) (getD fits e false) (l .2) in
-      (and-mk (separatesNone s e) (every (separatesNone s) es) (subst T (w .marks e (l .1)) (b .1)) (r .0), and-mk (short (e + 1 - a)) (every short (blockCounts (e + 1) es)) (b .0) (r .1))
+      let b = fits-of (short (e + 1 - a)) (getD fits e false) (l .2) in
+      let t = subst T (w .marks e (l .1)) (of-true _ (b .1)) in
+      (and-mk (separatesNone s e) (every (separatesNone s) es) t (r .0), and-mk (short (e + 1 - a)) (every short (blockCounts (e + 1) es)) (b .0) (r .1))
 
   not-empty : (es : List ℕ) → Layout task 0 es → 1 ≤ length es
   not-empty [] l = absurd (omega (arith, l, w .some))
@@ -92,10 +90,10 @@ module _ (l : Limits) {L : ℕ} {p : PriceCard} {s : Set} {hs old terms : List �
 
   -- the cost of an allowed layout
   cost-is : (es : List ℕ) → Layout task 0 es → Is (costOf L p (blocks s) es hs) (adds task 0 es) (takes task 0 es)
-  cost-is es l = layout-cost L p hs (blocks s) old terms (w .loaded) es (layout-cuts es l)
+  cost-is es l = layout-cost L p hs (blocks s) sums (w .summed) es (layout-cuts es l)
 
-  pub cost-by-terms : (es : List ℕ) → Layout task 0 es → costOf L p (blocks s) es hs ≡ subℕ (adds task 0 es) (takes task 0 es)
-  cost-by-terms es l = eq-is _ _ _ _ _ _ (cost-is es l) (is-sub (adds task 0 es) (takes task 0 es)) refl
+  pub cost-by-sums : (es : List ℕ) → Layout task 0 es → costOf L p (blocks s) es hs ≡ subℕ (adds task 0 es) (takes task 0 es)
+  cost-by-sums es l = eq-is _ _ _ _ _ _ (cost-is es l) (is-sub (adds task 0 es) (takes task 0 es)) refl
 
   pub least-cheapest : (es : List ℕ) → Least task (mostPartitions p l) es → IsCheapest L p l s hs es
   least-cheapest es h = record {

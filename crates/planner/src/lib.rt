@@ -11,9 +11,11 @@ ghost use Rattle.model.specs.Planner.{costCall, planCall};
 ghost use Rattle.model.specs.Bounds.{blockLimit};
 ghost use Rattle.model.specs.Lent.{setIn};
 ghost use Rattle.sets.specs.Sized.{Sized};
+ghost use Rattle.layout_search.specs.RunningSums.{Holds, taskOf};
+ghost use Rattle.layout_search.specs.Answer.{Answered};
 ghost use Rattle.block_costs.specs.Terms.{PricesPass};
 ghost use Rattle.planner.specs.Given.{givenChecks, Marked};
-use layout_search::TERMS_PER_BLOCK;
+use layout_search::SUMS_PER_PLACE;
 use model::BLOCK_LIMIT;
 use model::Costed;
 use model::Limits;
@@ -22,10 +24,15 @@ use model::MOST_PRICE;
 use model::Planned;
 use model::PriceCard;
 
-// The terms of all blocks, and a table of the best for each first block and each count of partitions.
-const TERMS: usize = BLOCK_LIMIT * TERMS_PER_BLOCK;
+// The running sums of all blocks.
+const SUMS: usize = (BLOCK_LIMIT + 1) * SUMS_PER_PLACE;
 
-const TABLE: usize = BLOCK_LIMIT * BLOCK_LIMIT;
+// A table of the best for each first block and each count of partitions, and of the local prices; a small one serves so many blocks.
+const TABLE: usize = 2 * BLOCK_LIMIT * BLOCK_LIMIT;
+
+const FEW_BLOCKS: usize = 32;
+
+const SMALL_TABLE: usize = 2 * FEW_BLOCKS * FEW_BLOCKS;
 
 // Check 1 of one price, of the three, and of the limits.
 fn price_ok(p: u32) -> bool
@@ -160,6 +167,27 @@ fn mark(block: u32, used: u32, growers: &[u32], n: usize, fits: &mut [bool])
     }
 }
 
+// The search with a table of its own: with few blocks a small one, since a table is cleared first.
+fn searched(
+    sums: &[u64],
+    fits: &[bool],
+    longest: usize,
+    most: usize,
+    n: usize,
+    ends: &mut [u32],
+) -> Planned
+    requires { ⌜ Holds (now sums) n ⌝ }
+    requires { ⌜ (0 < n) × (n ≤ blockLimit) × (n ≤ length (now fits)) ⌝ }
+    ensures { λ r. ⌜ Answered (taskOf (now (sums .entry)) (now (fits .entry)) longest n) most (now (ends .entry)) (now (ends .exit)) r ⌝ }
+{
+    if n <= FEW_BLOCKS {
+        let mut small = [0u64; SMALL_TABLE];
+        return layout_search::cheapest(sums, fits, longest, most, n, &mut small[..], ends);
+    }
+    let mut table = [0u64; TABLE];
+    layout_search::cheapest(sums, fits, longest, most, n, &mut table[..], ends)
+}
+
 // The cheapest permitted layout: its ends go to the front of `ends`, and what lies past them stays.
 pub fn plan(
     card: PriceCard,
@@ -192,20 +220,11 @@ pub fn plan(
     let n = sets::block_count(block, used) as usize;
     let longest = longest_partition(card, limits);
     let most = most_partitions(card, limits);
-    let mut terms = [0u64; TERMS];
+    let mut sums = [0u64; SUMS];
     let mut fits = [false; BLOCK_LIMIT];
-    let mut table = [0u64; TABLE];
-    block_costs::load(card, histograms, n, &mut terms[..]);
+    block_costs::add_up(card, histograms, n, &mut sums[..]);
     mark(block, used, growers, n, &mut fits[..]);
-    layout_search::cheapest(
-        &terms[..],
-        &fits[..],
-        longest,
-        most,
-        n,
-        &mut table[..],
-        ends,
-    )
+    searched(&sums[..], &fits[..], longest, most, n, ends)
 }
 
 // The cost of a given layout.
@@ -236,9 +255,9 @@ pub fn cost(
         return Costed { refusal, cost: 0 };
     }
     let blocks = sets::block_count(block, used) as usize;
-    let mut terms = [0u64; TERMS];
-    block_costs::load(card, histograms, blocks, &mut terms[..]);
-    let m = layout_search::layout_number(&terms[..], ends);
+    let mut sums = [0u64; SUMS];
+    block_costs::add_up(card, histograms, blocks, &mut sums[..]);
+    let m = layout_search::layout_number(&sums[..], ends);
     let cost = layout_search::unbiased(m);
     Costed { refusal: 0, cost }
 }

@@ -2,7 +2,8 @@
 use native.Mathlib.Omega.{arith}
 use Rattle.model.specs.Histograms.{slot, position}
 use Rattle.block_costs.specs.Terms.{fixedOf}
-use Rattle.block_costs.proofs.TermLaws.{product-is, four-products}
+use Rattle.layout_search.proofs.PriceLaws.{product-is}
+use Rattle.block_costs.proofs.TermLaws.{four-products}
 use borrow.Author.Needs.{needs}
 use Rattle.block_costs.proofs.fixed.Statement.{statement}
 use Rattle.block_costs.proofs.fixed.Tie as tie

@@ -2,7 +2,7 @@
 use native.Mathlib.Omega.{arith}
 use Rattle.model.specs.Histograms.{slot, position}
 use Rattle.block_costs.specs.Terms.{perBlockAfterOf}
-use Rattle.block_costs.proofs.TermLaws.{product-is}
+use Rattle.layout_search.proofs.PriceLaws.{product-is}
 use borrow.Author.Needs.{needs}
 use Rattle.block_costs.proofs.per_block_after.Statement.{statement}
 use Rattle.block_costs.proofs.per_block_after.Tie as tie

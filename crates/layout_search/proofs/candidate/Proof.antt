@@ -7,7 +7,7 @@ use borrow.Author.Tests.{not-true, not-false}
 use borrow.Author.Needs.{needs}
 use Rattle.layout_search.specs.Table.{offered}
 use Rattle.layout_search.proofs.BestLaws.{offer-not-ok, offer-no-rest}
-use Rattle.layout_search.proofs.TermLaws.{holds-less, priced-as}
+use Rattle.layout_search.proofs.PriceLaws.{holds-less, priced-as}
 use Rattle.layout_search.proofs.candidate.Statement.{statement}
 use Rattle.layout_search.proofs.candidate.Tie as tie
 

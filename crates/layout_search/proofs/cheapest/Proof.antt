@@ -7,7 +7,7 @@ use native.Mathlib.Omega.{arith}
 use borrow.Author.Needs.{needs}
 use lib.IntN.{subℕ}
 use Rattle.layout_search.specs.Task.{Task}
-use Rattle.layout_search.specs.Terms.{taskOf}
+use Rattle.layout_search.specs.RunningSums.{taskOf}
 use Rattle.layout_search.specs.Table.{valOf}
 use Rattle.layout_search.proofs.RowLaws.{rows-below}
 use Rattle.layout_search.proofs.LeastLaws.{Settled, settled, answered-nothing, answered-tight, answered-found}
@@ -16,7 +16,7 @@ use Rattle.layout_search.proofs.cheapest.Statement.{statement}
 use Rattle.layout_search.proofs.cheapest.Tie as tie
 
 abbrev the-task : tie.Start → Task
-the-task s = taskOf (s .args .terms .now) (s .args .fits .now) (s .args .longest) (s .args .n)
+the-task s = taskOf (s .args .sums .now) (s .args .fits .now) (s .args .longest) (s .args .n)
 
 -- where the count of partitions is known: the call that filled the table, the most partitions, and the beginning
 abbrev filled : tie.After-fewest → tie.After-fill

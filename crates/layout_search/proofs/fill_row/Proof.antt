@@ -1,42 +1,55 @@
--- `layout_search::fill_row` meets its contract. The loop's invariant (`Filling`): the row's numbers before `a` are the best by the row before, which the stores leave as it was. Assumes nothing.
-use native.Mathlib.Omega.{arith}
+-- `layout_search::fill_row` meets its contract. The loop's invariant (`Filling`): the row's numbers before `a` are the best, by the tails of the row before and the local prices, which
+-- the stores leave as they were. Assumes nothing.
 use Prim.Native.Nat.{_+_, _-_, _<_}
+use native.Mathlib.Omega.{arith}
 use lib.ListN.{length}
-use Rattle.layout_search.proofs.RowLaws.{Filling, filling-start, filling-more, filling-done, row-kept, row-place, rows-below}
-use Rattle.layout_search.specs.Terms.{taskOf}
+use borrow.Author.Needs.{needs}
+use Rattle.layout_search.specs.RunningSums.{taskOf}
+use Rattle.layout_search.proofs.RowLaws.{Filling, filling-start, filling-more, filling-done, row-place, rows-below}
+use Rattle.layout_search.proofs.TailLaws.{locals-kept}
 use Rattle.layout_search.proofs.fill_row.Statement.{statement}
 use Rattle.layout_search.proofs.fill_row.Tie as tie
 
 abbrev Inv-loop : tie.InvT-loop
-Inv-loop terms fits longest n table₀ k a₀ table a = Filling (taskOf terms fits longest n) k a table₀ table
+Inv-loop sums fits longest n table₀ tails k a₀ table a = Filling (taskOf sums fits longest n) k a table₀ table
 
 abbrev μ-loop : tie.MeasureT-loop
-μ-loop terms fits longest n table₀ k a₀ table a = n - a
+μ-loop sums fits longest n table₀ tails k a₀ table a = n - a
+
+-- at the loop: the call that made the tails, and the beginning
+abbrev tailed : tie.At-loop Inv-loop μ-loop → tie.After-fill-tails Inv-loop μ-loop
+tailed c = c .before .before .before
+
+abbrev at-start : tie.At-loop Inv-loop μ-loop → tie.Start Inv-loop μ-loop
+at-start c = tailed c .before .before .before .before .before .before .before
+
+abbrev looping : tie.After-index Inv-loop μ-loop → tie.At-loop Inv-loop μ-loop
+looping c = c .before .before .before .before .before
 
 -- the place in the table
-inside : (c : tie.After-index Inv-loop μ-loop) → c .index .result < length (c .before .before .before .before .loop .table)
+inside : (c : tie.After-index Inv-loop μ-loop) → c .index .result < length (looping c .loop .table)
 inside c =
-    let a = c .before .before .before .before .before .before .before .before .args in
-    let loop = c .before .before .before .before .loop in
-    omega (arith, row-place (a .n) (a .k) (loop .a) (omega arith), loop .inv .kept .long, c .index .ensures)
+    let a = at-start (looping c) .args in
+    let l = looping c .loop in
+    omega (arith, row-place (a .n) (a .k) (l .a) (omega arith), rows-below (a .n) (a .k + 1) (a .n) (omega arith), l .inv .kept .long, c .index .ensures)
+
+fill-tails-requires : tie.Need-fill-tails-requires Inv-loop μ-loop
+fill-tails-requires c κs =
+    let s = c .before .before .before .before .before .before in
+    (s .pre .0, (omega (arith, rows-below (s .args .n) (s .args .k) (s .args .n) (omega arith)), s .pre .1 .1 .1))
 
 loop-holds : tie.Need-loop-holds Inv-loop μ-loop
 loop-holds c = filling-start _ _ _
 
-best-of-requires : tie.Need-best-of-requires Inv-loop μ-loop
-best-of-requires c κs =
-    let s = c .before .before .before .before .before .before in
-    let a = s .args in
-    let l = c .before .before .loop in (
-      s .pre .0,
-      (
-        omega (arith, rows-below (a .n) (a .k) (a .k + 1) (omega arith), l .inv .kept .long),
-        row-kept (taskOf (a .terms .now) (a .fits .now) (a .longest) (a .n)) _ _ _ _ (l .inv .kept) (omega arith) (s .pre .1 .1),
-      ),
-    )
+best-number-requires : tie.Need-best-number-requires Inv-loop μ-loop
+best-number-requires c κs =
+    let l = c .before .before .before in
+    let s = at-start l in
+    let kept = l .loop .inv .kept in
+    (s .pre .0, (omega (arith, kept .long), (locals-kept _ _ _ _ _ kept (s .pre .1 .1 .0), tailed l .fill-tails .ensures)))
 
 index-requires : tie.Need-index-requires Inv-loop μ-loop
-index-requires c κs = omega arith
+index-requires c κs = omega (arith, at-start (c .before .before .before .before) .pre .0 .few)
 
 mul-table : tie.Need-mul-table Inv-loop μ-loop
 mul-table c = omega (arith, inside c)
@@ -51,19 +64,16 @@ loop-less : tie.Need-loop-less Inv-loop μ-loop
 loop-less c = omega arith
 
 loop-again : tie.Need-loop-again Inv-loop μ-loop
-loop-again c =
-    let loop = c .before .before .before .before .loop in
-    rw (c .index .ensures) (filling-more _ _ _ _ _ _ (loop .inv) (omega arith) (omega arith) (c .before .best-of .ensures .best))
+loop-again c = rw (c .index .ensures) (filling-more _ _ _ _ _ _ (looping c .loop .inv) (omega arith) (omega arith) (omega arith) (c .before .best-number .ensures))
 
 same-length : tie.Need-same-length Inv-loop μ-loop
 same-length c = c .before .loop .inv .kept .long
 
 returns : tie.Need-returns Inv-loop μ-loop
 returns c =
-    let a = c .before .before .before .before .before .args in (
-      filling-done (taskOf (a .terms .now) (a .fits .now) (a .longest) (a .n)) _ _ _ _ (c .before .loop .inv) (omega arith),
-      c .before .loop .inv .kept,
-    )
+    let a = at-start (c .before) .args in
+    let v = c .before .loop .inv in
+    (filling-done (taskOf (a .sums .now) (a .fits .now) (a .longest) (a .n)) _ _ _ _ v (omega arith), v .kept)
 
 pub fill-row-spec : {M : Type 1} → statement M
 fill-row-spec =
@@ -71,8 +81,9 @@ fill-row-spec =
     (tie.spec
     Inv-loop
     μ-loop
+    fill-tails-requires
     loop-holds
-    best-of-requires
+    best-number-requires
     index-requires
     mul-table
     slice-write-table
@@ -80,4 +91,5 @@ fill-row-spec =
     loop-less
     loop-again
     same-length
+    (λ c. search needs)
     returns)

@@ -2,16 +2,16 @@
 use Prim.Native.Nat.{_-_}
 use native.Mathlib.Omega.{arith}
 use lib.ListN.{length}
-use Rattle.layout_search.proofs.TermLaws.{holds-less, priced-as}
+use Rattle.layout_search.proofs.PriceLaws.{holds-less, priced-as}
 use Rattle.layout_search.proofs.NumberLaws.{Costing, costing-start, costing-from, costing-till, costing-more, costing-done}
 use Rattle.layout_search.proofs.layout_number.Statement.{statement}
 use Rattle.layout_search.proofs.layout_number.Tie as tie
 
 abbrev Inv-loop : tie.InvT-loop
-Inv-loop terms ends s₀ a₀ p₀ s a p = Costing terms ends s a p
+Inv-loop sums ends s₀ a₀ p₀ s a p = Costing sums ends s a p
 
 abbrev μ-loop : tie.MeasureT-loop
-μ-loop terms ends s₀ a₀ p₀ s a p = length ends - p
+μ-loop sums ends s₀ a₀ p₀ s a p = length ends - p
 
 loop-holds : tie.Need-loop-holds Inv-loop μ-loop
 loop-holds c = costing-start _ _ (c .before .before .pre)

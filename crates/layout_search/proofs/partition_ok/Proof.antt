@@ -3,7 +3,7 @@ use lib.ListN.{getD}
 use mathlib.Core.Bool.{false}
 use native.Mathlib.Omega.{arith}
 use borrow.Author.Needs.{needs}
-use Rattle.layout_search.proofs.TermLaws.{ok-yes, ok-no}
+use Rattle.layout_search.proofs.PriceLaws.{ok-yes, ok-no}
 use Rattle.layout_search.proofs.partition_ok.Statement.{statement}
 use Rattle.layout_search.proofs.partition_ok.Tie as tie
 

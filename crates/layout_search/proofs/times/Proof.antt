@@ -7,8 +7,8 @@ use Rattle.layout_search.specs.Task.{searchLimit}
 use Rattle.layout_search.proofs.times.Statement.{statement}
 use Rattle.layout_search.proofs.times.Tie as tie
 
-few : (s : tie.Start) → s .args .x * s .args .y ≤ 2 ^ 33 * searchLimit
-few s = mul-le-mul {n₂ = 2 ^ 33} {m₂ = searchLimit} (omega arith) (omega arith)
+few : (s : tie.Start) → s .args .x * s .args .y ≤ 2 ^ 49 * searchLimit
+few s = mul-le-mul {n₂ = 2 ^ 49} {m₂ = searchLimit} (omega arith) (omega arith)
 
 mul-result : tie.Need-mul-result
 mul-result c = omega (arith, few c)

@@ -3,15 +3,15 @@
 use native.Mathlib.Omega.{arith}
 use Prim.Native.Nat.{_-_, _<_}
 use Rattle.layout_search.proofs.RowLaws.{Walked, walked-start, walked-first, walked-more, walked-done, rows-below}
-use Rattle.layout_search.specs.Terms.{taskOf}
+use Rattle.layout_search.specs.RunningSums.{taskOf}
 use Rattle.layout_search.proofs.write_ends.Statement.{statement}
 use Rattle.layout_search.proofs.write_ends.Tie as tie
 
 abbrev Inv-loop : tie.InvT-loop
-Inv-loop terms fits longest n table k out₀ a₀ i₀ out a i = Walked (taskOf terms fits longest n) table k i a out₀ out
+Inv-loop sums fits longest n table k out₀ a₀ i₀ out a i = Walked (taskOf sums fits longest n) table k i a out₀ out
 
 abbrev μ-loop : tie.MeasureT-loop
-μ-loop terms fits longest n table k out₀ a₀ i₀ out a i = k - i
+μ-loop sums fits longest n table k out₀ a₀ i₀ out a i = k - i
 
 -- the next end is one of the blocks
 below : (c : tie.After-best-of Inv-loop μ-loop) → c .best-of .result .first < c .before .before .before .before .before .before .before .args .n

@@ -1,4 +1,4 @@
--- `planner::cost` meets its contract. Past the checks, the layout covers the blocks whose terms `load` leaves, and `cost-answered` takes its number to its cost. Assumes nothing.
+-- `planner::cost` meets its contract. Past the checks, the layout covers the blocks whose running sums `add_up` leaves, and `cost-answered` takes its number to its cost. Assumes nothing.
 use Prim.Native.Nat.{_≤_}
 use mathlib.Core.Path.{_≡_, sym, _∙_}
 use native.Mathlib.Omega.{arith}
@@ -11,7 +11,7 @@ use Rattle.model.specs.Layouts.{layoutOk}
 use Rattle.model.specs.Questions.{costChecks}
 use Rattle.model.specs.Lent.{setOf}
 use Rattle.layout_search.proofs.Bias.{held-cost}
-use Rattle.block_costs.proofs.TermLaws.{loaded-holds}
+use Rattle.block_costs.proofs.TermLaws.{summed-holds}
 use Rattle.planner.proofs.Given.{Given, cost-given}
 use Rattle.planner.proofs.Answers.{cost-refused, layout-covers-blocks, cost-answered}
 use Rattle.planner.proofs.cost.Statement.{statement}
@@ -39,18 +39,18 @@ returns c = cost-refused _ _ _ _ _ _ (c .before .cost-refusal .ensures) (c .if1 
 block-count-requires : tie.Need-block-count-requires
 block-count-requires c κs = let y = given c .0 .size in omega (arith, y .block-least, y .block-most, y .used-fits, y .slots-most)
 
-load-requires : tie.Need-load-requires
-load-requires c κs = let g = given (c .before .before) .0 in (g .counts, (g .prices, omega (arith, few (c .before))))
+add-up-requires : tie.Need-add-up-requires
+add-up-requires c κs = let g = given (c .before .before) .0 in (g .counts, (g .prices, omega (arith, few (c .before))))
 
 layout-number-requires : tie.Need-layout-number-requires
 layout-number-requires c κs =
     let n = c .before .before .before .before in
     let g = given (n .before) in
     let s = at-start (n .before) in
-    let l = c .before .before .load in
+    let l = c .before .before .add-up in
     record {
       n = _;
-      holds = loaded-holds _ _ _ _ _ _ (l .ensures) (g .0 .prices) (g .0 .counts) (omega (arith, few n)) (omega (arith, few n));
+      holds = summed-holds _ _ _ _ _ (l .ensures .summed) (g .0 .prices) (g .0 .counts) (omega (arith, few n)) (omega (arith, few n, l .ensures .long));
       covers = rw (n .block-count .ensures) (layout-covers-blocks (the-set s) (s .args .ends .now) (g .1));
     }
 
@@ -58,10 +58,10 @@ returns-2 : tie.Need-returns-2
 returns-2 c =
     let n = c .before .before .before .before .before .before in
     let s = at-start (n .before) in
-    let l = c .before .before .before .before .load in
+    let l = c .before .before .before .before .add-up in
     let m = c .before .layout-number in
-    cost-answered blockLimit (s .args .card) (the-set s) (s .args .ends .now) (s .args .histograms .now) _ _ _ _ _ (passed (n .before)) (given (n .before) .1)
-    (n .block-count .ensures) (l .ensures) (m .ensures) (held-cost _ (m .ensures .small) _ (c .unbiased .ensures))
+    cost-answered blockLimit (s .args .card) (the-set s) (s .args .ends .now) (s .args .histograms .now) _ _ _ _ (passed (n .before)) (given (n .before) .1)
+    (n .block-count .ensures) (l .ensures .summed) (m .ensures) (held-cost _ (m .ensures .small) _ (c .unbiased .ensures))
 
 pub cost-spec : {M : Type 1} → statement M
 cost-spec =
@@ -72,7 +72,7 @@ cost-spec =
     block-count-requires
     (λ c. search needs)
     (λ c. search needs)
-    load-requires
+    add-up-requires
     (λ c. search needs)
     layout-number-requires
     (λ c κs. search needs)

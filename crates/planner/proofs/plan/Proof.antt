@@ -1,14 +1,13 @@
--- `planner::plan` meets its contract. Past the checks, what `load` and `mark` leave is the search's task, and `answered-plan` takes the search's answer to the model's. Assumes nothing.
-use Prim.Native.Nat.{_*_, _≤_}
+-- `planner::plan` meets its contract. Past the checks, what `add_up` and `mark` leave is the search's task, and `answered-plan` takes the search's answer to the model's. Assumes nothing.
+use Prim.Native.Nat.{_≤_}
 use mathlib.Core.Path.{_≡_, sym, _∙_}
 use native.Mathlib.Omega.{arith}
-use native.Mathlib.Nat.{mul-le-mul}
 use borrow.Author.Needs.{needs}
 use Rattle.model.specs.Bounds.{blockLimit}
 use Rattle.model.specs.Checks.{firstFailed}
 use Rattle.model.specs.Blocks.{Set}
 use Rattle.model.specs.Lent.{setOf}
-use Rattle.block_costs.proofs.TermLaws.{loaded-holds}
+use Rattle.block_costs.proofs.TermLaws.{summed-holds}
 use Rattle.planner.specs.Given.{givenChecks}
 use Rattle.planner.proofs.Given.{Given, plan-given}
 use Rattle.planner.proofs.Answers.{plan-not-given, answered-plan}
@@ -43,8 +42,8 @@ longest-partition-requires c κs = given (c .before) .prices
 most-partitions-requires : tie.Need-most-partitions-requires
 most-partitions-requires c κs = given (c .before .before) .prices
 
-load-requires : tie.Need-load-requires
-load-requires c κs =
+add-up-requires : tie.Need-add-up-requires
+add-up-requires c κs =
     let n = c .before .before .before in
     let g = given (n .before) in
     (g .counts, (g .prices, omega (arith, few n)))
@@ -52,26 +51,25 @@ load-requires c κs =
 mark-requires : tie.Need-mark-requires
 mark-requires c κs = let n = c .before .before .before .before .before .before in (given (n .before) .size, omega (arith, few n))
 
-cheapest-requires : tie.Need-cheapest-requires
-cheapest-requires c κs =
-    let n = c .before .before .before .before .before .before .before .before .before .before .before .before in
+searched-requires : tie.Need-searched-requires
+searched-requires c κs =
+    let n = c .before .before .before .before .before .before .before .before .before .before .before in
     let g = given (n .before) in
-    let l = c .before .before .before .before .before .before .before .before .load in
+    let l = c .before .before .before .before .before .before .before .add-up .ensures in
     let f = few n in
-    let room : n .block-count .result * n .block-count .result ≤ blockLimit * blockLimit = mul-le-mul {n₂ = blockLimit} {m₂ = blockLimit} (f .1) (f .1) in
-    (loaded-holds _ _ _ _ _ _ (l .ensures) (g .prices) (g .counts) (omega (arith, f)) (omega (arith, f)), omega (arith, f, room))
+    (summed-holds _ _ _ _ _ (l .summed) (g .prices) (g .counts) (omega (arith, f)) (omega (arith, f, l .long)), omega (arith, f))
 
 returns-2 : tie.Need-returns-2
 returns-2 c =
-    let mark = c .before .before .before .before .before .before .before .before .before in
-    let load = mark .before .before .before in
-    let most = load .before .before in
+    let mark = c .before .before .before .before .before .before .before in
+    let added = mark .before .before .before in
+    let most = added .before .before in
     let longest = most .before in
     let n = longest .before in
     let s = at-start (n .before) in
-    answered-plan blockLimit (s .args .card) (s .args .limits) (the-set s) (s .args .histograms .now) (s .args .ends .now) (passed (n .before)) _ _ _ _ _ _ _ _ _
-    (n .block-count .ensures) (longest .longest-partition .ensures) (most .most-partitions .ensures) (given (n .before) .some) (load .load .ensures) (mark .mark .ensures)
-    (c .before .before .before .cheapest .ensures)
+    answered-plan blockLimit (s .args .card) (s .args .limits) (the-set s) (s .args .histograms .now) (s .args .ends .now) (passed (n .before)) _ _ _ _ _ _ _ _
+    (n .block-count .ensures) (longest .longest-partition .ensures) (most .most-partitions .ensures) (given (n .before) .some) (added .add-up .ensures .summed) (mark .mark .ensures)
+    (c .before .before .searched .ensures)
 
 pub plan-spec : {M : Type 1} → statement M
 plan-spec =
@@ -85,12 +83,11 @@ plan-spec =
     longest-partition-requires
     most-partitions-requires
     (λ c. search needs)
-    load-requires
+    add-up-requires
     (λ c. search needs)
     mark-requires
     (λ c. search needs)
     (λ c. search needs)
-    (λ c. search needs)
-    cheapest-requires
+    searched-requires
     (λ c. search needs)
     returns-2)

@@ -1,5 +1,6 @@
 //! Recorder, cost and planner.
 
+mod bounds;
 mod calls;
 mod limits;
 mod seen;
@@ -215,19 +216,29 @@ fn costs(run: &mut Run) -> Result<(), String> {
 }
 
 /// A plan, and the cost of the ends that it gives.
+fn planned_and_costed(
+    run: &mut Run,
+    r: &mut Random,
+    library: &Library,
+    case: &mut Case,
+    by: By,
+) -> Result<(), String> {
+    let (planned, ends) = plan(r, &mut run.seen, library, case, by)?;
+    if planned.refusal == 0 {
+        case.ends = ends;
+        let costed = cost(r, &mut run.seen, library, case)?;
+        if costed.refusal != 0 || costed.cost != planned.cost {
+            return Err(format!("{planned:?}, but {costed:?} for {:?}", case.ends));
+        }
+    }
+    Ok(())
+}
+
 fn plans(run: &mut Run, test: u64, count: u64, most_blocks: usize, by: By) -> Result<(), String> {
     run.cases(test, count, |run, r| {
         let library = inputs::library(r);
         let mut case = case(r, most_blocks);
-        let (planned, ends) = plan(r, &mut run.seen, &library, &case, by)?;
-        if planned.refusal == 0 {
-            case.ends = ends;
-            let costed = cost(r, &mut run.seen, &library, &case)?;
-            if costed.refusal != 0 || costed.cost != planned.cost {
-                return Err(format!("{planned:?}, but {costed:?} for {:?}", case.ends));
-            }
-        }
-        Ok(())
+        planned_and_costed(run, r, &library, &mut case, by)
     })
 }
 
@@ -595,6 +606,10 @@ pub const TESTS: &[(&str, Test)] = &[
         plans_by_listing,
     ),
     ("plan: planner against the table, N to 64", plans_by_table),
+    (
+        "plan: planner with prices and counts at their least and most",
+        bounds::planned,
+    ),
     (
         "plan: limits against the counts of finds and inserts, N to 7",
         limits::by_counts,
