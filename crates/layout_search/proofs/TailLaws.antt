@@ -10,11 +10,11 @@ use lib.Dec.{T, leb, leb→le}
 use lib.ListN.{length, getD, set, length-set}
 use lib.Seq.{getD-set-same, getD-set-other}
 use Rattle.layout_search.specs.Task.{searchLimit, Task, Layout}
-use Rattle.layout_search.specs.RunningSums.{perPartitionAdded, perPartitionSaved, sumAt, sumOver, Holds, LocalPrice, taskOf}
+use Rattle.layout_search.specs.RunningSums.{sumsPerPlace, perPartitionAdded, perPartitionSaved, sumAt, sumOver, Holds, LocalPrice, taskOf}
 use Rattle.layout_search.specs.Table.{Low, Hit, Near, Best, Cand, Kept, LocalRow, LocalPrices, Tail, noTail, someTail, Tails, Small, LeastOf}
 use Rattle.layout_search.proofs.BestLaws.{layout-count, cand-low, cand-hit, cand-near, no-true}
 use Rattle.layout_search.proofs.PriceLaws.{product-grows, rises, sum-times-small, span-most, saved-most, ok-yes}
-use Rattle.layout_search.proofs.RowLaws.{row-place, rows-below}
+use Rattle.layout_search.proofs.RowLaws.{stored-each, row-place, rows-below}
 
 -- where the local prices of first block a stand
 pub local-place : (n a : ℕ) → a < n → n ≤ searchLimit → (n * n + a * n + n ≤ 2 * (n * n)) × (n * n + a * n < 2 ^ 32)
@@ -71,11 +71,7 @@ tails-start sums t fits k row h = record { room = h; here = λ d u. absurd (omeg
 
 pub tails-more : (sums : List ℕ) (t : Task) (fits : ℕ → Bool) (k e v : ℕ) (row : List ℕ) → Tails sums t fits k e row → e < t .n → Tail sums t fits k e v
     → Tails sums t fits k (e + 1) (set row e v)
-tails-more sums t fits k e v row s g p = record { room = rw (length-set row e v) (s .room); here = λ d u. go d u (ℕ-discrete d e) }
-  where
-    go : (d : ℕ) → d < e + 1 → Dec (d ≡ e) → Tail sums t fits k d (getD (set row e v) d 0)
-    go d u (yes q) = rw (q, getD-set-same row e v 0 (omega (arith, s .room))) p
-    go d u (no q) = rw (getD-set-other row e d v 0 q) (s .here d (omega arith))
+tails-more sums t fits k e v row s g p = record { room = rw (length-set row e v) (s .room); here = stored-each (Tail sums t fits k) 0 v e row (omega (arith, s .room)) p (s .here) }
 
 -- where a first partition may end: k partitions behind it need k blocks, and it is not too long
 pub reach : (sums : List ℕ) (fits : List Bool) (longest n k a d : ℕ) (ds : List ℕ) → Layout (taskOf sums fits longest n) a (d ∷ ds) → length ds ≡ k
@@ -150,7 +146,7 @@ module _ (sums : List ℕ) (fits : List Bool) (longest n k a : ℕ) (table row :
     blocks = h .few;
   }
     where
-      grows : (r : ℕ) → r < 7 → sumAt sums r (e + 1) * (k + 1) ≡ sumAt sums r a * (k + 1) + sumOver sums r a e * (k + 1)
+      grows : (r : ℕ) → r < sumsPerPlace → sumAt sums r (e + 1) * (k + 1) ≡ sumAt sums r a * (k + 1) + sumOver sums r a e * (k + 1)
       grows r g = product-grows (sumAt sums r a) (sumAt sums r (e + 1)) (k + 1) (rises sums n (h .rising) r a e g (omega arith) (omega arith))
 
       number : (m0 m1 dm l0 l1 dl y x p up down : ℕ) → m1 ≡ m0 + dm → l1 ≡ l0 + dl → m0 ≤ 2 ^ 57 → l1 ≤ 2 ^ 57 → 2 ^ 60 ≤ y + (n - (e + 1)) * 2 ^ 43

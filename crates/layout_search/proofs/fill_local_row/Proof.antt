@@ -4,6 +4,7 @@ use Prim.Native.Nat.{_+_, _-_, _*_, _≤_, _<_}
 use mathlib.Core.Path.{_≡_}
 use native.Mathlib.Omega.{arith}
 use lib.ListN.{length}
+use Rattle.layout_search.specs.Task.{searchLimit}
 use Rattle.layout_search.specs.Table.{LocalRow}
 use Rattle.layout_search.proofs.PriceLaws.{holds-less}
 use Rattle.layout_search.proofs.TailLaws.{local-place, local-start, local-more}
@@ -21,7 +22,7 @@ at-start c = c .before .before .before .before .before .before
 
 -- where the price goes
 place : (c : tie.After-local-price Inv-loop μ-loop)
-    → (let s = at-start c in let l = c .before .before .loop in (s .args .n * s .args .n + s .args .a * s .args .n + l .e < length (l .table)) × (l .e < 256))
+    → (let s = at-start c in let l = c .before .before .loop in (s .args .n * s .args .n + s .args .a * s .args .n + l .e < length (l .table)) × (l .e < searchLimit))
 place c =
     let s = at-start c in
     let l = c .before .before .loop in
