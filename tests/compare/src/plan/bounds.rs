@@ -9,7 +9,7 @@ use second::random::Random;
 use second::{PriceCard, COUNT_LIMIT, HISTOGRAM_LEN};
 
 /// Either side of each power of two up to the block limit.
-const BLOCKS: [usize; 14] = [1, 2, 3, 4, 5, 7, 8, 15, 16, 17, 31, 32, 33, 64];
+const BLOCKS: [usize; 16] = [1, 2, 3, 4, 5, 7, 8, 9, 15, 16, 17, 31, 32, 33, 63, 64];
 
 /// The most at every place, at those that raise a cost, at those that lower it,
 /// at every other block, or at drawn places; otherwise 0.
