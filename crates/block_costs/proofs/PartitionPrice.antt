@@ -1,6 +1,6 @@
 -- The price that is taken from the running sums is 01's for those blocks: block by block it is what the terms say, and the sums add the blocks up. Assumes nothing.
 use Prim.Native.Nat.{ℕ, zero, suc, _+_, _-_, _*_, _^_, _≤_, _<_}
-use mathlib.Core.Path.{_≡_, refl, _∙_}
+use mathlib.Core.Path.{_≡_, refl, _∙_, subst}
 use mathlib.Core.List.{List, [], _∷_, _++_, map}
 use native.Mathlib.Omega.{arith}
 use lib.ListN.{length, getD, length-append}
@@ -85,7 +85,10 @@ module _ (L : ℕ) (c : PriceCard) (hs sums ends : List ℕ) (n a e k : ℕ) (s 
 pub price-is-01 : PriceIs01
 price-is-01 L c hs sums ahead behind n a e s f g =
     let p = is-partition ahead behind a e f in
-    (by-sums L c hs sums _ n a e _ s (g .0) (g .1) p, by-search L c hs sums _ n a e _ s (g .0) (g .1) p)
+    let cost = blocksCost L c (ahead ++ e ∷ behind) hs a e in (
+      subst (λ (k : ℕ). priceBySums sums a e k ≡ cost) (omega arith) (by-sums L c hs sums _ n a e (length behind + 1) s (g .0) (g .1) p),
+      by-search L c hs sums _ n a e _ s (g .0) (g .1) p,
+    )
 
 pub sums-fit : SumsFit
 sums-fit L c hs q j p k g = sum-fits L c hs q j (prices-pass c p) (counted L hs k) g

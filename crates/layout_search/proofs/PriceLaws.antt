@@ -40,6 +40,10 @@ ok-yes longest a e f h = rw (le-leb (e + 1 - a) longest h)
 pub ok-no : (longest a e : ℕ) (f : ℕ → Bool) → longest < e + 1 - a → false ≡ partitionOk longest f a e
 ok-no longest a e f h = rw (lt-leb (e + 1 - a) longest h)
 
+-- a sum by its place, however that was counted
+pub sum-as : (sums : List ℕ) (q i j x : ℕ) → x ≡ sumAt sums q i → i ≡ j → x ≡ sumAt sums q j
+sum-as sums q i j x e h = e ∙ ap (sumAt sums q) h
+
 -- a partition's price by how many there are from it to the last, however that was counted
 pub priced-as : (sums : List ℕ) (a e j k r : ℕ) → j ≡ k → Priced sums a e j r → Priced sums a e k r
 priced-as sums a e j k r h p = subst (λ (v : ℕ). Priced sums a e v r) h p
