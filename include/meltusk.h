@@ -82,8 +82,9 @@
  *
  * The counts: random reads (rr), sequential reads (sr) and random writes (rw)
  * of blocks. A scanned partition of n records is n over the block length,
- * rounded up, blocks and at least 1; of all blocks that a call scans the first
- * is 1 rr, each other 1 sr.
+ * rounded up, blocks; an empty one has none. Of all blocks that a call scans
+ * the first is 1 rr, wherever it is, each other 1 sr; a call that scans only
+ * empty partitions reports no reads.
  *
  * The histograms: 640 counts, 64 (one a block) for each of pq, rs, re, sc, de,
  * in, udf, utf, udb and utb, in that order. A list of calls is recorded from

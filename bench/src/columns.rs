@@ -23,8 +23,37 @@ pub const LIBRARY: Library = Library {
 pub const OURS: usize = 0;
 pub const SECOND: usize = 1;
 
+/// Times drawn questions, so many a batch, on two equal columns that they do not
+/// change. Both sides answer the same, each answer as is asked.
+pub fn time<Q, A: PartialEq>(
+    (name, partitions, batch): (&str, usize, usize),
+    column: &Column,
+    mut drawn: impl FnMut() -> Q,
+    make: impl Fn(usize, &mut Column, &[Q], &mut Vec<A>),
+    is_right: impl Fn(&A) -> bool,
+) {
+    let mut columns = [column.clone(), column.clone()];
+    let mut answers = [0; 2].map(|_| Vec::with_capacity(batch));
+    let mut times = Times::default();
+    for _ in 0..REPETITIONS {
+        for round in 0..ROUNDS {
+            let questions: Vec<Q> = (0..batch).map(|_| drawn()).collect();
+            for side in [round % 2, 1 - round % 2] {
+                let (column, answers) = (&mut columns[side], &mut answers[side]);
+                let (ns, ()) = timed(batch, || make(side, column, &questions, answers));
+                times.add(side, ns);
+            }
+            assert!(answers[OURS] == answers[SECOND], "the answers differ");
+            assert!(answers[OURS].iter().all(&is_right), "not what is timed");
+        }
+        times.close();
+        columns.swap(OURS, SECOND);
+    }
+    times.print(name, partitions);
+}
+
 /// Makes a list of calls on the column of one side.
-fn make(side: usize, c: &mut Column, calls: &[Call], answers: &mut Vec<Answer>) {
+pub fn make(side: usize, c: &mut Column, calls: &[Call], answers: &mut Vec<Answer>) {
     answers.clear();
     let mut column = c.lend();
     if side == SECOND {

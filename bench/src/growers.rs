@@ -1,7 +1,6 @@
 //! The next and the previous grower on a column of 262,144 slots.
 
-use crate::columns::{laid, LIBRARY, OURS, SECOND, USED};
-use crate::timing::{timed, Times, REPETITIONS, ROUNDS};
+use crate::columns::{self, laid, LIBRARY, SECOND, USED};
 use meltusk::{step_second, Column, Slots, Step, Stepped};
 use second::random::{case_seed, Random};
 use second::{FENCES, LENGTHS, SLOT_LIMIT};
@@ -10,7 +9,7 @@ use second::{FENCES, LENGTHS, SLOT_LIMIT};
 const STEPS: usize = 8;
 
 /// Makes a list of steps on the column of one side.
-fn make(side: usize, c: &Column, steps: &[Step], answers: &mut Vec<Stepped>) {
+pub fn make(side: usize, c: &mut Column, steps: &[Step], answers: &mut Vec<Stepped>) {
     answers.clear();
     let view = c.view();
     if side == SECOND {
@@ -20,7 +19,7 @@ fn make(side: usize, c: &Column, steps: &[Step], answers: &mut Vec<Stepped>) {
     }
 }
 
-/// Times drawn steps on two equal columns. Both sides answer the same.
+/// Times drawn steps, each of which finds a grower.
 fn time(
     r: &mut Random,
     name: &str,
@@ -28,25 +27,8 @@ fn time(
     column: &Column,
     drawn: impl Fn(&mut Random) -> Step,
 ) {
-    let mut columns = [column.clone(), column.clone()];
-    let mut answers = [0; 2].map(|_| Vec::with_capacity(STEPS));
-    let mut times = Times::default();
-    for _ in 0..REPETITIONS {
-        for round in 0..ROUNDS {
-            let steps: Vec<Step> = (0..STEPS).map(|_| drawn(r)).collect();
-            for side in [round % 2, 1 - round % 2] {
-                let (column, answers) = (&columns[side], &mut answers[side]);
-                let (ns, ()) = timed(STEPS, || make(side, column, &steps, answers));
-                times.add(side, ns);
-            }
-            assert!(answers[OURS] == answers[SECOND], "the answers differ");
-            let is_hit = answers[OURS].iter().all(|a| a.records > 0);
-            assert!(is_hit, "a step is refused or finds none");
-        }
-        times.close();
-        columns.swap(OURS, SECOND);
-    }
-    times.print(name, partitions);
+    let what = (name, partitions, STEPS);
+    columns::time(what, column, || drawn(r), make, |a| a.records > 0);
 }
 
 /// The column as deletes leave it, if only the records of one partition stay.

@@ -5,6 +5,7 @@
 mod calibrate;
 mod columns;
 mod csv;
+mod empty;
 mod growers;
 mod plans;
 mod race;
@@ -41,6 +42,12 @@ fn steps() {
     [1, 8, 64].into_iter().for_each(growers::run);
 }
 
+/// Scans of a column without records.
+fn gaps() {
+    heading("empty column", "K", "second");
+    [1, 8, 64].into_iter().for_each(empty::run);
+}
+
 /// Settlement sheets.
 fn settlements() {
     heading("sheet", "K", "second");
@@ -53,6 +60,8 @@ fn calls() {
     [1, 64].into_iter().for_each(snapshots::run);
     println!();
     steps();
+    println!();
+    gaps();
     println!();
     settlements();
     println!();
@@ -76,6 +85,7 @@ fn main() {
     match arguments[..] {
         [] | ["calls"] => calls(),
         ["growers"] => steps(),
+        ["empty"] => gaps(),
         ["sheets"] => settlements(),
         ["csv"] => files(),
         ["plans"] => planner(),
@@ -87,7 +97,7 @@ fn main() {
         ["weeks"] => weeks::run(),
         ["cards"] => weeks::cards(),
         _ => fail(
-            "bench [calls | growers | sheets | csv | plans | calibrate [BLOCK_LENGTH] | weeks | cards]",
+            "bench [calls | growers | empty | sheets | csv | plans | calibrate [BLOCK_LENGTH] | weeks | cards]",
         ),
     }
 }

@@ -2,9 +2,9 @@
 use Prim.Native.Nat.{ℕ, _+_, _-_, _≤_, _<_}
 use mathlib.Core.Path.{_≡_, ap, ap₂, _∙_}
 use mathlib.Core.Bool.{Bool, true, false, cond}
-use mathlib.Core.List.{List, [], _∷_, map}
+use mathlib.Core.List.{List, map}
 use native.Mathlib.Omega.{arith}
-use lib.ListN.{length, getD, take, drop, length-take, length-drop}
+use lib.ListN.{length, getD, take, drop}
 use borrow.Author.Tests.{le-leb, lt-leb}
 use Rattle.model.specs.declared.Delivery.{Delivery}
 use Rattle.model.specs.declared.Answer.{Answer}
@@ -27,7 +27,6 @@ use Rattle.model.proofs.Parts.{stop-le}
 use Rattle.model.proofs.Deliveries.{length-rows}
 use Rattle.scan.specs.declared.Scan.{Scan}
 use Rattle.scan.specs.Scans.{recordsIn, scanOf}
-use Rattle.scan.proofs.Blocks.{blocks-least}
 use Rattle.scan.proofs.Judging.{judged-says, judged-value}
 use Rattle.scan.proofs.Scanning.{scans}
 use Rattle.column.specs.Answers.{withoutTotals}
@@ -52,15 +51,6 @@ module _ (b : ℕ) (ns : List ℕ) (p n lo hi : ℕ) (ds : List Delivery) (s : S
       let x : Totals × ℕ = (totalsBetween lo hi (recordsIn ns p n ds), sumOf (map (blocksOf b) (take n (drop p ns)))) in
       let v = judged-value scans (every inRange (recordsIn ns p n ds)) x s e f in
       record { values = judged-says scans _ x s e true f; totals = ap (λ (r : Totals × ℕ). r .0) v; blocks = ap (λ (r : Totals × ℕ). r .1) v }
-
--- a scan of some partitions has a block at least
-pub blocks-some : (b : ℕ) (ns : List ℕ) (p q : ℕ) → p ≤ q → q < length ns → 1 ≤ sumOf (map (blocksOf b) (take (q + 1 - p) (drop p ns)))
-unfolding sumOf
-blocks-some b ns p q h k = go (take (q + 1 - p) (drop p ns)) (simp (length-take, length-drop) (omega arith))
-  where
-    go : (l : List ℕ) → 1 ≤ length l → 1 ≤ sumOf (map (blocksOf b) l)
-    go [] h = let z : ⊥ = omega arith in absurd z
-    go (n ∷ l) h = omega (arith, blocks-least b n)
 
 module _ (L : ℕ) where
   module _ (c : Column) (h : firstFailed (lentChecks L c) ≡ 0) where

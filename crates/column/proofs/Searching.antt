@@ -2,7 +2,7 @@
 use Prim.Native.Nat.{ℕ, _+_, _-_, _≤_, _<_}
 use mathlib.Core.Path.{_≡_, refl, sym, ap, _∙_}
 use mathlib.Core.Bool.{Bool, true, false, cond, _&&_}
-use mathlib.Core.List.{List, map}
+use mathlib.Core.List.{List, [], _∷_, map}
 use native.Mathlib.Omega.{arith}
 use lib.ListN.{length, getD, take, drop}
 use lib.Seq.{drop-cons}
@@ -20,6 +20,7 @@ use Rattle.model.specs.Column.{Column, slots, lengthsOf, target, recordsNear, s
 use Rattle.model.specs.Accesses.{noCounts, blocksOf, readsOf, blocksScanned, scanCounts, scanNear}
 use Rattle.model.specs.Questions.{lentChecks, callChecks}
 use Rattle.model.specs.ColumnCalls.{columnRefusal}
+use Rattle.model.proofs.AccessLaws.{blocks-none}
 use Rattle.model.proofs.Parts.{between-one, length-part}
 use Rattle.model.proofs.Deliveries.{first-among}
 use Rattle.scan.proofs.Scanning.{lent-part}
@@ -47,6 +48,15 @@ module _ (b t a : ℕ) (d : Delivery) (ds : List Delivery) where
     pub search-missing : length ds ≤ i → notLocated 13 k ≡ searchedOf b t a d ds
     unfolding searchedOf
     search-missing h = rw (e, ← m, le-ltb i (length ds) h, n)
+
+  -- an empty partition: no delivery is there, and no block is read
+  pub search-empty : (k : Counts) → 1 ≤ b → k ≡ readsOf 0 → length ds ≡ 0 → notLocated 13 k ≡ searchedOf b t a d ds
+  unfolding searchedOf every firstMatch
+  search-empty k h n e = go ds e
+    where
+      go : (l : List Delivery) → length l ≡ 0 → notLocated 13 k ≡ searchedOf b t a d l
+      go [] z = ap (notLocated 13) (n ∙ ap readsOf (sym (blocks-none b h)))
+      go (x ∷ l) z = absurd (omega arith)
 
 -- In the column.
 

@@ -188,6 +188,10 @@ fn search_part(
     requires { ⌜ (length (now g) ≤ mostSlots) × Even (now g) (now w) (now y) × (1 ≤ block) ⌝ }
     ensures { λ r. ⌜ r ≡ searchedOf block partition start d (rows (now (g .entry)) (now (w .entry)) (now (y .entry))) ⌝ }
 {
+    // of an empty partition no block is read
+    if g.len() == 0 {
+        return not_located_after(13, scan::reads_of(0));
+    }
     let f = scan::seek_all(g, w, y, d);
     if !f.good {
         return not_located(8);

@@ -12,7 +12,7 @@ use borrow.Author.Tests.{lt-ltb, le-ltb}
 use Rattle.model.specs.declared.Delivery.{Delivery}
 use Rattle.model.specs.declared.GrowerAnswer.{GrowerAnswer}
 use Rattle.model.specs.Bounds.{mostSlots}
-use Rattle.model.specs.Lists.{sumOf, every}
+use Rattle.model.specs.Lists.{sumOf, every, keep}
 use Rattle.model.specs.Deliveries.{inRange, rows}
 use Rattle.model.specs.Partitions.{parts, part, startOf}
 use Rattle.model.specs.Accesses.{noCounts, blocksOf, readsOf}
@@ -20,9 +20,9 @@ use Rattle.model.specs.Growers.{Direction, GrowerCount, nearestOf, growersOf, h
 use Rattle.model.specs.GrowerCalls.{growerAnswer}
 use Rattle.model.proofs.Tests.{no-such}
 use Rattle.model.proofs.ListLaws.{length-upFrom, at-upFrom}
-use Rattle.model.proofs.Parts.{length-part, start-next}
+use Rattle.model.proofs.AccessLaws.{blocks-none, blocks-most}
+use Rattle.model.proofs.Parts.{length-part, part-none, start-next}
 use Rattle.model.proofs.GrowerCounts.{length-downFrom}
-use Rattle.scan.proofs.Blocks.{blocks-least, blocks-most}
 use Rattle.scan.proofs.Judging.{judged-says, judged-value}
 use Rattle.scan.proofs.Scanning.{lent-part}
 use Rattle.growers.specs.declared.Nearest.{Nearest}
@@ -61,6 +61,14 @@ module _ (b : ℕ) (w : Direction) (k : ℕ) (ps : List (List Delivery)) (i : �
 search-none : (b : ℕ) (w : Direction) (k : ℕ) (ps : List (List Delivery)) (n : ℕ) → growerAnswer 0 0 0 (readsOf n) ≡ searched b w k ps [] n
 unfolding searched
 search-none b w k ps n = refl
+
+-- an empty partition holds no grower and has no block
+search-empty : (b : ℕ) (w : Direction) (k : ℕ) (ps : List (List Delivery)) (i : ℕ) (is : List ℕ) (n : ℕ) → 1 ≤ b → part i ps ≡ []
+    → searched b w k ps (i ∷ is) n ≡ searched b w k ps is n
+unfolding searched holdsOne keep every
+search-empty b w k ps i is n h e =
+    let z : n + blocksOf b 0 ≡ n = omega (arith, blocks-none b h) in
+    rw (e, z)
 
 -- The path from partition t, upward where u: how many partitions it has, which is the j-th, and the slot at which that is met.
 
@@ -106,10 +114,6 @@ pub steps-most : (u : Bool) (ns : List ℕ) (t : ℕ) → t < length ns → step
 steps-most true ns t h = omega arith
 steps-most false ns t h = omega arith
 
-pub steps-some : (u : Bool) (ns : List ℕ) (t : ℕ) → t < length ns → 1 ≤ stepsOf u ns t
-steps-some true ns t h = omega arith
-steps-some false ns t h = omega arith
-
 -- downward no step goes below partition 0
 pub steps-back : (u : Bool) (ns : List ℕ) (t j : ℕ) → j < stepsOf u ns t → u ≡ false → j ≤ t
 steps-back true ns t j h e = absurd (no-such tt e)
@@ -154,18 +158,22 @@ met false ns t edge j i h k e f =
       next = ap (startOf ns) (omega arith);
     }
 
+-- the edge of an empty partition is that of the next
+edge-stays : (u : Bool) (edge x a : ℕ) → cond u edge (edge - x) ≡ a → x ≡ 0 → edge ≡ cond u (a + x) a
+edge-stays true edge x a e z = omega arith
+edge-stays false edge x a e z = omega arith
+
 -- The loop: j partitions of the path have been searched, in n blocks, and none holds a grower at or past k.
 
 pub record Searching (b : ℕ) (u : Bool) (k : ℕ) (ns g w y : List ℕ) (t edge j n : ℕ) : Type 0 where
   pub here : edge ≡ edgeAt u ns t j
-  pub few : n ≤ (mostSlots + 1) * j
-  pub some : j ≤ n
+  pub few : n ≤ mostSlots * j
   pub so-far : searched b (directionOf u) k (parts ns (rows g w y)) (drop j (pathOf u ns t)) n ≡ searched b (directionOf u) k (parts ns (rows g w y)) (pathOf u ns t) 0
 
 pub searching-start : (b : ℕ) (u : Bool) (k : ℕ) (ns g w y : List ℕ) (t a edge : ℕ) → t < length ns → a ≡ startOf ns t → edge ≡ cond u a (a + getD ns t 0)
     → Searching b u k ns g w y t edge 0 0
 searching-start b u k ns g w y t a edge h e f =
-    record { here = f ∙ edge-first u ns t a h e; few = omega arith; some = omega arith; so-far = refl }
+    record { here = f ∙ edge-first u ns t a h e; few = omega arith; so-far = refl }
 
 module _ {b : ℕ} {u : Bool} {k : ℕ} {ns g w y : List ℕ} {t edge j n : ℕ} (v : Searching b u k ns g w y t edge j n) where
   abbrev outcome : List ℕ → ℕ → GrowerAnswer
@@ -174,6 +182,19 @@ module _ {b : ℕ} {u : Bool} {k : ℕ} {ns g w y : List ℕ} {t edge j n : ℕ}
   pub searching-end : stepsOf u ns t ≤ j → growerAnswer 0 0 0 (readsOf n) ≡ outcome (pathOf u ns t) 0
   searching-end h =
       search-none b (directionOf u) k (parts ns (rows g w y)) n ∙ ap (λ (l : List ℕ). outcome l n) (sym (path-end u ns t j h)) ∙ v .so-far
+
+  on : {i : ℕ} → Met u ns t edge j i → outcome (i ∷ drop (j + 1) (pathOf u ns t)) n ≡ outcome (pathOf u ns t) 0
+  on m =
+      ap (λ (x : ℕ). outcome (x ∷ drop (j + 1) (pathOf u ns t)) n) (m .jth) ∙ ap (λ (x : List ℕ). outcome x n) (sym (path-on u ns t j (m .on-path))) ∙ v .so-far
+
+  -- the next partition is empty
+  pub searching-skip : {i : ℕ} → Met u ns t edge j i → 1 ≤ b → getD ns i 0 ≡ 0 → Searching b u k ns g w y t edge (j + 1) n
+  searching-skip {i} m one e =
+      record {
+        here = edge-stays u edge (getD ns i 0) (startOf ns i) (m .start) e ∙ m .next;
+        few = omega (arith, v .few);
+        so-far = sym (search-empty b (directionOf u) k (parts ns (rows g w y)) i _ n one (part-none i ns (rows g w y) e)) ∙ on m;
+      }
 
   -- the next partition, which begins at a
   module _ {i a : ℕ} (m : Met u ns t edge j i) (at : a ≡ startOf ns i) (room : sumOf ns ≤ length (rows g w y)) {s : Nearest}
@@ -184,16 +205,12 @@ module _ {b : ℕ} {u : Bool} {k : ℕ} {ns g w y : List ℕ} {t edge j n : ℕ}
     blocks-in : blocksOf b (getD ns i 0) ≡ blocksOf b (length (part i (parts ns (rows g w y))))
     blocks-in = ap (blocksOf b) (sym (length-part i ns (rows g w y) (m .there) room))
 
-    on : outcome (i ∷ drop (j + 1) (pathOf u ns t)) n ≡ outcome (pathOf u ns t) 0
-    on =
-        ap (λ (x : ℕ). outcome (x ∷ drop (j + 1) (pathOf u ns t)) n) (m .jth) ∙ ap (λ (x : List ℕ). outcome x n) (sym (path-on u ns t j (m .on-path))) ∙ v .so-far
-
     pub searching-bad : s .good ≡ false → growerAnswer 8 0 0 noCounts ≡ outcome (pathOf u ns t) 0
-    searching-bad f = search-bad b (directionOf u) k (parts ns (rows g w y)) i _ n s found-in f ∙ on
+    searching-bad f = search-bad b (directionOf u) k (parts ns (rows g w y)) i _ n s found-in f ∙ on m
 
     pub searching-hit : {q : ℕ} → q ≡ blocksOf b (getD ns i 0) → s .good ≡ true → 0 < s .records
         → growerAnswer 0 (s .grower) (s .records) (readsOf (n + q)) ≡ outcome (pathOf u ns t) 0
-    searching-hit {q} p f r = search-hit b (directionOf u) k (parts ns (rows g w y)) i _ n s found-in q (p ∙ blocks-in) f r ∙ on
+    searching-hit {q} p f r = search-hit b (directionOf u) k (parts ns (rows g w y)) i _ n s found-in q (p ∙ blocks-in) f r ∙ on m
 
     pub searching-next : {q next : ℕ} → q ≡ blocksOf b (getD ns i 0) → s .good ≡ true → s .records ≤ 0 → next ≡ cond u (a + getD ns i 0) a → 1 ≤ b → getD ns i 0 ≤ mostSlots
         → Searching b u k ns g w y t next (j + 1) (n + q)
@@ -201,6 +218,5 @@ module _ {b : ℕ} {u : Bool} {k : ℕ} {ns g w y : List ℕ} {t edge j n : ℕ}
         record {
           here = x ∙ ap (λ (z : ℕ). cond u (z + getD ns i 0) z) at ∙ m .next;
           few = omega (arith, v .few, blocks-most b (getD ns i 0) one);
-          some = omega (arith, v .some, blocks-least b (getD ns i 0));
-          so-far = sym (search-miss b (directionOf u) k (parts ns (rows g w y)) i _ n s found-in q (p ∙ blocks-in) f r) ∙ on;
+          so-far = sym (search-miss b (directionOf u) k (parts ns (rows g w y)) i _ n s found-in q (p ∙ blocks-in) f r) ∙ on m;
         }

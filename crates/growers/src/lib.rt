@@ -257,7 +257,6 @@ pub fn refused(refusal: u32) -> GrowerAnswer
 
 // An answer after so many blocks.
 fn found(grower: u32, records: u64, blocks: u64) -> GrowerAnswer
-    requires { ⌜ 1 ≤ blocks ⌝ }
     ensures { λ r. ⌜ r ≡ growerAnswer 0 grower records (readsOf blocks) ⌝ }
 {
     let counts = scan::reads_of(blocks);
@@ -302,6 +301,7 @@ fn begins(edge: usize, length: usize, up: bool) -> usize
 }
 
 // The partitions from one, which begins at start, to the last or the first; it stops at the first that holds a grower at or past the given one.
+// An empty one is passed over.
 pub fn search(
     g: &[u32],
     w: &[u32],
@@ -326,19 +326,21 @@ pub fn search(
     while j < steps {
         let i = partition_after(from, j, up);
         let n = lens[i] as usize;
-        let a = begins(edge, n, up);
-        let e = a + n;
-        let s = near_all(&g[a..e], &w[a..e], &y[a..e], grower, up);
-        if !s.good {
-            return refused(8);
-        }
-        let m = scan::blocks_of(n, block);
-        blocks += m;
-        if 0 < s.records {
-            return found(s.grower, s.records, blocks);
-        }
-        edge = either(e, a, up);
         j += 1;
+        if 0 < n {
+            let a = begins(edge, n, up);
+            let e = a + n;
+            let s = near_all(&g[a..e], &w[a..e], &y[a..e], grower, up);
+            if !s.good {
+                return refused(8);
+            }
+            let m = scan::blocks_of(n, block);
+            blocks += m;
+            if 0 < s.records {
+                return found(s.grower, s.records, blocks);
+            }
+            edge = either(e, a, up);
+        }
     }
     found(0, 0, blocks)
 }

@@ -22,6 +22,7 @@ use Rattle.model.specs.Column.{lengthsFrom, directoryFor}
 use Rattle.model.specs.Accesses.{blocksOf, blocksScanned}
 use Rattle.model.proofs.Tests.{and-fst, and-snd, and-mk, eq→eqb}
 use Rattle.model.proofs.ListLaws.{sum-span, map-take, map-drop, every-at, every-part, ceil-only, ceil-most}
+use Rattle.model.proofs.AccessLaws.{blocks-hold}
 use Rattle.model.proofs.Places.{Placed}
 use Rattle.model.proofs.Deliveries.{nobody, same-equal, among-part, rows-grower}
 use Rattle.model.proofs.Parts.{between-is}
@@ -67,7 +68,7 @@ module _ (L : ℕ) (s : Set) (o : Good L s) where
       let v : (e + 1) * s .block ≡ (f + d) * s .block = ap (λ (n : ℕ). n * s .block) k in
       let x : 1 * s .block ≤ d * s .block = mul-le-mul-right (s .block) one in
       let y = ceil-most (s .used) (s .block) (o .b-least) in
-      rw (ceil-only (blockStop s e - a) (s .block) d (o .b-least) (omega arith) (omega arith)) (omega arith)
+      ceil-only (blockStop s e - a) (s .block) d (o .b-least) (omega arith) (omega arith)
 
   pub fresh-blocks-from : (f a : ℕ) (ends : List ℕ) → a ≡ f * s .block → Cut f ends (blocks s) → map (blocksOf (s .block)) (lengthsFrom s a ends) ≡ blockCounts f ends
   unfolding lengthsFrom blockCounts Cut
@@ -76,6 +77,15 @@ module _ (L : ℕ) (s : Set) (o : Good L s) where
   fresh-blocks-from f a (e ∷ d ∷ es) h c =
       rw (size f (e + 1 - f) a e h (omega (arith, c .0)) (omega (arith, c .0)) (c .1))
       (ap (λ (r : List ℕ). (e + 1 - f) ∷ r) (fresh-blocks-from (e + 1) (blockStop s e) (d ∷ es) (past-early L s o e (omega (arith, c .2 .0, c .2 .1))) (c .2)))
+
+  -- each has a block, and so a record
+  counts-some : (f : ℕ) (ends : List ℕ) → Cut f ends (blocks s) → T (every (ltb 0) (blockCounts f ends))
+  unfolding blockCounts Cut every
+  counts-some f [] c = tt
+  counts-some f (e ∷ es) c = and-mk (ltb 0 (e + 1 - f)) (every (ltb 0) (blockCounts (e + 1) es)) (lt→ltb 0 (e + 1 - f) (omega (arith, c .0))) (counts-some (e + 1) es (c .2))
+
+  pub none-empty : (ends : List ℕ) → Cut 0 ends (blocks s) → T (every (ltb 0) (lens s ends))
+  none-empty ends c = blocks-hold (s .block) (lens s ends) (o .b-least) (rw (fresh-blocks-from 0 0 ends (omega arith) c) (counts-some 0 ends c))
 
   -- where partitions end, in slots
   stops : (f a : ℕ) (ends : List ℕ) (q : ℕ) → a ≤ blockStop s f → Cut f ends (blocks s) → q < length ends → sumOf (take (suc q) (lengthsFrom s a ends)) + a ≡ blockStop s (getD ends q 0)

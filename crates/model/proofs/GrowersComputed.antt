@@ -14,7 +14,7 @@ previous-growers = record { from-greatest = refl; past-fences = refl; over-empty
 
 pub no-grower : NoGrower
 unfolding computed
-no-grower = record { none-above = refl; none-below = refl; empty-up = refl; empty-down = refl }
+no-grower = record { none-above = refl; none-below = refl; none-read = refl; empty-up = refl; empty-down = refl }
 
 pub growers-scanned : GrowersScanned
 unfolding computed

@@ -1,7 +1,7 @@
 -- 01's marked examples, each proved by computing. Assumes nothing.
 use Prim.Native.Nat.{ℕ}
 use mathlib.Core.Path.{refl}
-use Rattle.model.specs.Examples.{OnThatColumn, Costs, UnderLimits, MainCase, EmptyPartitions, AllRecords, Reads, Refusals, QuestionsInOrder}
+use Rattle.model.specs.Examples.{OnThatColumn, Costs, UnderLimits, MainCase, EmptyPartitions, AllRecords, Reads, Refusals, EmptyScans, QuestionsInOrder}
 use Rattle.model.proofs.Computing.{computed}
 
 pub on-that-column : OnThatColumn
@@ -41,11 +41,27 @@ all-records = record { empty-between = refl; free-past = refl; all-empty = refl 
 
 pub reads : Reads
 unfolding computed
-reads = record { none = refl; one = refl; three = refl }
+reads = record { empty = refl; half = refl; full = refl; more = refl; none = refl; one = refl; three = refl }
 
 pub refusals : Refusals
 unfolding computed
 refusals = record { missing = refl; nowhere = refl; backwards = refl; heavy = refl; full = refl; heavy-and-full = refl; rich-and-missing = refl; lowest = refl }
+
+pub empty-scans : EmptyScans
+unfolding computed
+empty-scans = record {
+  between = refl;
+  first = refl;
+  last = refl;
+  one = refl;
+  two = refl;
+  all = refl;
+  missing = refl;
+  nowhere = refl;
+  delete-past = refl;
+  insert-past = refl;
+  move-past = refl;
+}
 
 pub questions-in-order : (L : ℕ) → QuestionsInOrder L
 unfolding computed

@@ -119,6 +119,10 @@ part-parts (suc t) (n ∷ ns) s = part-parts t ns (drop n s) ∙ rw drop-drop
 pub length-part : {A : Type 0} (t : ℕ) (ns : List ℕ) (s : List A) → t < length ns → sumOf ns ≤ length s → length (part t (parts ns s)) ≡ getD ns t 0
 length-part t ns s h room = ap length (part-parts t ns s) ∙ length-take-le (getD ns t 0) (drop (startOf ns t) s) (omega (arith, stop-le ns t h, length-drop (startOf ns t) s))
 
+-- an empty partition
+pub part-none : {A : Type 0} (t : ℕ) (ns : List ℕ) (s : List A) → getD ns t 0 ≡ 0 → part t (parts ns s) ≡ []
+part-none t ns s e = part-parts t ns s ∙ ap (λ (n : ℕ). take n (drop (startOf ns t) s)) e
+
 -- one partition alone
 pub between-one : {A : Type 0} (t : ℕ) (ns : List ℕ) (s : List A) → t < length ns → between ns t t s ≡ part t (parts ns s)
 unfolding between flatten

@@ -1,5 +1,5 @@
--- Access counts (01: the laid column): rr, sr and rw of a scan and of each call.
-use Prim.Native.Nat.{ℕ, zero, suc, _+_, _-_, max}
+-- Access counts (01: the laid column; a scan's by 02, Slip 6): rr, sr and rw of a scan and of each call.
+use Prim.Native.Nat.{ℕ, zero, suc, _+_, _-_}
 use mathlib.Core.List.{map}
 use lib.ListN.{length, take, drop}
 use Rattle.model.specs.declared.Counts.{Counts}
@@ -14,15 +14,16 @@ counts a b c = record { rr = a; sr = b; «rw» = c }
 abbrev pub noCounts : Counts
 noCounts = counts 0 0 0
 
--- "a partition of n records counts as n / B blocks rounded up, at least 1"
+-- "a partition of n records counts as n / B blocks rounded up"; 02, Slip 6: "a scan of an empty partition now counts no block"
 unfoldable pub blocksOf : ℕ → ℕ → ℕ
-blocksOf b n = max 1 (ceilDiv n b)
+blocksOf b n = ceilDiv n b
 
 -- the blocks of partitions p to q
 unfoldable pub blocksScanned : Directory → ℕ → ℕ → ℕ
 blocksScanned d p q = sumOf (map (blocksOf (d .block)) (take (q + 1 - p) (drop p (d .lengths))))
 
--- "of all blocks scanned the first is 1 rr, each other 1 sr"
+-- "of all blocks scanned the first is 1 rr, each other 1 sr"; 02, Slip 6: "the first block read in a call is the 1 rr, wherever it
+-- is, and a call that scans only empty partitions reports no reads"
 unfoldable pub readsOf : ℕ → Counts
 readsOf zero = noCounts
 readsOf (suc n) = counts 1 n 0

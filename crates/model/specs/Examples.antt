@@ -21,7 +21,7 @@ use Rattle.model.specs.Cost.{costOf}
 use Rattle.model.specs.Moves.{inserted, deleted, moved}
 use Rattle.model.specs.Directory.{directoryNumbers}
 use Rattle.model.specs.Column.{Column, allRecords}
-use Rattle.model.specs.Accesses.{counts, noCounts, readsOf}
+use Rattle.model.specs.Accesses.{counts, noCounts, blocksOf, readsOf}
 use Rattle.model.specs.declared.Tally.{Tally}
 use Rattle.model.specs.Tallies.{tallyChecks}
 use Rattle.model.specs.Questions.{recorderChecks, costChecks, plannerChecks, applyChecks, columnChecks, partitionChecks, writeChecks, readChecks, ledgerChecks}
@@ -177,15 +177,22 @@ pub record AllRecords : Type 0 where
   pub free-past : allRecords blockLimit (threeParts (1 ∷ 0 ∷ 2 ∷ [])) ≡ of 10 ∷ of 20 ∷ of 30 ∷ []
   pub all-empty : allRecords blockLimit (threeParts (0 ∷ 0 ∷ 0 ∷ [])) ≡ []
 
--- "Of all blocks scanned the first is 1 rr, each other 1 sr".
+-- "n / B blocks rounded up", and none of an empty partition; "the first is 1 rr, each other 1 sr", and no read of no block.
 pub record Reads : Type 0 where
+  pub empty : blocksOf 2 0 ≡ 0
+  pub half : blocksOf 2 1 ≡ 1
+  pub full : blocksOf 2 2 ≡ 1
+  pub more : blocksOf 2 3 ≡ 2
   pub none : readsOf 0 ≡ noCounts
   pub one : readsOf 1 ≡ counts 1 0 0
   pub three : readsOf 3 ≡ counts 1 2 0
 
--- Refused calls on that column: the first "no" answers, and nothing changes.
+-- Refused calls: the first "no" answers, and nothing changes.
+abbrev pub refusedOn : Column → ℕ → Counts → Called
+refusedOn c n k = record { answer = record { refusal = n; totals = noTotals; counts = k }; column = c }
+
 abbrev pub refuses : ℕ → Counts → Called
-refuses n k = record { answer = record { refusal = n; totals = noTotals; counts = k }; column = thatColumn }
+refuses n k = refusedOn thatColumn n k
 
 abbrev pub fullColumn : Column
 fullColumn = columnWith (4 ∷ 5 ∷ []) (nine 50) (nine 100) (nine 2000)
@@ -202,6 +209,30 @@ pub record Refusals : Type 0 where
   pub rich-and-missing : columnCall blockLimit thatColumn (delete (delivery 31 100 10001)) ≡ refuses 8 (counts 0 0 0)
   -- of two equal deliveries the lower slot goes
   pub lowest : firstMatch (of 20) (of 10 ∷ of 20 ∷ of 20 ∷ []) ≡ 1
+
+-- 02, Slip 6, on three partitions: "a scan of an empty partition now counts no block. The first block read in a call is the 1 rr,
+-- wherever it is, and a call that scans only empty partitions reports no reads." A ripple counts as before.
+abbrev pub reportOn : List ℕ → Call → Counts
+reportOn ns k = columnCall blockLimit (threeParts ns) k .answer .counts
+
+pub record EmptyScans : Type 0 where
+  -- an empty partition between two others: 1 + 0 + 4 blocks
+  pub between : reportOn (1 ∷ 0 ∷ 7 ∷ []) (range 10 80) ≡ counts 1 4 0
+  -- an empty partition first: the first block read is the next one's
+  pub first : reportOn (1 ∷ 0 ∷ 7 ∷ []) (range 11 80) ≡ counts 1 3 0
+  pub last : reportOn (1 ∷ 0 ∷ 7 ∷ []) (range 10 15) ≡ counts 1 0 0
+  -- only empty ones
+  pub one : columnCall blockLimit (threeParts (1 ∷ 0 ∷ 7 ∷ [])) (find 12) ≡ gives noTotals noCounts (threeParts (1 ∷ 0 ∷ 7 ∷ []))
+  pub two : reportOn (8 ∷ 0 ∷ 0 ∷ []) (range 11 99) ≡ noCounts
+  pub all : columnCall blockLimit (threeParts (0 ∷ 0 ∷ 0 ∷ [])) (range 0 99) ≡ gives noTotals noCounts (threeParts (0 ∷ 0 ∷ 0 ∷ []))
+  -- a 13 on an empty one
+  pub missing : columnCall blockLimit (threeParts (1 ∷ 0 ∷ 7 ∷ [])) (delete (of 12)) ≡ refusedOn (threeParts (1 ∷ 0 ∷ 7 ∷ [])) 13 noCounts
+  pub nowhere : columnCall blockLimit (threeParts (1 ∷ 0 ∷ 7 ∷ [])) (move (of 12) 20) ≡ refusedOn (threeParts (1 ∷ 0 ∷ 7 ∷ [])) 13 noCounts
+  -- a ripple that passes an empty one: a delete's scan of 1 block, 1 rw, and 1 rr and 1 rw for each of three partitions; an insert's
+  -- end slot and three partitions; a move's scan of 1 block, 1 rr and 2 rw, and 1 rr and 1 rw for each of two
+  pub delete-past : reportOn (1 ∷ 0 ∷ 7 ∷ []) (delete (of 10)) ≡ counts 4 0 4
+  pub insert-past : reportOn (1 ∷ 0 ∷ 7 ∷ []) (insert (of 10)) ≡ counts 4 0 4
+  pub move-past : reportOn (1 ∷ 0 ∷ 7 ∷ []) (move (of 10) 20) ≡ counts 4 0 4
 
 abbrev pub number : Check → ℕ
 number c = c .number

@@ -49,30 +49,32 @@ refusedBy8 = growerAnswer 8 0 0 noCounts
 pub record NextGrowers : Type 0 where
   pub from-0 : answers gaps up 0 ≡ gives 0 1 (counts 1 1 0)
   pub from-1 : answers gaps up 1 ≡ gives 9 2 (counts 1 1 0)
-  -- the first partition holds none at or above 10, the next two hold nothing: 2 + 1 + 1 + 2 blocks
-  pub over-empty : answers gaps up 10 ≡ gives 35 2 (counts 1 5 0)
+  -- the first partition holds none at or above 10, the next two hold nothing: 2 + 0 + 0 + 2 blocks
+  pub over-empty : answers gaps up 10 ≡ gives 35 2 (counts 1 3 0)
   pub over-scanned : scannedFor blockLimit gaps up 10 ≡ 0 ∷ 1 ∷ 2 ∷ 3 ∷ []
-  -- from an empty partition
-  pub from-empty : answers gaps up 11 ≡ gives 35 2 (counts 1 3 0)
+  -- from an empty partition: the first block read is that of the last
+  pub from-empty : answers gaps up 11 ≡ gives 35 2 (counts 1 1 0)
   pub past-fences : answers gaps up 41 ≡ gives 4294967295 1 (counts 1 1 0)
   pub greatest : answers gaps up 4294967295 ≡ gives 4294967295 1 (counts 1 1 0)
 
 pub record PreviousGrowers : Type 0 where
   pub from-greatest : answers gaps down 4294967295 ≡ gives 4294967295 1 (counts 1 1 0)
   pub past-fences : answers gaps down 41 ≡ gives 40 1 (counts 1 1 0)
-  pub over-empty : answers gaps down 34 ≡ gives 9 2 (counts 1 5 0)
+  pub over-empty : answers gaps down 34 ≡ gives 9 2 (counts 1 3 0)
   pub over-scanned : scannedFor blockLimit gaps down 34 ≡ 3 ∷ 2 ∷ 1 ∷ 0 ∷ []
-  pub from-empty : answers gaps down 30 ≡ gives 9 2 (counts 1 3 0)
+  pub from-empty : answers gaps down 30 ≡ gives 9 2 (counts 1 1 0)
   pub to-0 : answers gaps down 8 ≡ gives 0 1 (counts 1 1 0)
   pub least : answers gaps down 0 ≡ gives 0 1 (counts 1 1 0)
 
 -- "if none exists it answers grower 0 and count 0, having scanned to the column's end or beginning"
 pub record NoGrower : Type 0 where
-  pub none-above : answers (fourParts (3 ∷ 0 ∷ 0 ∷ 0 ∷ []) (9 ∷ 0 ∷ 9 ∷ []) (1 ∷ 1 ∷ 1 ∷ []) (1 ∷ 1 ∷ 1 ∷ [])) up 10 ≡ gives 0 0 (counts 1 4 0)
-  pub none-below : answers (fourParts (0 ∷ 0 ∷ 0 ∷ 2 ∷ []) (39 ∷ 31 ∷ []) (1 ∷ 1 ∷ []) (1 ∷ 1 ∷ [])) down 30 ≡ gives 0 0 (counts 1 2 0)
+  pub none-above : answers (fourParts (3 ∷ 0 ∷ 0 ∷ 0 ∷ []) (9 ∷ 0 ∷ 9 ∷ []) (1 ∷ 1 ∷ 1 ∷ []) (1 ∷ 1 ∷ 1 ∷ [])) up 10 ≡ gives 0 0 (counts 1 1 0)
+  pub none-below : answers (fourParts (0 ∷ 0 ∷ 0 ∷ 2 ∷ []) (39 ∷ 35 ∷ []) (1 ∷ 1 ∷ []) (1 ∷ 1 ∷ [])) down 34 ≡ gives 0 0 (counts 1 0 0)
+  -- only empty partitions are scanned: no read
+  pub none-read : answers (fourParts (0 ∷ 0 ∷ 0 ∷ 2 ∷ []) (39 ∷ 35 ∷ []) (1 ∷ 1 ∷ []) (1 ∷ 1 ∷ [])) down 30 ≡ gives 0 0 noCounts
   -- an empty column, whatever its free slot holds
-  pub empty-up : answers noRecords up 5 ≡ gives 0 0 (counts 1 3 0)
-  pub empty-down : answers noRecords down 25 ≡ gives 0 0 (counts 1 2 0)
+  pub empty-up : answers noRecords up 5 ≡ gives 0 0 noCounts
+  pub empty-down : answers noRecords down 25 ≡ gives 0 0 noCounts
 
 -- 8, of the partitions scanned and of no other
 pub record GrowersScanned : Type 0 where
@@ -94,7 +96,7 @@ pub record GrowerPieces : Type 0 where
   pub never-stops : upToFirst (λ (i : ℕ). false) (1 ∷ 2 ∷ []) ≡ 1 ∷ 2 ∷ []
   pub holds-himself : holdsOne down 5 (delivery 5 0 0 ∷ []) ≡ true
   pub holds-nothing : holdsOne down 5 [] ≡ false
-  pub counts-empty : countsScanned (directoryOf blockLimit (gaps .directory)) (1 ∷ 2 ∷ []) ≡ counts 1 1 0
+  pub counts-empty : countsScanned (directoryOf blockLimit (gaps .directory)) (1 ∷ 2 ∷ []) ≡ noCounts
   pub counts-last : countsScanned (directoryOf blockLimit (gaps .directory)) (3 ∷ []) ≡ counts 1 1 0
   pub ledger-up : ledgerGrower (allRecords blockLimit gaps) up 10 ≡ record { grower = 35; records = 2 }
   pub ledger-down : ledgerGrower (allRecords blockLimit gaps) down 34 ≡ record { grower = 9; records = 2 }

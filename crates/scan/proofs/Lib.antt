@@ -1,5 +1,4 @@
 -- Laws of the scan and of each call's answer.
-pub mod Blocks
 pub mod Judging
 pub mod Summing
 pub mod Scanning

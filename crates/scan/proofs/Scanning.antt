@@ -9,19 +9,19 @@ use lib.ListN.{length, getD, take, drop, length-take, length-drop}
 use lib.Seq.{take-suc, getD-drop}
 use Rattle.model.specs.declared.Delivery.{Delivery}
 use Rattle.model.specs.declared.Totals.{Totals}
-use Rattle.model.specs.Bounds.{blockLimit, mostSlots}
+use Rattle.model.specs.Bounds.{mostSlots}
 use Rattle.model.specs.Lists.{sumOf, every, keep}
 use Rattle.model.specs.Deliveries.{plusTotals, inRange, noTotals, totalsOf, totalsBetween, rows}
 use Rattle.model.specs.Partitions.{parts, part, startOf}
 use Rattle.model.specs.Accesses.{blocksOf}
 use Rattle.model.proofs.Tests.{of-true}
+use Rattle.model.proofs.AccessLaws.{blocks-none, blocks-most}
 use Rattle.model.proofs.ListLaws.{sum-append, sum-cut, sum-take-le, flatten-append, every-joined}
-use Rattle.model.proofs.Parts.{flatten-parts, take-parts, drop-parts, part-parts, length-parts, length-part, start-next}
+use Rattle.model.proofs.Parts.{flatten-parts, take-parts, drop-parts, part-parts, part-none, length-parts, length-part, start-next}
 use Rattle.model.proofs.Deliveries.{rows-part}
 use Rattle.scan.specs.declared.Scan.{Scan}
 use Rattle.slices.proofs.Sums.{totals-joined, totals-light}
 use Rattle.scan.specs.Scans.{badScan, scanMore, recordsIn, scanOf, Light}
-use Rattle.scan.proofs.Blocks.{blocks-most}
 use Rattle.scan.proofs.Judging.{Answers, judged-on}
 
 -- a scan's answers, with totals and blocks
@@ -75,25 +75,35 @@ module _ (b : ℕ) (ns : List ℕ) (p lo hi : ℕ) (ds : List Delivery) where
       (totalsBetween lo hi (recordsIn ns p n ds), sumOf (map (blocksOf b) (take n (drop p ns))))
       (λ (v : Totals × ℕ). (plusTotals (v .0) (totalsBetween lo hi (part (p + n) (parts ns ds))), v .1 + blocksOf b (length (part (p + n) (parts ns ds))))))
 
-blocks-sum : (b : ℕ) (l : List ℕ) → 1 ≤ b → sumOf (map (blocksOf b) l) ≤ sumOf l + length l
+  -- an empty partition leaves a scan as it was
+  scan-empty : (n : ℕ) → p + n < length ns → 1 ≤ b → getD ns (p + n) 0 ≡ 0 → scanOf b ns p (n + 1) lo hi ds ≡ scanOf b ns p n lo hi ds
+  unfolding scanOf
+  scan-empty n h one e =
+      let r : recordsIn ns p (n + 1) ds ≡ recordsIn ns p n ds
+      = records-next n h ∙ ap (λ (x : List Delivery). recordsIn ns p n ds ++ x) (part-none (p + n) ns ds e) ∙ append-nil (recordsIn ns p n ds) in
+      let k : sumOf (map (blocksOf b) (take (n + 1) (drop p ns))) ≡ sumOf (map (blocksOf b) (take n (drop p ns)))
+      = omega (arith, blocks-next n h, ap (blocksOf b) e, blocks-none b one) in
+      rw (r, k)
+
+blocks-sum : (b : ℕ) (l : List ℕ) → 1 ≤ b → sumOf (map (blocksOf b) l) ≤ sumOf l
 unfolding sumOf
 blocks-sum b [] h = omega arith
 blocks-sum b (n ∷ l) h = omega (arith, blocks-most b n h, blocks-sum b l h)
 
 -- the counters stay small
 scan-light : (b : ℕ) (ns : List ℕ) (p n lo hi : ℕ) (ds : List Delivery) → 1 ≤ b → sumOf ns ≤ length ds → length ds ≤ mostSlots
-    → length ns ≤ blockLimit → Light mostSlots blockLimit (scanOf b ns p n lo hi ds)
+    → Light mostSlots (scanOf b ns p n lo hi ds)
 unfolding scanOf
-scan-light b ns p n lo hi ds h room few short = go (every inRange (recordsIn ns p n ds)) refl
+scan-light b ns p n lo hi ds h room few = go (every inRange (recordsIn ns p n ds)) refl
   where
     len : length (recordsIn ns p n ds) ≤ length ds
     len = rw (drop-parts, take-parts, flatten-parts, length-take, length-drop) (omega arith)
 
-    sum : sumOf (take n (drop p ns)) + length (take n (drop p ns)) ≤ mostSlots + blockLimit
-    sum = omega (arith, sum-take-le (drop p ns) n, sum-cut p ns, length-take n (drop p ns), length-drop p ns)
+    sum : sumOf (take n (drop p ns)) ≤ mostSlots
+    sum = omega (arith, sum-take-le (drop p ns) n, sum-cut p ns)
 
     go : (t : Bool) → every inRange (recordsIn ns p n ds) ≡ t
-        → Light mostSlots blockLimit (cond t (record { good = true; totals = totalsBetween lo hi (recordsIn ns p n ds); blocks = sumOf (map (blocksOf b) (take n (drop p ns))) }) badScan)
+        → Light mostSlots (cond t (record { good = true; totals = totalsBetween lo hi (recordsIn ns p n ds); blocks = sumOf (map (blocksOf b) (take n (drop p ns))) }) badScan)
     go true e =
         record { light = totals-light lo hi mostSlots (recordsIn ns p n ds) (of-true _ e) (omega (arith, len)); short = omega (arith, sum, blocks-sum b (take n (drop p ns)) h) }
     go false e = record { light = record { few = omega arith; light = omega arith; little = omega arith }; short = omega arith }
@@ -137,8 +147,21 @@ module _ (b : ℕ) (ns : List ℕ) (p q lo hi : ℕ) (g w y : List ℕ) (at i : 
             ∙ ap (λ (n : ℕ). scanOf b ns p n lo hi (rows g w y)) (sym v);
       }
 
-  pub scanning-light : 1 ≤ b → sumOf ns ≤ length (rows g w y) → length (rows g w y) ≤ mostSlots → length ns ≤ blockLimit → Light mostSlots blockLimit s
-  scanning-light h room few short = subst (Light mostSlots blockLimit) (sym (w₀ .so-far)) (scan-light b ns p (i - p) lo hi (rows g w y) h room few short)
+  -- an empty partition is passed over
+  pub scanning-skip : i ≤ q → q < length ns → 1 ≤ b → getD ns i 0 ≡ 0 → Scanning b ns p q lo hi (rows g w y) at (i + 1) s
+  scanning-skip h k one e =
+      let u : p + (i - p) ≡ i = omega (arith, w₀ .from) in
+      let v : i + 1 - p ≡ i - p + 1 = omega (arith, w₀ .from) in
+      let z : getD ns (p + (i - p)) 0 ≡ 0 = rw u e in
+      record {
+        from = omega (arith, w₀ .from);
+        till = omega arith;
+        here = omega (arith, w₀ .here, start-next ns i (omega arith), e);
+        so-far = w₀ .so-far ∙ sym (scan-empty b ns p lo hi (rows g w y) (i - p) (omega arith) one z) ∙ ap (λ (n : ℕ). scanOf b ns p n lo hi (rows g w y)) (sym v);
+      }
+
+  pub scanning-light : 1 ≤ b → sumOf ns ≤ length (rows g w y) → length (rows g w y) ≤ mostSlots → Light mostSlots s
+  scanning-light h room few = subst (Light mostSlots) (sym (w₀ .so-far)) (scan-light b ns p (i - p) lo hi (rows g w y) h room few)
 
   pub scanning-end : q < i → s ≡ scanOf b ns p (q + 1 - p) lo hi (rows g w y)
   scanning-end h = w₀ .so-far ∙ ap (λ (n : ℕ). scanOf b ns p n lo hi (rows g w y)) (omega (arith, w₀ .till))

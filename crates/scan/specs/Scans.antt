@@ -47,10 +47,10 @@ scanOf b ns p n lo hi ds =
     (record { good = true; totals = totalsBetween lo hi (recordsIn ns p n ds); blocks = sumOf (map (blocksOf b) (take n (drop p ns))) })
     badScan
 
--- a scan of at most m records in at most k partitions
-pub record Light (m k : ℕ) (s : Scan) : Type 0 where
+-- a scan of at most m records
+pub record Light (m : ℕ) (s : Scan) : Type 0 where
   pub light : LightTotals m (s .totals)
-  pub short : s .blocks ≤ m + k
+  pub short : s .blocks ≤ m
 
 -- a search that met a value out of range
 abbrev pub badSought : Sought

@@ -2,7 +2,7 @@
 ghost use mathlib.Core.Path.{_≡_};
 ghost use Prim.Native.Nat.{_+_, _-_, _≤_, _<_};
 ghost use lib.ListN.{length};
-ghost use Rattle.model.specs.Bounds.{blockLimit, mostSlots};
+ghost use Rattle.model.specs.Bounds.{mostSlots};
 ghost use Rattle.model.specs.Lent.{Even};
 ghost use Rattle.model.specs.Lists.{sumOf};
 ghost use Rattle.model.specs.Deliveries.{rows, LightTotals};
@@ -14,23 +14,26 @@ use model::Delivery;
 use model::STRIDE;
 use model::Totals;
 
-// How many blocks a partition of this many records counts as.
+// How many blocks a partition of this many records counts as; an empty one counts none.
 pub fn blocks_of(records: usize, block: u32) -> u64
     requires { ⌜ (1 ≤ block) × (records ≤ mostSlots) ⌝ }
     ensures { λ r. ⌜ r ≡ blocksOf block records ⌝ }
 {
-    if records == 0 {
-        return 1;
-    }
     let b = block as u64;
     (records as u64 + (b - 1)) / b
 }
 
-// Of the blocks scanned the first is a random read, each other a sequential one.
+// Of the blocks scanned the first is a random read, each other a sequential one; where there is none, nothing was read.
 pub fn reads_of(blocks: u64) -> Counts
-    requires { ⌜ 1 ≤ blocks ⌝ }
     ensures { λ r. ⌜ r ≡ readsOf blocks ⌝ }
 {
+    if blocks == 0 {
+        return Counts {
+            rr: 0,
+            sr: 0,
+            rw: 0,
+        };
+    }
     Counts {
         rr: 1,
         sr: blocks - 1,
@@ -110,7 +113,7 @@ fn bad_scan() -> Scan
 
 // A scan goes on to one more partition, of which it is handed its part of each slice.
 fn scan_more(s: Scan, g: &[u32], w: &[u32], y: &[u32], block: u32, lo: u32, hi: u32) -> Scan
-    requires { ⌜ (length (now g) ≤ mostSlots) × Even (now g) (now w) (now y) × (1 ≤ block) × Light mostSlots blockLimit s ⌝ }
+    requires { ⌜ (length (now g) ≤ mostSlots) × Even (now g) (now w) (now y) × (1 ≤ block) × Light mostSlots s ⌝ }
     ensures { λ r. ⌜ r ≡ scanMore block lo hi s (rows (now (g .entry)) (now (w .entry)) (now (y .entry))) ⌝ }
 {
     if !s.good {
@@ -129,7 +132,7 @@ fn scan_more(s: Scan, g: &[u32], w: &[u32], y: &[u32], block: u32, lo: u32, hi: 
     }
 }
 
-// The partitions from one to another, one after the other; the first begins at start.
+// The partitions from one to another, one after the other; the first begins at start. An empty one is passed over.
 pub fn scan_parts(
     g: &[u32],
     w: &[u32],
@@ -142,7 +145,7 @@ pub fn scan_parts(
     lo: u32,
     hi: u32,
 ) -> Scan
-    requires { ⌜ (from ≤ to) × (to < length (now lens)) × (length (now lens) ≤ blockLimit) × (sumOf (now lens) ≤ length (now g)) × (1 ≤ block)
+    requires { ⌜ (from ≤ to) × (to < length (now lens)) × (sumOf (now lens) ≤ length (now g)) × (1 ≤ block)
         × (start ≡ startOf (now lens) from) ⌝ }
     requires { ⌜ (length (now g) ≤ mostSlots) × Even (now g) (now w) (now y) ⌝ }
     ensures { λ r. ⌜ r ≡ scanOf block (now (lens .entry)) from (to + 1 - from) lo hi (rows (now (g .entry)) (now (w .entry)) (now (y .entry))) ⌝ }
@@ -156,10 +159,13 @@ pub fn scan_parts(
         blocks: 0,
     };
     while i <= to {
-        let e = at + lens[i] as usize;
-        s = scan_more(s, &g[at..e], &w[at..e], &y[at..e], block, lo, hi);
-        at = e;
+        let n = lens[i] as usize;
         i += 1;
+        if 0 < n {
+            let e = at + n;
+            s = scan_more(s, &g[at..e], &w[at..e], &y[at..e], block, lo, hi);
+            at = e;
+        }
     }
     s
 }

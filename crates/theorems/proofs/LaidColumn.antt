@@ -5,7 +5,7 @@ use mathlib.Core.Bool.{Bool, not}
 use mathlib.Core.List.{List, [], _∷_, _++_, map}
 use native.Mathlib.Omega.{arith}
 use native.Mathlib.Decide.{decLt}
-use lib.Dec.{T, eqb}
+use lib.Dec.{T, ltb, eqb}
 use lib.ListN.{length, take, drop, getD, length-map, length-take, length-drop}
 use lib.Seq.{getD-take, getD-drop}
 use Rattle.model.specs.Lists.{sumOf, every}
@@ -25,7 +25,8 @@ use Rattle.model.proofs.Places.{Placed}
 use Rattle.model.proofs.LayoutLaws.{Laid, laid}
 use Rattle.model.proofs.SetLaws.{Good, good, few, part-placed, target}
 use Rattle.model.proofs.DirectoryLaws.{Fits, Shaped, directory-again, numbers-shaped}
-use Rattle.model.proofs.Fresh.{length-lengths, fences-rise, total-used, start-next, lower, upper}
+use Rattle.model.proofs.Fresh.{length-lengths, none-empty, fences-rise, total-used, start-next, lower, upper}
+use Rattle.theorems.specs.Plan.{NoneEmptyWhenLaid}
 use Rattle.theorems.proofs.ValidColumn.{Valid}
 
 -- Partitions by their slots.
@@ -161,3 +162,9 @@ module _ (L : ℕ) (s : Set) (ends : List ℕ) (h : applyCall L s ends .refusal 
   pub laid-capacity : length (laidColumn L s ends .growers) ≡ length (s .growers)
   unfolding laidColumn
   laid-capacity = refl
+
+pub none-empty-when-laid : NoneEmptyWhenLaid
+none-empty-when-laid L s ends h =
+    let o = set-good L s ends h in
+    let l = layout-laid L s ends h in
+    subst (λ (ns : List ℕ). T (every (ltb 0) ns)) (sym (laid-lengths L s ends o l _ (directory-is L s ends h))) (none-empty L s o ends (l .cut))

@@ -9,12 +9,12 @@ use mathlib.Core.Logic.{_↔_, _≢_}
 use mathlib.Core.Bool.{_&&_}
 use mathlib.Core.List.{List, [], _∷_, _++_, map}
 use lib.ListN.{length, take}
-use lib.Dec.{T}
+use lib.Dec.{T, ltb}
 use lib.IntN.{ℤ, pos}
 use lib.Signed.{_≤ℤ_}
 use Rattle.model.specs.declared.PriceCard.{PriceCard}
 use Rattle.model.specs.declared.Limits.{Limits}
-use Rattle.model.specs.Lists.{sumOf}
+use Rattle.model.specs.Lists.{sumOf, every}
 use Rattle.model.specs.Checks.{ask, firstFailed}
 use Rattle.model.specs.Blocks.{Set, blocks, valuesOk}
 use Rattle.model.specs.Calls.{Call}
@@ -25,7 +25,8 @@ use Rattle.model.specs.Cost.{costOf}
 use Rattle.model.specs.Questions.{setChecks}
 use Rattle.model.specs.Recorder.{recordedFromZeros, acceptedFromZeros}
 use Rattle.model.specs.Planner.{PlanResult, costCall, plannedEnds, planCall}
-use Rattle.model.specs.ColumnCalls.{applyCall, reportAlone}
+use Rattle.model.specs.Column.{lengthsOf}
+use Rattle.model.specs.ColumnCalls.{applyCall, laidColumn, reportAlone}
 
 -- the checks that the planner puts ahead of 11 are answered by yes: 1 2 3 4 5 8. Its 9 is not assumed: see `counted`.
 abbrev pub Admitted : ℕ → PriceCard → Limits → Set → Type 0
@@ -83,3 +84,8 @@ module _ (calls : List Call) (L : ℕ) (p : PriceCard) (l : Limits) (s : Set) wh
 
 abbrev pub Demand3 : Type 0
 Demand3 = (calls : List Call) (L : ℕ) (p : PriceCard) (l : Limits) (s : Set) → Admitted L p l s → PlanIsBest calls L p l s
+
+-- 02, Slip 6: "a freshly laid column has no empty partition, so the cheapest-layout statement is unaffected": no partition of a column
+-- that laying returns is empty, so that Slip 6 changes no report of a call made alone on it; proofs/LaidColumn.antt proves it.
+abbrev pub NoneEmptyWhenLaid : Type 0
+NoneEmptyWhenLaid = (L : ℕ) (s : Set) (ends : List ℕ) → applyCall L s ends .refusal ≡ 0 → T (every (ltb 0) (lengthsOf L (laidColumn L s ends)))

@@ -2,7 +2,7 @@
 ghost use Rattle.theorems.specs.Ledger.{LedgerAgreesFrom, LedgerAgrees};
 ghost use Rattle.theorems.specs.NextGrower.{NextGrowerAgrees, NextGrowerAfterCalls};
 ghost use Rattle.theorems.specs.Sheet.{SheetAgrees, SheetAfterCalls};
-ghost use Rattle.theorems.specs.Plan.{Demand3};
+ghost use Rattle.theorems.specs.Plan.{Demand3, NoneEmptyWhenLaid};
 ghost use Rattle.theorems.specs.Limits.{LimitsKept, OwnLimitsKept};
 ghost use Rattle.theorems.specs.Snapshot.{WrittenIsRead, ReadIsWritten};
 ghost use Rattle.theorems.specs.Weighbridge.{ImportRestores};
@@ -10,6 +10,11 @@ ghost use Rattle.theorems.specs.Weighbridge.{ImportRestores};
 // Does nothing: its contract is that the theorems hold, so that they stand in the list of what is proved.
 pub fn theorems()
     ensures { λ _. ⌜ LedgerAgreesFrom × LedgerAgrees × Demand3 × WrittenIsRead × ReadIsWritten ⌝ }
+{}
+
+// Does nothing: that a freshly laid column has no empty partition, likewise.
+pub fn none_empty_when_laid()
+    ensures { λ _. ⌜ NoneEmptyWhenLaid ⌝ }
 {}
 
 // Does nothing: that importing an export restores its deliveries, likewise.

@@ -275,7 +275,7 @@ fn values(run: &mut Run) -> Result<(), String> {
 }
 
 /// Sixty-four partitions of which one has the only record, and a step from each
-/// fence: the partitions between are counted, a block each.
+/// fence: one block is read where he is found, and else none.
 fn one_record(run: &mut Run) -> Result<(), String> {
     run.cases(114, 1, |run, r| {
         let library = inputs::library(r);
@@ -291,21 +291,16 @@ fn one_record(run: &mut Run) -> Result<(), String> {
             column.directory[LENGTHS + at] = 1;
             column.directory[FENCES..].copy_from_slice(&fences);
             let mut pair = Pair::new(r, &column);
-            for (own, &g) in fences.iter().enumerate() {
+            for &g in &fences {
                 for way in Step::both(g) {
                     let is_hit = way.reaches(grower);
-                    let last = match (is_hit, way) {
-                        (true, _) => at,
-                        (false, Step::Next(_)) => 63,
-                        (false, Step::Previous(_)) => 0,
-                    };
                     let expected = Stepped {
                         refusal: 0,
                         grower: if is_hit { grower } else { 0 },
                         records: u64::from(is_hit),
                         counts: Counts {
-                            rr: 1,
-                            sr: own.abs_diff(last) as u64,
+                            rr: u64::from(is_hit),
+                            sr: 0,
                             rw: 0,
                         },
                     };

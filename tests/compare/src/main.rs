@@ -26,6 +26,7 @@ mod lists;
 mod long;
 mod memory;
 mod plan;
+mod scans;
 mod seen;
 mod sheets;
 mod snapshots;
@@ -87,6 +88,7 @@ fn every_answer(run: &mut Run) -> Result<(), String> {
 fn tests() -> Vec<(&'static str, Test)> {
     let mut tests: Vec<(&str, Test)> = Vec::new();
     tests.extend(lists::TESTS);
+    tests.extend(scans::TESTS);
     tests.extend(broken::TESTS);
     tests.extend(long::TESTS);
     tests.extend(layouts::TESTS);

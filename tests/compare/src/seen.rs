@@ -39,6 +39,16 @@ const SCANS: [&str; 4] = [
     "match past the last whole stride",
 ];
 
+/// What is scanned where partitions are empty.
+const GAPS: [&str; 6] = [
+    "scan of empty partitions alone",
+    "scan of an empty partition ahead of records",
+    "scan of an empty partition between records",
+    "scan of an empty partition past records",
+    "delete refused by 13 in an empty partition",
+    "move refused by 13 in an empty partition",
+];
+
 pub fn name(asked: &Asked) -> &'static str {
     match asked {
         Asked::Call(Call::Find(_)) => "find",
@@ -79,27 +89,51 @@ fn note_scans(seen: &mut Seen, parts: &[&[u32]], lo: u32, hi: u32) {
     }
 }
 
+/// Notes the empty partitions among those scanned.
+fn note_gaps(seen: &mut Seen, lengths: &[u32]) {
+    let first = lengths.iter().position(|&n| n > 0);
+    let last = lengths.iter().rposition(|&n| n > 0);
+    let (Some(first), Some(last)) = (first, last) else {
+        return seen.kind(true, GAPS[0]);
+    };
+    seen.kind(first > 0, GAPS[1]);
+    seen.kind(lengths[first..=last].contains(&0), GAPS[2]);
+    seen.kind(last + 1 < lengths.len(), GAPS[3]);
+}
+
 /// Notes what was asked and its refusal; growers and directory are those
 /// before the call.
 pub fn note(seen: &mut Seen, asked: &Asked, refusal: u32, growers: &[u32], directory: &[u32]) {
     seen.answer(name(asked), refusal);
     let Asked::Call(call) = asked else { return };
-    if refusal != 0 {
+    if refusal != 0 && refusal != 13 {
         return;
     }
     let k = directory[1] as usize;
     let lengths = &directory[LENGTHS..LENGTHS + k];
     let fences = &directory[FENCES..FENCES + k];
     let partition = |g: u32| fences.partition_point(|&f| f < g).min(k - 1);
+    if refusal == 13 {
+        match call {
+            Call::Delete(d) => seen.kind(lengths[partition(d.grower)] == 0, GAPS[4]),
+            Call::Move(d, _) => seen.kind(lengths[partition(d.grower)] == 0, GAPS[5]),
+            _ => {}
+        }
+        return;
+    }
     let parts = parts(growers, lengths);
     let past = |seen: &mut Seen, lengths: &[u32], empty: usize, records: usize| {
         seen.kind(lengths.contains(&0), MOVES[empty]);
         seen.kind(lengths.iter().any(|&n| n > 0), MOVES[records]);
     };
     match *call {
-        Call::Find(g) => note_scans(seen, &parts[partition(g)..=partition(g)], g, g),
+        Call::Find(g) => {
+            note_scans(seen, &parts[partition(g)..=partition(g)], g, g);
+            note_gaps(seen, &lengths[partition(g)..=partition(g)]);
+        }
         Call::Range(lo, hi) => {
             note_scans(seen, &parts[partition(lo)..=partition(hi)], lo, hi);
+            note_gaps(seen, &lengths[partition(lo)..=partition(hi)]);
         }
         Call::Insert(d) => past(seen, &lengths[partition(d.grower) + 1..], 0, 1),
         Call::Delete(d) => past(seen, &lengths[partition(d.grower) + 1..], 2, 3),
@@ -118,5 +152,5 @@ pub fn note(seen: &mut Seen, asked: &Asked, refusal: u32, growers: &[u32], direc
 
 /// An error if an answer or a kind of move or scan has not occurred.
 pub fn complete(seen: &Seen) -> Result<(), String> {
-    seen.complete(&ANSWERS, &[&MOVES[..], &SCANS[..]].concat())
+    seen.complete(&ANSWERS, &[&MOVES[..], &SCANS[..], &GAPS[..]].concat())
 }

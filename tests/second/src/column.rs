@@ -86,19 +86,20 @@ pub(crate) fn start(directory: &[u32], p: usize) -> usize {
         .sum()
 }
 
-/// Blocks that a partition of `n` records counts as.
+/// Blocks that a partition of `n` records counts as; an empty one counts none.
 #[inline]
 pub(crate) fn block_count(n: usize, b: usize) -> u64 {
-    n.div_ceil(b).max(1) as u64
+    n.div_ceil(b) as u64
 }
 
-/// Of all blocks scanned the first is a random read, each other a sequential
-/// read.
+/// Of all blocks that a call reads the first is a random read, each other a
+/// sequential read; without a block there is no read.
 #[inline]
 pub(crate) fn scan_counts(blocks: u64) -> Counts {
+    let rr = blocks.min(1);
     Counts {
-        rr: 1,
-        sr: blocks - 1,
+        rr,
+        sr: blocks - rr,
         rw: 0,
     }
 }
@@ -245,6 +246,9 @@ fn read(
     let mut totals = Totals::ZERO;
     for p in first..=last {
         let past = at + length(directory, p);
+        if past == at {
+            continue;
+        }
         let part = scan_totals(
             &growers[at..past],
             &weights[at..past],

@@ -47,15 +47,18 @@ fn search<const DOWN: bool>(
     let mut blocks = 0;
     loop {
         let n = length(directory, p);
-        let part = &growers[at..at + n];
-        check::values(&weights[at..at + n], &yields[at..at + n])?;
-        blocks += block_count(n, shape.b);
-        // Laid growers rise: this end of the partition is mostly the nearer one.
-        let found = if DOWN {
-            nearest(part.rchunks(STRIDE), down, g).map(|(d, records)| (g - d, records))
-        } else {
-            nearest(part.chunks(STRIDE), up, u32::MAX - g).map(|(d, records)| (g + d, records))
-        };
+        let mut found = None;
+        if n > 0 {
+            let part = &growers[at..at + n];
+            check::values(&weights[at..at + n], &yields[at..at + n])?;
+            blocks += block_count(n, shape.b);
+            // Laid growers rise: this end of the partition is mostly the nearer one.
+            found = if DOWN {
+                nearest(part.rchunks(STRIDE), down, g).map(|(d, records)| (g - d, records))
+            } else {
+                nearest(part.chunks(STRIDE), up, u32::MAX - g).map(|(d, records)| (g + d, records))
+            };
+        }
         let is_last = p == if DOWN { 0 } else { shape.k - 1 };
         if found.is_some() || is_last {
             let (grower, records) = found.unwrap_or_default();

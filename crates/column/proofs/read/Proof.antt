@@ -1,5 +1,4 @@
--- `column::read`: one scan of the partitions from lo's to hi's answers the range (`scanned`): out of range is 8, and else its totals and its blocks, of which
--- there is one at least. Assumes nothing.
+-- `column::read`: one scan of the partitions from lo's to hi's answers the range (`scanned`): out of range is 8, and else its totals and its blocks. Assumes nothing.
 use Prim.Native.Nat.{_+_, _-_}
 use mathlib.Core.Path.{_≡_, _∙_}
 use native.Mathlib.Omega.{arith}
@@ -9,10 +8,10 @@ use lib.ListN.{getD}
 use Rattle.model.specs.Bounds.{blockLimit}
 use Rattle.model.specs.Column.{Column, slots, lengthsOf, target}
 use Rattle.model.specs.Lent.{columnOf}
-use Rattle.directory.proofs.LentColumns.{LentColumn, lent-column, numbered, count-lengths, most-shaped}
+use Rattle.directory.proofs.LentColumns.{LentColumn, lent-column, numbered, most-shaped}
 use Rattle.directory.proofs.Numbers.{block-is}
 use Rattle.scan.specs.Scans.{scanOf}
-use Rattle.column.proofs.Reading.{targets-ordered, target-there, good-scan, blocks-some, range-bad, range-good}
+use Rattle.column.proofs.Reading.{targets-ordered, target-there, range-bad, range-good}
 use Rattle.column.proofs.read.Statement.{statement}
 use Rattle.column.proofs.read.Tie as tie
 
@@ -44,7 +43,6 @@ scan-parts-requires c κs =
       (
         rw (p .2) (targets-ordered blockLimit _ (p .0) _ _ (p .1)),
         target-there blockLimit _ (p .0) _,
-        omega (arith, count-lengths blockLimit _ l, l .shape .few),
         l .shape .room,
         l .block,
         p .3,
@@ -57,14 +55,6 @@ returns c =
     let r = c .before .before .before in
     let p = start r .pre in
     c .refused .ensures ∙ range-bad blockLimit _ (p .0) _ _ (p .1) _ (scanned r) (not-true _ (c .before .if1 .taken))
-
-reads-of-requires : tie.Need-reads-of-requires
-reads-of-requires c κs =
-    let r = c .before .before in
-    let p = start r .pre in
-    let k = the-column (start r) in
-    rw (good-scan _ _ _ _ _ _ _ _ (scanned r) (not-false _ (c .if1 .left)) .blocks)
-    (blocks-some _ (lengthsOf blockLimit k) _ _ (targets-ordered blockLimit k (p .0) _ _ (p .1)) (target-there blockLimit k (p .0) _))
 
 returns-2 : tie.Need-returns-2
 returns-2 c =
@@ -82,5 +72,5 @@ read-spec =
     scan-parts-requires
     (λ c κs. search needs)
     returns
-    reads-of-requires
+    (λ c κs. search needs)
     returns-2)

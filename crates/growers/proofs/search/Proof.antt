@@ -1,5 +1,6 @@
 -- `growers::search`: where the loop stands at the j-th partition of the path, the rest of the path, after the blocks so far, answers what the whole path
--- answers (`Searching`). Each partition lies in the slices, since the lengths sum to no more (`stops`). Assumes nothing.
+-- answers (`Searching`). Each partition lies in the slices, since the lengths sum to no more (`stops`). An empty one answers nothing (`searching-skip`).
+-- Assumes nothing.
 use Prim.Native.Nat.{_+_, _-_, _≤_, _<_}
 use mathlib.Core.Path.{_≡_, _∙_}
 use native.Mathlib.Omega.{arith}
@@ -10,10 +11,10 @@ use Rattle.model.specs.Bounds.{mostSlots}
 use Rattle.model.specs.Lists.{sumOf}
 use Rattle.model.specs.Deliveries.{rows}
 use Rattle.model.specs.Partitions.{startOf}
+use Rattle.model.proofs.AccessLaws.{blocks-most}
 use Rattle.model.proofs.Parts.{stop-le}
 use Rattle.model.proofs.Deliveries.{length-rows}
-use Rattle.scan.proofs.Blocks.{blocks-least, blocks-most}
-use Rattle.growers.proofs.Searching.{stepsOf, steps-most, steps-some, steps-back, Met, met, Searching, searching-start, searching-end, searching-bad, searching-hit, searching-next}
+use Rattle.growers.proofs.Searching.{stepsOf, steps-most, steps-back, Met, met, Searching, searching-start, searching-end, searching-skip, searching-bad, searching-hit, searching-next}
 use Rattle.growers.proofs.search.Statement.{statement}
 use Rattle.growers.proofs.search.Tie as tie
 
@@ -41,18 +42,22 @@ step : (c : tie.After-partition-after Inv-loop μ-loop) → let p = c .before .b
     Met (a .up) (a .lens .now) (a .from) (p .loop .edge) (p .loop .j) (c .partition-after .result)
 step c = let p = c .before .before in met _ _ _ _ _ _ (start p .pre .0 .0) (on-path (c .before)) (p .loop .inv .here) (c .partition-after .ensures)
 
-begun : (c : tie.After-begins Inv-loop μ-loop) → let i = c .before .before in c .begins .result ≡ startOf (start (i .before .before) .args .lens .now) (i .partition-after .result)
-begun c = c .begins .ensures ∙ step (c .before .before) .start
+abbrev here : tie.After-begins Inv-loop μ-loop → tie.After-partition-after Inv-loop μ-loop
+here c = c .before .before .before
 
-stops : (c : tie.After-begins Inv-loop μ-loop) → let i = c .before .before in let a = start (i .before .before) .args in
-    c .begins .result + getD (a .lens .now) (i .partition-after .result) 0 ≤ length (a .g .now)
+abbrev head : tie.After-begins Inv-loop μ-loop → tie.At-loop Inv-loop μ-loop
+head c = here c .before .before
+
+begun : (c : tie.After-begins Inv-loop μ-loop) → c .begins .result ≡ startOf (start (head c) .args .lens .now) (here c .partition-after .result)
+begun c = c .begins .ensures ∙ step (here c) .start
+
+stops : (c : tie.After-begins Inv-loop μ-loop) → let a = start (head c) .args in c .begins .result + getD (a .lens .now) (here c .partition-after .result) 0 ≤ length (a .g .now)
 stops c =
-    let i = c .before .before in
-    let s = start (i .before .before) in
-    omega (arith, begun c, stop-le (s .args .lens .now) (i .partition-after .result) (step i .there), s .pre .0 .2)
+    let s = start (head c) in
+    omega (arith, begun c, stop-le (s .args .lens .now) (here c .partition-after .result) (step (here c) .there), s .pre .0 .2)
 
-small : (c : tie.After-begins Inv-loop μ-loop) → let i = c .before .before in getD (start (i .before .before) .args .lens .now) (i .partition-after .result) 0 ≤ mostSlots
-small c = omega (arith, stops c, start (c .before .before .before .before) .pre .1 .0)
+small : (c : tie.After-begins Inv-loop μ-loop) → getD (start (head c) .args .lens .now) (here c .partition-after .result) 0 ≤ mostSlots
+small c = omega (arith, stops c, start (head c) .pre .1 .0)
 
 add-either-2 : tie.Need-add-either-2 Inv-loop μ-loop
 add-either-2 c =
@@ -73,7 +78,7 @@ partition-after-requires c κs =
 
 near-all-requires : tie.Need-near-all-requires Inv-loop μ-loop
 near-all-requires c κs =
-    let p = start (c .before .before .before .before .before .before .before) .pre .1 in (
+    let p = start (head (c .before .before .before)) .pre .1 in (
       simp (length-take, length-drop) (omega arith),
       record { weights = simp (length-take, length-drop) (omega arith); yields = simp (length-take, length-drop) (omega arith) },
     )
@@ -82,55 +87,48 @@ returns : tie.Need-returns Inv-loop μ-loop
 returns c =
     let r = c .before .before .before in
     let b = r .before .before .before .before in
-    let p = b .before .before .before .before in
-    c .refused .ensures ∙ searching-bad (p .loop .inv) (step (b .before .before)) (begun b) (room p) (r .near-all .ensures) (not-true _ (c .before .if1 .taken))
+    let p = head b in
+    c .refused .ensures ∙ searching-bad (p .loop .inv) (step (here b)) (begun b) (room p) (r .near-all .ensures) (not-true _ (c .before .if2 .taken))
 
 blocks-of-requires : tie.Need-blocks-of-requires Inv-loop μ-loop
 blocks-of-requires c κs =
     let b = c .before .before .before .before .before .before in
-    (start (b .before .before .before .before) .pre .0 .3, omega (arith, small b))
+    (start (head b) .pre .0 .3, omega (arith, small b))
 
 add-blocks : tie.Need-add-blocks Inv-loop μ-loop
 add-blocks c =
     let b = c .before .before .before .before .before .before .before in
-    let i = b .before .before in
-    let p = i .before .before in
+    let i = here b in
+    let p = head b in
     let a = start p .args in
     let h = start p .pre in
     let most = blocks-most (a .block) (getD (a .lens .now) (i .partition-after .result) 0) (h .0 .3) in
     omega (arith, p .loop .inv .few, on-path (i .before), steps-most (a .up) (a .lens .now) (a .from) (h .0 .0), h .0 .1, small b, c .blocks-of .ensures)
-
-found-requires : tie.Need-found-requires Inv-loop μ-loop
-found-requires c κs =
-    let b = c .before .before in
-    let i = b .before .before .before .before .before .before .before .before .before in
-    let a = start (i .before .before) .args in
-    omega (arith, b .blocks-of .ensures, blocks-least (a .block) (getD (a .lens .now) (i .partition-after .result) 0))
 
 returns-2 : tie.Need-returns-2 Inv-loop μ-loop
 returns-2 c =
     let k = c .before .before .before in
     let r = k .before .before .before in
     let b = r .before .before .before .before in
-    let p = b .before .before .before .before in
+    let p = head b in
     c .found .ensures
-    ∙ searching-hit (p .loop .inv) (step (b .before .before)) (begun b) (room p) (r .near-all .ensures) (k .blocks-of .ensures) (not-false _ (k .before .if1 .left))
-    (omega (arith, c .before .if2 .taken))
+    ∙ searching-hit (p .loop .inv) (step (here b)) (begun b) (room p) (r .near-all .ensures) (k .blocks-of .ensures) (not-false _ (k .before .if2 .left))
+    (omega (arith, c .before .if3 .taken))
 
 loop-again : tie.Need-loop-again Inv-loop μ-loop
 loop-again c =
     let k = c .before .before .before in
     let r = k .before .before .before in
     let b = r .before .before .before .before in
-    let p = b .before .before .before .before in
-    searching-next (p .loop .inv) (step (b .before .before)) (begun b) (room p) (r .near-all .ensures) (k .blocks-of .ensures) (not-false _ (k .before .if1 .left))
-    (omega (arith, c .before .if2 .left)) (c .either3 .ensures) (start p .pre .0 .3) (small b)
+    let p = head b in
+    searching-next (p .loop .inv) (step (here b)) (begun b) (room p) (r .near-all .ensures) (k .blocks-of .ensures) (not-false _ (k .before .if2 .left))
+    (omega (arith, c .before .if3 .left)) (c .either3 .ensures) (start p .pre .0 .3) (small b)
 
-found-requires-2 : tie.Need-found-requires-2 Inv-loop μ-loop
-found-requires-2 c κs =
-    let p = c .before in
-    let a = start p .args in
-    omega (arith, p .loop .inv .some, c .loop-test .left, p .before .before .before .either .ensures, steps-some (a .up) (a .lens .now) (a .from) (start p .pre .0 .0))
+loop-again-2 : tie.Need-loop-again-2 Inv-loop μ-loop
+loop-again-2 c =
+    let i = c .before .before in
+    let p = i .before .before in
+    searching-skip (p .loop .inv) (step i) (start p .pre .0 .3) (omega (arith, c .if1 .left))
 
 returns-3 : tie.Need-returns-3 Inv-loop μ-loop
 returns-3 c =
@@ -156,7 +154,9 @@ search-spec =
     (λ c. omega (arith, step c .there))
     (λ c. omega (arith, step (c .before) .there))
     (λ c. omega (arith, c .shared-slice-known6 .given (c .before .partition-after .result)))
-    (λ c κs. step (c .before) .fits)
+    (λ c. omega arith)
+    (λ c κs. step (c .before .before) .fits)
+    -- the end of the partition, and its part of each slice
     (λ c. omega (arith, stops c))
     (λ c. omega (arith, stops c))
     (λ c. omega (arith, stops c))
@@ -175,11 +175,12 @@ search-spec =
     returns
     blocks-of-requires
     add-blocks
-    found-requires
+    (λ c κs. search needs)
     returns-2
     (λ c κs. search needs)
     (λ c. omega arith)
-    (λ c. omega arith)
     loop-again
-    found-requires-2
+    (λ c. omega arith)
+    loop-again-2
+    (λ c κs. search needs)
     returns-3)

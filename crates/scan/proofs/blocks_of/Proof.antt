@@ -1,17 +1,16 @@
--- `scan::blocks_of`: no records count as one block (`blocks-none`); else n / B rounded up is at least 1 (`blocks-some`). Assumes nothing.
+-- `scan::blocks_of`: n / B rounded up, as the definition has it. Assumes nothing.
+use Prim.Native.Nat.{ℕ, _/_}
+use mathlib.Core.Path.{ap}
 use native.Mathlib.Omega.{arith}
 use borrow.Author.Needs.{needs}
 use Rattle.model.specs.Lists.{ceilDiv}
-use Rattle.scan.proofs.Blocks.{blocks-none, blocks-some}
+use Rattle.model.specs.Accesses.{blocksOf}
 use Rattle.scan.proofs.blocks_of.Statement.{statement}
 use Rattle.scan.proofs.blocks_of.Tie as tie
 
 returns : tie.Need-returns
-returns c = blocks-none _ _ (c .before .pre .0) (c .if1 .taken)
-
-returns-2 : tie.Need-returns-2
-unfolding ceilDiv
-returns-2 c = let g = c .before .args in blocks-some (g .block) (g .records) (c .before .pre .0) (omega arith)
+unfolding blocksOf ceilDiv
+returns c = ap (λ (n : ℕ). n / c .args .block) (omega arith)
 
 pub blocks-of-spec : {M : Type 1} → statement M
-blocks-of-spec = tie.close (tie.spec returns (λ c. search needs) (λ c. search needs) (λ c. search needs) returns-2)
+blocks-of-spec = tie.close (tie.spec (λ c. search needs) (λ c. search needs) (λ c. search needs) returns)

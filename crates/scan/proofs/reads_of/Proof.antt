@@ -1,12 +1,17 @@
--- `scan::reads_of`: there is a block at least, so that the first is the random read and the others are one fewer (`reads-some`). Assumes nothing.
-use mathlib.Core.Path.{sym}
+-- `scan::reads_of`: of no block there is no read (`reads-none`); else the first block is the random read and the others are one fewer (`reads-some`).
+-- Assumes nothing.
+use mathlib.Core.Path.{_≡_, sym}
+use native.Mathlib.Omega.{arith}
 use borrow.Author.Needs.{needs}
-use Rattle.model.proofs.AccessLaws.{reads-some}
+use Rattle.model.proofs.AccessLaws.{reads-none, reads-some}
 use Rattle.scan.proofs.reads_of.Statement.{statement}
 use Rattle.scan.proofs.reads_of.Tie as tie
 
 returns : tie.Need-returns
-returns c = sym (reads-some _ (search needs))
+returns c = sym (reads-none _ (c .if1 .taken))
+
+returns-2 : tie.Need-returns-2
+returns-2 c = sym (reads-some _ (omega arith))
 
 pub reads-of-spec : {M : Type 1} → statement M
-reads-of-spec = tie.close (tie.spec (λ c. search needs) returns)
+reads-of-spec = tie.close (tie.spec returns (λ c. omega arith) returns-2)

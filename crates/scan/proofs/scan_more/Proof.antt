@@ -13,10 +13,10 @@ use Rattle.model.specs.Bounds.{mostSlots}
 use Rattle.model.specs.Lists.{every}
 use Rattle.model.specs.Deliveries.{LightTotals, inRange, plusTotals, totalsBetween, rows}
 use Rattle.model.specs.Accesses.{blocksOf}
+use Rattle.model.proofs.AccessLaws.{blocks-most}
 use Rattle.model.proofs.Deliveries.{length-rows}
 use Rattle.scan.specs.declared.Sum.{Sum}
 use Rattle.scan.specs.Scans.{badScan, scanMore, sumAll}
-use Rattle.scan.proofs.Blocks.{blocks-most}
 use Rattle.scan.proofs.Judging.{good-on, judged-says, judged-value}
 use Rattle.scan.proofs.Summing.{sums, sum-light}
 use Rattle.scan.proofs.scan_more.Statement.{statement}

@@ -1,5 +1,5 @@
 -- `scan::scan_parts`: where the loop stands at partition i, the scan is that of the partitions from the first to the one before i, and `at` is where i starts.
--- Each partition ends within the slices, since the lengths sum to no more (`stops`). Assumes nothing.
+-- Each partition ends within the slices, since the lengths sum to no more (`stops`). An empty one leaves the scan as it was (`scanning-skip`). Assumes nothing.
 use Prim.Native.Nat.{_+_, _-_, _≤_}
 use mathlib.Core.Path.{_≡_}
 use native.Mathlib.Omega.{arith}
@@ -9,7 +9,7 @@ use Rattle.model.specs.Deliveries.{rows}
 use Rattle.model.proofs.Parts.{stop-le}
 use Rattle.model.proofs.Deliveries.{length-rows}
 use Rattle.slices.proofs.Sums.{even-part}
-use Rattle.scan.proofs.Scanning.{Scanning, scanning-start, scanning-next, scanning-light, scanning-end}
+use Rattle.scan.proofs.Scanning.{Scanning, scanning-start, scanning-next, scanning-skip, scanning-light, scanning-end}
 use Rattle.scan.proofs.scan_parts.Statement.{statement}
 use Rattle.scan.proofs.scan_parts.Tie as tie
 
@@ -32,14 +32,14 @@ loop-holds : tie.Need-loop-holds Inv-loop μ-loop
 loop-holds c =
     let s = c .before .before .before .before .before in
     let a = s .args in
-    rw (c .none .ensures) (scanning-start (a .block) (a .lens .now) (a .from) (a .to) (a .lo) (a .hi) (rows (a .g .now) (a .w .now) (a .y .now)) (a .start) (omega arith) (s .pre .0 .5))
+    rw (c .none .ensures) (scanning-start (a .block) (a .lens .now) (a .from) (a .to) (a .lo) (a .hi) (rows (a .g .now) (a .w .now) (a .y .now)) (a .start) (omega arith) (s .pre .0 .4))
 
-cast-e : tie.Need-cast-e Inv-loop μ-loop
-cast-e c = omega (arith, c .shared-slice-known5 .given (c .before .before .loop .i))
+cast-n : tie.Need-cast-n Inv-loop μ-loop
+cast-n c = omega (arith, c .shared-slice-known5 .given (c .before .before .loop .i))
 
 scan-more-requires : tie.Need-scan-more-requires Inv-loop μ-loop
 scan-more-requires c κs =
-    let p = c .before .before .before .before .before in
+    let p = c .before .before .before .before .before .before in
     let a = start p .args in
     let l = p .loop in
     let z = size p in (
@@ -47,17 +47,25 @@ scan-more-requires c κs =
       even-part (a .g .now) (a .w .now) (a .y .now) (l .at + getD (a .lens .now) (l .i) 0 - l .at) (l .at) (start p .pre .1 .1),
       omega arith,
       scanning-light (a .block) (a .lens .now) (a .from) (a .to) (a .lo) (a .hi) (a .g .now) (a .w .now) (a .y .now) (l .at) (l .i) (l .s) (l .inv) (omega arith) (omega arith)
-          (omega arith) (omega arith),
+          (omega arith),
     )
 
 loop-again : tie.Need-loop-again Inv-loop μ-loop
 loop-again c =
-    let p = c .before .before .before .before .before .before in
+    let p = c .before .before .before .before .before .before .before in
     let a = start p .args in
     let l = p .loop in
     let z = size p in
     scanning-next (a .block) (a .lens .now) (a .from) (a .to) (a .lo) (a .hi) (a .g .now) (a .w .now) (a .y .now) (l .at) (l .i) (l .s) (l .inv) (omega arith) (omega arith) (omega arith) _
     (c .scan-more .ensures)
+
+loop-again-2 : tie.Need-loop-again-2 Inv-loop μ-loop
+loop-again-2 c =
+    let p = c .before .before .before in
+    let a = start p .args in
+    let l = p .loop in
+    scanning-skip (a .block) (a .lens .now) (a .from) (a .to) (a .lo) (a .hi) (a .g .now) (a .w .now) (a .y .now) (l .at) (l .i) (l .s) (l .inv) (omega arith) (omega arith) (omega arith)
+    (omega (arith, c .if1 .left))
 
 returns : tie.Need-returns Inv-loop μ-loop
 returns c =
@@ -74,12 +82,10 @@ scan-parts-spec =
     loop-holds
     (λ c. search needs)
     (λ c. omega arith)
-    cast-e
-    (λ c. omega (arith, stops (c .before)))
-    (λ c. omega (arith, stops (c .before)))
-    (λ c. omega (arith, stops (c .before)))
-    (λ c. omega (arith, stops (c .before)))
-    (λ c. omega (arith, stops (c .before)))
+    cast-n
+    (λ c. omega arith)
+    -- the end of the partition, and its part of each slice
+    (λ c. omega (arith, stops (c .before .before)))
     (λ c. omega (arith, stops (c .before .before)))
     (λ c. omega (arith, stops (c .before .before)))
     (λ c. omega (arith, stops (c .before .before)))
@@ -88,8 +94,13 @@ scan-parts-spec =
     (λ c. omega (arith, stops (c .before .before .before)))
     (λ c. omega (arith, stops (c .before .before .before)))
     (λ c. omega (arith, stops (c .before .before .before)))
+    (λ c. omega (arith, stops (c .before .before .before .before)))
+    (λ c. omega (arith, stops (c .before .before .before .before)))
+    (λ c. omega (arith, stops (c .before .before .before .before)))
+    (λ c. omega (arith, stops (c .before .before .before .before)))
     scan-more-requires
     (λ c. omega arith)
-    (λ c. omega arith)
     loop-again
+    (λ c. omega arith)
+    loop-again-2
     returns)

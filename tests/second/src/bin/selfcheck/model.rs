@@ -66,12 +66,11 @@ impl SlotModel {
             if part.len() % self.b != 0 {
                 n += 1;
             }
-            blocks += if n == 0 { 1 } else { n as u64 };
+            blocks += n as u64;
         }
-        Some(Counts {
-            rr: 1,
-            sr: blocks - 1,
-            rw: 0,
+        Some(match blocks {
+            0 => Counts::ZERO,
+            _ => Counts::new(1, blocks - 1, 0),
         })
     }
 

@@ -512,25 +512,54 @@ fn no_counts(c: &mut Column, call: &Call) -> Answer {
     a
 }
 
-/// An empty partition counts no block.
-fn empty_unread(c: &mut Column, call: &Call) -> Answer {
-    let mut a = library_call(c, call);
-    if let (Call::Find(g), 0) = (call, a.refusal) {
-        if c.lengths()[c.partition_of(*g)] == 0 {
-            a.counts = Counts::ZERO;
-        }
+/// An empty partition counts as one block.
+fn empty_as_block(counts: &mut Counts, lengths: &[usize]) {
+    let empty = lengths.iter().filter(|&&n| n == 0).count() as u64;
+    let blocks = counts.rr + counts.sr + empty;
+    if blocks > 0 {
+        *counts = Counts::new(1, blocks - 1, 0);
     }
-    a
 }
 
-/// Each partition of a range begins with a random read.
-fn random_read_each(c: &mut Column, call: &Call) -> Answer {
-    let mut a = library_call(c, call);
-    if let (Call::Range(lo, hi), 0) = (call, a.refusal) {
-        let more = (c.partition_of(*hi) - c.partition_of(*lo)) as u64;
-        a.counts.rr += more;
-        a.counts.sr -= more;
+/// The first partition, and not the first block, is the random read: there is
+/// none if that partition is empty.
+fn first_partition_random(counts: &mut Counts, lengths: &[usize]) {
+    if lengths.first() == Some(&0) {
+        counts.sr += counts.rr;
+        counts.rr = 0;
     }
+}
+
+/// One random read where nothing was read.
+fn read_of_nothing(counts: &mut Counts, lengths: &[usize]) {
+    if !lengths.is_empty() && *counts == Counts::ZERO {
+        counts.rr = 1;
+    }
+}
+
+/// Each partition that is read begins with a random read.
+fn random_read_each(counts: &mut Counts, lengths: &[usize]) {
+    let read = lengths.iter().filter(|&&n| n > 0).count() as u64;
+    let more = read.saturating_sub(1);
+    counts.rr += more;
+    counts.sr -= more;
+}
+
+/// The lengths of the partitions that a find, a range or a 13 has scanned.
+fn lengths_scanned(c: &Column, call: &Call, refusal: u32) -> Vec<usize> {
+    let (lo, hi) = match (*call, refusal) {
+        (Call::Find(g), 0) => (g, g),
+        (Call::Range(lo, hi), 0) => (lo, hi),
+        (Call::Delete(d) | Call::Move(d, _), 13) => (d.grower, d.grower),
+        _ => return Vec::new(),
+    };
+    c.lengths()[c.partition_of(lo)..=c.partition_of(hi)].to_vec()
+}
+
+/// The right answer, its scan's counts changed.
+fn recounted(c: &mut Column, call: &Call, change: fn(&mut Counts, &[usize])) -> Answer {
+    let mut a = library_call(c, call);
+    change(&mut a.counts, &lengths_scanned(c, call, a.refusal));
     a
 }
 
@@ -685,12 +714,12 @@ fn place_of_hit(c: &Column, step: &Step, order: &[usize]) -> Option<usize> {
     order.iter().position(holds)
 }
 
-/// The right answer, if all of these partitions are scanned, one at least.
+/// The right answer, if all of these partitions are scanned.
 fn scan_all(c: &Column, step: &Step, scanned: &[usize]) -> GrowerAnswer {
     let (b, lengths) = (c.directory[0] as usize, c.lengths());
     let slots = || scanned.iter().flat_map(|&p| slots_of(c, p));
     let grower = step.first_of(slots().map(|at| c.growers[at]));
-    let blocks: usize = scanned.iter().map(|&p| lengths[p].div_ceil(b).max(1)).sum();
+    let blocks: usize = scanned.iter().map(|&p| lengths[p].div_ceil(b)).sum();
     if slots().any(|at| !c.slot(at).in_range()) {
         return step_refused(8);
     }
@@ -698,8 +727,20 @@ fn scan_all(c: &Column, step: &Step, scanned: &[usize]) -> GrowerAnswer {
         refusal: 0,
         grower: grower.unwrap_or(0),
         records: slots().filter(|&at| Some(c.growers[at]) == grower).count() as u64,
-        counts: Counts::new(1, blocks as u64 - 1, 0),
+        counts: Counts::new(u64::from(blocks > 0), blocks.saturating_sub(1) as u64, 0),
     }
+}
+
+/// The right answer, its counts changed.
+fn step_recounted(c: &Column, step: &Step, change: fn(&mut Counts, &[usize])) -> GrowerAnswer {
+    let mut a = library_step(c, step);
+    if a.refusal == 0 {
+        let order = step_order(c, step);
+        let last = place_of_hit(c, step, &order).unwrap_or(order.len() - 1);
+        let lengths: Vec<usize> = order[..=last].iter().map(|&p| c.lengths()[p]).collect();
+        change(&mut a.counts, &lengths);
+    }
+    a
 }
 
 /// The grower himself is not answered.
@@ -1492,13 +1533,23 @@ pub fn all() -> Vec<(String, Outcome)> {
             &[column_slots, cost_reports],
         ),
         (
-            "empty partition counts no block",
-            call(empty_unread),
-            &[column_slots],
+            "empty partition counts as one block",
+            call(|c, k| recounted(c, k, empty_as_block)),
+            &[column_slots, column_edges],
+        ),
+        (
+            "random read of the first partition",
+            call(|c, k| recounted(c, k, first_partition_random)),
+            &[column_slots, column_edges],
+        ),
+        (
+            "one random read where nothing was read",
+            call(|c, k| recounted(c, k, read_of_nothing)),
+            &[column_slots, column_edges],
         ),
         (
             "random read for each partition",
-            call(random_read_each),
+            call(|c, k| recounted(c, k, random_read_each)),
             &[column_slots, cost_reports],
         ),
         (
@@ -1561,7 +1612,7 @@ pub fn all() -> Vec<(String, Outcome)> {
         (
             "scan goes on after a hit",
             step(on_after_hit),
-            &[grower_examples, grower_slots, grower_edges],
+            &[grower_examples, grower_slots],
         ),
         (
             "grower of the lowest slot",
@@ -1588,6 +1639,21 @@ pub fn all() -> Vec<(String, Outcome)> {
         (
             "counts of the last partition scanned",
             step(last_partition_counted),
+            &[grower_examples, grower_slots],
+        ),
+        (
+            "empty partition stepped over counts as one block",
+            step(|c, way| step_recounted(c, way, empty_as_block)),
+            &[grower_examples, grower_slots, grower_edges],
+        ),
+        (
+            "random read of the first partition stepped over",
+            step(|c, way| step_recounted(c, way, first_partition_random)),
+            &[grower_examples, grower_slots, grower_edges],
+        ),
+        (
+            "one random read where a step read nothing",
+            step(|c, way| step_recounted(c, way, read_of_nothing)),
             &[grower_examples, grower_slots, grower_edges],
         ),
         (
