@@ -2,7 +2,7 @@
 
 use crate::columns::{self, laid, USED};
 use crate::growers;
-use meltusk::{Call, Column, Step};
+use meltusk::{Call, Column, Slots, Step};
 use second::random::{case_seed, Random};
 use second::{Delivery, FENCES, LENGTHS};
 

@@ -1,19 +1,19 @@
 -- What a scan reads. Assumes nothing.
 use Prim.Native.Nat.{ℕ, zero, suc, _-_, _*_, _≤_}
-use mathlib.Core.Path.{_≡_, refl, ap}
+use mathlib.Core.Path.{_≡_, ap}
 use mathlib.Core.List.{List, [], _∷_, map}
 use native.Mathlib.Omega.{arith}
 use native.Mathlib.Nat.{mul-le-mul}
 use lib.Dec.{T, ltb, lt→ltb, ltb→lt}
 use Rattle.model.specs.Lists.{every}
-use Rattle.model.specs.Accesses.{noCounts, counts, blocksOf, readsOf}
+use Rattle.model.specs.Accesses.{counts, blocksOf, readsOf}
 use Rattle.model.proofs.Tests.{and-fst, and-snd, and-mk}
 use Rattle.model.proofs.ListLaws.{ceil-only, ceil-within}
 
 -- an empty partition has no block
 pub blocks-none : (b : ℕ) → 1 ≤ b → blocksOf b 0 ≡ 0
 unfolding blocksOf
-blocks-none b h = ceil-only 0 b 0 h (omega arith) (omega arith)
+blocks-none b h = omega (arith, ceil-only 0 b 0 h (omega arith) (omega arith))
 
 -- so that partitions that have blocks hold records
 pub blocks-hold : (b : ℕ) (ns : List ℕ) → 1 ≤ b → T (every (ltb 0) (map (blocksOf b) ns)) → T (every (ltb 0) ns)
@@ -29,15 +29,9 @@ pub blocks-most : (b n : ℕ) → 1 ≤ b → blocksOf b n ≤ n
 unfolding blocksOf
 blocks-most b n h =
     let m : n * 1 ≤ n * b = mul-le-mul {n₁ = n} {m₁ = 1} {n₂ = n} {m₂ = b} (omega arith) h in
-    ceil-within n n b h (omega (arith, m))
+    omega (arith, ceil-within n n b h (omega (arith, m)))
 
--- no block
-pub reads-none : (n : ℕ) → n ≡ 0 → readsOf n ≡ noCounts
-unfolding readsOf
-reads-none zero h = refl
-reads-none (suc n) h = absurd (omega arith)
-
--- one block or more
+-- of one block or more the first is the random read
 pub reads-some : (n : ℕ) → 1 ≤ n → readsOf n ≡ counts 1 (n - 1) 0
 unfolding readsOf
 reads-some zero h = absurd (omega arith)

@@ -68,7 +68,7 @@ module _ (L : ℕ) (s : Set) (o : Good L s) where
       let v : (e + 1) * s .block ≡ (f + d) * s .block = ap (λ (n : ℕ). n * s .block) k in
       let x : 1 * s .block ≤ d * s .block = mul-le-mul-right (s .block) one in
       let y = ceil-most (s .used) (s .block) (o .b-least) in
-      ceil-only (blockStop s e - a) (s .block) d (o .b-least) (omega arith) (omega arith)
+      omega (arith, ceil-only (blockStop s e - a) (s .block) d (o .b-least) (omega arith) (omega arith))
 
   pub fresh-blocks-from : (f a : ℕ) (ends : List ℕ) → a ≡ f * s .block → Cut f ends (blocks s) → map (blocksOf (s .block)) (lengthsFrom s a ends) ≡ blockCounts f ends
   unfolding lengthsFrom blockCounts Cut

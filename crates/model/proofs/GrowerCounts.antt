@@ -98,7 +98,8 @@ module _ (d : Directory) (f : ℕ → Bool) (t : ℕ) (h : t < length (d .length
       let few : k ≤ length (d .lengths) - t = omega (arith, no-longer f all) in
       let x : t + k - 1 + 1 - t ≡ k = omega arith in
       let y : is ≡ upFrom t k = e ∙ front f all ∙ ap (λ (n : ℕ). take n all) (sym same) ∙ take-up k t (length (d .lengths) - t) few in
-      rw x (ap readsOf (ap (λ (l : List ℕ). sumOf (map blocksAt l)) y ∙ sum-part (blocksOf (d .block)) (d .lengths) t k (omega arith)))
+      let z = ap (λ (l : List ℕ). sumOf (map blocksAt l)) y ∙ sum-part (blocksOf (d .block)) (d .lengths) t k (omega arith) in
+      rw x (ap readsOf (omega (arith, z)))
 
   counts-down : (is : List ℕ) → is ≡ upToFirst f (path down (length (d .lengths)) t) → countsScanned d is ≡ scanCounts d (t + 1 - length is) t
   unfolding countsScanned scanCounts blocksScanned path
@@ -109,8 +110,8 @@ module _ (d : Directory) (f : ℕ → Bool) (t : ℕ) (h : t < length (d .length
       let few : k ≤ t + 1 = omega (arith, no-longer f all, length-downFrom t) in
       let x : t + 1 - (t + 1 - k) ≡ k = omega arith in
       let y : is ≡ take k all = e ∙ front f all ∙ ap (λ (n : ℕ). take n all) (sym same) in
-      rw x
-      (ap readsOf (ap (λ (l : List ℕ). sumOf (map blocksAt l)) y ∙ sum-down blocksAt k t few ∙ sum-part (blocksOf (d .block)) (d .lengths) (t + 1 - k) k (omega arith)))
+      let z = ap (λ (l : List ℕ). sumOf (map blocksAt l)) y ∙ sum-down blocksAt k t few ∙ sum-part (blocksOf (d .block)) (d .lengths) (t + 1 - k) k (omega arith) in
+      rw x (ap readsOf (omega (arith, z)))
 
 pub range-counts : (L : ℕ) (c : Column) (g : ℕ) → firstFailed (lentChecks L c) ≡ 0 → RangeCounts L c g
 unfolding scannedFor

@@ -1,14 +1,15 @@
--- `scan::reads_of`: of no block there is no read (`reads-none`); else the first block is the random read and the others are one fewer (`reads-some`).
--- Assumes nothing.
+-- `scan::reads_of`: of no block there is no read; else the first block is the random read and the others are one fewer (`reads-some`). Assumes nothing.
 use mathlib.Core.Path.{_≡_, sym}
 use native.Mathlib.Omega.{arith}
 use borrow.Author.Needs.{needs}
-use Rattle.model.proofs.AccessLaws.{reads-none, reads-some}
+use Rattle.model.specs.Accesses.{readsOf}
+use Rattle.model.proofs.AccessLaws.{reads-some}
 use Rattle.scan.proofs.reads_of.Statement.{statement}
 use Rattle.scan.proofs.reads_of.Tie as tie
 
 returns : tie.Need-returns
-returns c = sym (reads-none _ (c .if1 .taken))
+unfolding readsOf
+returns c = rw (c .if1 .taken)
 
 returns-2 : tie.Need-returns-2
 returns-2 c = sym (reads-some _ (omega arith))
