@@ -109,7 +109,9 @@ pub(crate) const STRIDE: usize = 64;
 
 /// Check 8 of all records of one partition, then the totals of its growers
 /// lo to hi. The loops have no branch per record, so each does several
-/// records at a time; a stride without a match is passed over.
+/// records at a time; a stride without a match is passed over. Not inlined, so
+/// that its loops stay the same whatever stands around the call.
+#[inline(never)]
 fn scan_totals(
     growers: &[u32],
     weights: &[u32],
@@ -139,7 +141,9 @@ fn scan_totals(
     Ok(totals)
 }
 
-/// Lowest slot of one partition that holds a record equal to `d`.
+/// Lowest slot of one partition that holds a record equal to `d`. Not inlined,
+/// as above.
+#[inline(never)]
 fn scan_match(growers: &[u32], weights: &[u32], yields: &[u32], d: &Delivery) -> Option<usize> {
     growers
         .iter()
