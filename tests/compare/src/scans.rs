@@ -42,6 +42,13 @@ fn gapped(r: &mut Random) -> Column {
     column
 }
 
+/// The block length, and the lengths of the partitions.
+fn shape(pair: &Pair) -> (u32, Vec<u32>) {
+    let view = pair.view();
+    let lengths = (0..view.partitions()).map(|p| view.length(p) as u32);
+    (view.directory[0], lengths.collect())
+}
+
 /// The reads of partitions of these lengths, their blocks counted off.
 fn reads(lengths: &[u32], block: u32) -> Counts {
     let of = |n: u32| (0..n).step_by(block as usize).count() as u64;
@@ -76,11 +83,9 @@ fn ask(
 
 /// The counts of what is read from each partition to each later one.
 fn ranges(run: &mut Run, library: &Library, pair: &mut Pair) -> Result<(), String> {
-    let directory = pair.view().directory.to_vec();
-    let (block, k) = (directory[0], directory[1] as usize);
-    let lengths = &directory[LENGTHS..LENGTHS + k];
-    for p in 0..k {
-        for q in p..k {
+    let (block, lengths) = shape(pair);
+    for p in 0..lengths.len() {
+        for q in p..lengths.len() {
             let call = match p == q {
                 true => Call::Find(fence(p)),
                 false => Call::Range(fence(p), fence(q)),
@@ -95,12 +100,13 @@ fn ranges(run: &mut Run, library: &Library, pair: &mut Pair) -> Result<(), Strin
 /// A delete and a move of a delivery that no partition holds: 13, and the reads
 /// of its partition.
 fn misses(run: &mut Run, library: &Library, pair: &mut Pair) -> Result<(), String> {
-    let directory = pair.view().directory.to_vec();
+    let (block, lengths) = shape(pair);
     let weights = pair.view().weights.to_vec();
-    let absent = (0..).find(|w| !weights.contains(w)).unwrap_or(0);
-    for p in 0..directory[1] as usize {
+    let absent = (0..).find(|w| !weights.contains(w));
+    let absent = absent.expect("a weight that no slot has");
+    for (p, &n) in lengths.iter().enumerate() {
         let d = Delivery::new(fence(p), absent, 0);
-        let counts = reads(&[directory[LENGTHS + p]], directory[0]);
+        let counts = reads(&[n], block);
         for call in [Call::Delete(d), Call::Move(d, fence(0))] {
             ask(run, library, pair, call, (13, counts))?;
         }
@@ -111,11 +117,10 @@ fn misses(run: &mut Run, library: &Library, pair: &mut Pair) -> Result<(), Strin
 /// A step from each partition's first grower up and from its fence down: all
 /// partitions up to the first that holds a record are scanned.
 fn steps(run: &mut Run, library: &Library, pair: &mut Pair) -> Result<(), String> {
-    let directory = pair.view().directory.to_vec();
-    let (block, k) = (directory[0], directory[1] as usize);
-    let lengths = &directory[LENGTHS..LENGTHS + k];
-    for p in 0..k {
-        let above = (p..k).find(|&q| lengths[q] > 0).unwrap_or(k - 1);
+    let (block, lengths) = shape(pair);
+    let last = lengths.len() - 1;
+    for p in 0..=last {
+        let above = (p..=last).find(|&q| lengths[q] > 0).unwrap_or(last);
         let below = (0..=p).rev().find(|&q| lengths[q] > 0).unwrap_or(0);
         let first = fence(p) - (GROWERS - 1);
         let ways = [
