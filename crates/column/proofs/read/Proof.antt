@@ -1,7 +1,6 @@
 -- `column::read`: one scan of the partitions from lo's to hi's answers the range (`scanned`): out of range is 8, and else its totals and its blocks. Assumes nothing.
 use Prim.Native.Nat.{_+_, _-_}
 use mathlib.Core.Path.{_≡_, _∙_}
-use native.Mathlib.Omega.{arith}
 use borrow.Author.Tests.{not-true, not-false}
 use borrow.Author.Needs.{needs}
 use lib.ListN.{getD}

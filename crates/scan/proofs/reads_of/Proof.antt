@@ -1,7 +1,6 @@
 -- `scan::reads_of`: of no block there is no read; else the first block is the random read and the others are one fewer (`reads-some`). Assumes nothing.
-use mathlib.Core.Path.{_≡_, sym}
+use mathlib.Core.Path.{sym}
 use native.Mathlib.Omega.{arith}
-use borrow.Author.Needs.{needs}
 use Rattle.model.specs.Accesses.{readsOf}
 use Rattle.model.proofs.AccessLaws.{reads-some}
 use Rattle.scan.proofs.reads_of.Statement.{statement}
