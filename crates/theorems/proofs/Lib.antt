@@ -21,6 +21,7 @@ pub mod RecordingCosts
 pub mod PlanChecks
 pub mod RecordingCalls
 pub mod PlanFresh
+pub mod CallPrices
 pub mod PlanReports
 pub mod PlanSums
 pub mod PlanAnswers
@@ -29,6 +30,10 @@ pub mod PlanExample
 -- The limits as prices of a find and of an insert.
 pub mod Limits
 pub mod LimitsExample
+-- What more calls add to a cost: the price of one call, and the sums.
+pub mod CallBounds
+pub mod MoreCalls
+pub mod MoreCallsExample
 -- The snapshot's round trips.
 pub mod Snapshot
 -- The weighbridge file's round trip.

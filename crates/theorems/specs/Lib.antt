@@ -6,5 +6,7 @@ pub mod Plan
 pub mod PlanExample
 pub mod Limits
 pub mod LimitsExample
+pub mod MoreCalls
+pub mod MoreCallsExample
 pub mod Snapshot
 pub mod Weighbridge

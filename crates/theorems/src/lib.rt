@@ -4,6 +4,7 @@ ghost use Rattle.theorems.specs.NextGrower.{NextGrowerAgrees, NextGrower
 ghost use Rattle.theorems.specs.Sheet.{SheetAgrees, SheetAfterCalls};
 ghost use Rattle.theorems.specs.Plan.{Demand3, NoneEmptyWhenLaid};
 ghost use Rattle.theorems.specs.Limits.{LimitsKept, OwnLimitsKept};
+ghost use Rattle.theorems.specs.MoreCalls.{EachCostBounded, LeastCostPlanned, LeastCostBounded, OldPlanBounded};
 ghost use Rattle.theorems.specs.Snapshot.{WrittenIsRead, ReadIsWritten};
 ghost use Rattle.theorems.specs.Weighbridge.{ImportRestores};
 
@@ -25,6 +26,11 @@ pub fn import_restores()
 // Does nothing: that the limits permit the layouts on which no find and no insert costs more, likewise.
 pub fn limits_kept()
     ensures { λ _. ⌜ LimitsKept × OwnLimitsKept ⌝ }
+{}
+
+// Does nothing: what more calls can add to each permitted layout's bill and to the least bill, likewise.
+pub fn more_calls_bounded()
+    ensures { λ _. ⌜ EachCostBounded × LeastCostPlanned × LeastCostBounded × OldPlanBounded ⌝ }
 {}
 
 // Does nothing: that the next and the previous grower are the ledger's, likewise.

@@ -14,6 +14,7 @@ pub mod cost;
 pub mod csv;
 pub mod field;
 pub mod growers;
+pub mod increase;
 pub mod layplan;
 pub mod ledger;
 pub mod planner;
@@ -32,6 +33,7 @@ pub use column::{
 pub use cost::cost;
 pub use csv::{csv_export, csv_import, csv_size};
 pub use growers::{next_grower, previous_grower};
+pub use increase::Increase;
 pub use layplan::layplan;
 pub use ledger::Ledger;
 pub use planner::{plan_by_listing, plan_by_table};

@@ -2,9 +2,9 @@
 //! block limit.
 
 use super::calls::{By, Case};
-use super::{limits, planned_and_costed};
+use super::{limits, one_a_block, planned_and_costed};
 use crate::{inputs, Run};
-use meltusk::{Call, Set};
+use meltusk::Call;
 use second::random::Random;
 use second::{PriceCard, COUNT_LIMIT, HISTOGRAM_LEN};
 
@@ -44,13 +44,7 @@ pub fn planned(run: &mut Run) -> Result<(), String> {
             r.pick(&[1, 1_000]),
         );
         let limits = limits(r, &card, blocks);
-        let set = Set {
-            block: 1,
-            used: blocks as u32,
-            growers: (0..blocks as u32).collect(),
-            weights: vec![1; blocks],
-            yields: vec![0; blocks],
-        };
+        let set = one_a_block(blocks);
         let mut case = Case {
             card,
             limits,

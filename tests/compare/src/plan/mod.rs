@@ -2,6 +2,7 @@
 
 mod bounds;
 mod calls;
+mod increases;
 mod limits;
 mod seen;
 
@@ -162,6 +163,17 @@ fn room(r: &mut Random, blocks: usize) -> Vec<u32> {
         _ => r.pick(&[64, 65, 70]),
     };
     (0..length).map(|_| r.next() as u32).collect()
+}
+
+/// A record a block, growers 0, 1 and so on: every layout parts no equal ones.
+fn one_a_block(blocks: usize) -> Set {
+    Set {
+        block: 1,
+        used: blocks as u32,
+        growers: (0..blocks as u32).collect(),
+        weights: vec![1; blocks],
+        yields: vec![0; blocks],
+    }
 }
 
 fn case(r: &mut Random, most_blocks: usize) -> Case {
@@ -613,6 +625,10 @@ pub const TESTS: &[(&str, Test)] = &[
     (
         "plan: limits against the counts of finds and inserts, N to 7",
         limits::by_counts,
+    ),
+    (
+        "plan: calls added to a list against their bounds",
+        increases::bounded,
     ),
     ("plan: broken input, each fault alone", alone),
     ("plan: broken input, two faults", pairs),

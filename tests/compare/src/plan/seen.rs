@@ -1,6 +1,7 @@
 //! What the compared calls of recorder, cost and planner answered.
 
 use meltusk::{Call, Costed, Planned, Seen};
+use second::Increase;
 
 /// The refusals of each call, 0 for accepted.
 const ANSWERS: [(&str, &[u32]); 7] = [
@@ -50,7 +51,15 @@ pub fn note_limits(seen: &mut Seen, find_meets: bool, insert_meets: bool) {
     seen.kind(insert_meets, KINDS[4]);
 }
 
+/// Notes which bounds a least bill met, and which wrong ones it contradicts.
+pub fn note_increase(seen: &mut Seen, increase: &Increase) {
+    for (kind, there) in Increase::KINDS.into_iter().zip(increase.occurred()) {
+        seen.kind(there, kind);
+    }
+}
+
 /// An error if an answer or a kind of answer has not occurred.
 pub fn complete(seen: &Seen) -> Result<(), String> {
-    seen.complete(&ANSWERS, &KINDS)
+    seen.complete(&ANSWERS, &KINDS)?;
+    seen.complete(&[], &Increase::KINDS)
 }

@@ -11,6 +11,8 @@ mod csv;
 mod groups;
 #[path = "selfcheck/growers.rs"]
 mod growers;
+#[path = "selfcheck/increases.rs"]
+mod increases;
 #[path = "selfcheck/model.rs"]
 mod model;
 #[path = "selfcheck/mutants.rs"]
@@ -62,6 +64,16 @@ const GROUPS: &[(&str, Group, u64)] = &[
         "planner by table, up to 64 blocks",
         groups::planner_large,
         2_000,
+    ),
+    (
+        "example: calls added to a list",
+        increases::increase_examples,
+        1,
+    ),
+    (
+        "calls added to recorded lists",
+        increases::increase_bounds,
+        6_000,
     ),
     (
         "column against ledger, any sound column",

@@ -4,6 +4,7 @@
 use crate::csv;
 use crate::groups::{self, Outcome};
 use crate::growers;
+use crate::increases;
 use crate::model::text_in;
 use crate::sheets;
 use crate::subject::*;
@@ -322,6 +323,19 @@ fn always_one_partition(
     )
 }
 
+fn one_partition_once_deleted(
+    c: &PriceCard,
+    l: &Limits,
+    s: &UnlaidSet,
+    h: &[u32],
+    o: &mut [u32],
+) -> PlanAnswer {
+    if (0..BLOCK_LIMIT).any(|i| h[count_index(DE, i)] > 0) {
+        return always_one_partition(c, l, s, h, o);
+    }
+    plan_by_table(c, l, s, h, o)
+}
+
 fn always_11(_: &PriceCard, _: &Limits, _: &UnlaidSet, _: &[u32], _: &mut [u32]) -> PlanAnswer {
     PlanAnswer {
         refusal: 11,
@@ -337,6 +351,15 @@ fn only_first_call(set: &UnlaidSet, h: &mut [u32], call: &Call) -> u32 {
         return library_record(set, &mut scratch, call);
     }
     library_record(set, h, call)
+}
+
+/// An insert is entered twice.
+fn insert_twice(set: &UnlaidSet, h: &mut [u32], call: &Call) -> u32 {
+    let refusal = library_record(set, h, call);
+    if let (0, Call::Insert(_)) = (refusal, call) {
+        library_record(set, h, call);
+    }
+    refusal
 }
 
 /// A range within one block enters rs and re.
@@ -1416,6 +1439,7 @@ pub fn all() -> Vec<(String, Outcome)> {
     use csv::{csv_damaged, csv_examples, csv_round_trip};
     use groups::*;
     use growers::{grower_edges, grower_examples, grower_ledger, grower_slots, grower_stepping};
+    use increases::{increase_bounds, increase_examples};
     use sheets::{
         settlement_books, settlement_examples, sheet_columns, sheet_edges, sheet_examples,
         sheet_finds, sheet_refused,
@@ -1474,7 +1498,17 @@ pub fn all() -> Vec<(String, Outcome)> {
         (
             "only the first call entered",
             record(only_first_call),
-            &[recorder_model, cost_reports],
+            &[recorder_model, cost_reports, increase_bounds],
+        ),
+        (
+            "insert entered twice",
+            record(insert_twice),
+            &[recorder_model, increase_examples, increase_bounds],
+        ),
+        (
+            "one partition once a delete is entered",
+            plan(one_partition_once_deleted),
+            &[increase_examples, increase_bounds],
         ),
         ("range never pq", record(range_never_pq), &[recorder_model]),
         (
