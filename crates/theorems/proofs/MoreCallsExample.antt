@@ -2,7 +2,7 @@
 use mathlib.Core.Path.{refl}
 use Rattle.model.proofs.Computing.{computed}
 use Rattle.theorems.specs.MoreCalls.{done, same, more}
-use Rattle.theorems.specs.MoreCallsExample.{FourBlocks, OneBlock, DearReads, RefusedAdded, OldPlan}
+use Rattle.theorems.specs.MoreCallsExample.{FourBlocks, OneBlock, DearReads, NoFreeSlot, RefusedAdded, OldPlan}
 
 pub four-blocks : FourBlocks
 unfolding computed
@@ -37,6 +37,10 @@ one-block = record { admitted = refl; allowed = refl; bound = refl; sharp = refl
 pub dear-reads : DearReads
 unfolding computed
 dear-reads = record { admitted = refl; bound = refl; lower = refl; sharp = refl; nothing = refl; one-delete = refl; accepted = refl }
+
+pub no-free-slot : NoFreeSlot
+unfolding computed
+no-free-slot = record { admitted = refl; reports-nothing = refl; main = refl; one-insert = refl; accepted = refl }
 
 pub refused-added : RefusedAdded
 unfolding computed

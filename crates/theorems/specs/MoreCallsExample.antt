@@ -11,10 +11,10 @@ use Rattle.model.specs.Calls.{Call, find, range, insert, delete}
 use Rattle.model.specs.Prices.{prices, factory, limits}
 use Rattle.model.specs.Layouts.{permitted}
 use Rattle.model.specs.Recorder.{acceptedFromZeros}
-use Rattle.model.specs.Examples.{week, of, calls}
-use Rattle.theorems.specs.Plan.{Admitted, cost, output}
+use Rattle.model.specs.Examples.{week, of, calls, halves}
+use Rattle.theorems.specs.Plan.{Admitted, reported, cost, output}
 use Rattle.theorems.specs.PlanExample.{mainLimits}
-use Rattle.theorems.specs.LimitsExample.{singles}
+use Rattle.theorems.specs.LimitsExample.{singles, fullWeek}
 use Rattle.theorems.specs.MoreCalls.{increaseBound, lowerPrice, sharpBound, AllAccepted, Adds, leastCost}
 
 -- the least bill at the factory card and the main case's limits
@@ -99,6 +99,14 @@ pub record DearReads : Type 0 where
   pub nothing : leastCost blockLimit dear oneAlone week [] ≡ pos 0
   pub one-delete : leastCost blockLimit dear oneAlone week (delete (of 10) ∷ []) ≡ pos 3004
   pub accepted : AllAccepted blockLimit week (delete (of 10) ∷ [])
+
+-- no free slot: the column refuses the insert and reports nothing, the recorder takes it, and the bill has it
+pub record NoFreeSlot : Type 0 where
+  pub admitted : Admitted blockLimit factory mainLimits fullWeek
+  pub reports-nothing : reported blockLimit factory fullWeek halves (insert (of 15)) ≡ 0
+  pub main : leastOn fullWeek calls ≡ pos 35
+  pub one-insert : leastOn fullWeek (calls ++ insert (of 15) ∷ []) ≡ pos 50
+  pub accepted : AllAccepted blockLimit fullWeek (calls ++ insert (of 15) ∷ [])
 
 -- a call that the recorder refuses adds nothing, not even RR
 pub record RefusedAdded : Type 0 where
