@@ -2,7 +2,6 @@
 -- the first, since each other partition has one, and passes at most K partitions. Assumes nothing.
 use Prim.Native.Nat.{ℕ, zero, suc, _+_, _-_, _*_, _≤_, _<_}
 use mathlib.Core.Path.{_≡_, ap}
-use mathlib.Core.Bool.{Bool, true, false, cond}
 use mathlib.Core.List.{List, [], _∷_, map}
 use native.Mathlib.Omega.{arith}
 use native.Mathlib.Nat.{mul-le-mul-left}
@@ -19,6 +18,7 @@ use Rattle.model.specs.Laws.{SetPasses}
 use Rattle.model.proofs.LayoutLaws.{Cut, cut-count, cut-less, Laid, laid}
 use Rattle.model.proofs.SetLaws.{Good, good, spot, block-mono, part-first, part-end}
 use Rattle.theorems.specs.MoreCalls.{lowerPrice, sharpBound}
+use Rattle.theorems.proofs.RecordingEntries.{either}
 use Rattle.theorems.proofs.PlanFresh.{part-in}
 use Rattle.theorems.proofs.CallPrices.{spanned, onwardAt, passed, scanPrice, deletePrice, movePrice, callPrice}
 
@@ -46,11 +46,6 @@ scan-alone r k w m i j x hx hq =
     let a : k * x ≤ k * (i + j) = mul-le-mul-left k hx in
     let d : (i + j) * m ≤ (i + j) * (r + w) = mul-le-mul-left (i + j) hq in
     omega arith
-
--- a property of two numbers is one of whichever is chosen
-of-either : (P : ℕ → Type 0) (v : Bool) (x y : ℕ) → P x → P y → P (cond v x y)
-of-either P true x y a b = a
-of-either P false x y a b = b
 
 module _ (L : ℕ) (s : Set) (h : SetPasses L s) (ends : List ℕ) (t : T (layoutOk s ends)) (p : PriceCard) where
   o : Good L s
@@ -131,8 +126,8 @@ module _ (L : ℕ) (s : Set) (h : SetPasses L s) (ends : List ℕ) (t : T (layou
   price-most (range lo hi) k =
       within _ (scan-alone (p .rr) (p .sr) (p .«rw») m i j (spanned s ends lo hi) (spanned-most lo hi (leb→le lo hi k)) (omega arith))
   price-most (insert d) k = pass-most 0 (onwardAt s ends (d .grower)) _ (omega arith) (onward-most (d .grower)) (omega arith)
-  price-most (delete d) k = of-either (λ (n : ℕ). n ≤ sharpBound p (blocks s)) (among d (held s)) _ _ (delete-most (d .grower)) (scan-most (d .grower))
-  price-most (move d g) k = of-either (λ (n : ℕ). n ≤ sharpBound p (blocks s)) (among d (held s)) _ _ (move-most (d .grower) g) (scan-most (d .grower))
+  price-most (delete d) k = either (λ (n : ℕ). n ≤ sharpBound p (blocks s)) (among d (held s)) _ _ (delete-most (d .grower)) (scan-most (d .grower))
+  price-most (move d g) k = either (λ (n : ℕ). n ≤ sharpBound p (blocks s)) (among d (held s)) _ _ (move-most (d .grower) g) (scan-most (d .grower))
 
 -- every call reads a block at random
 pub price-least : (s : Set) (ends : List ℕ) (p : PriceCard) (c : Call) → p .rr ≤ callPrice s ends p c
@@ -140,5 +135,5 @@ unfolding callPrice pointPrice
 price-least s ends p (find g) = omega arith
 price-least s ends p (range lo hi) = omega arith
 price-least s ends p (insert d) = omega arith
-price-least s ends p (delete d) = of-either (λ (n : ℕ). p .rr ≤ n) (among d (held s)) _ _ (omega arith) (omega arith)
-price-least s ends p (move d g) = of-either (λ (n : ℕ). p .rr ≤ n) (among d (held s)) _ _ (omega arith) (omega arith)
+price-least s ends p (delete d) = either (λ (n : ℕ). p .rr ≤ n) (among d (held s)) _ _ (omega arith) (omega arith)
+price-least s ends p (move d g) = either (λ (n : ℕ). p .rr ≤ n) (among d (held s)) _ _ (omega arith) (omega arith)

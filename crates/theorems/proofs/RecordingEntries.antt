@@ -17,22 +17,23 @@ use Rattle.theorems.proofs.RecordingSums.{Below, slot-apart}
 abbrev spreadOver : ℕ → ℕ → List Entry
 spreadOver a b = at rs a ∷ at re b ∷ map (at sc) (upFrom (a + 1) (b - (a + 1)))
 
+-- a property of two things is one of whichever is chosen
+pub either : {A : Type 0} (P : A → Type 0) (t : Bool) (x y : A) → P x → P y → P (cond t x y)
+either P true x y a b = a
+either P false x y a b = b
+
 -- a property of one count, of two of different histograms and of a range's is one of whatever a call raises
 module _ (s : Set) (P : List Entry → Type 0)
     (one : (h : Histogram) (g : ℕ) → P (at h (blockOf s g) ∷ []))
     (two : (h k : Histogram) (f g : ℕ) → position h < position k → P (at h (blockOf s f) ∷ at k (blockOf s g) ∷ []))
     (spread : (lo hi : ℕ) → P (spreadOver (blockOf s lo) (blockOf s hi))) where
-  either : (t : Bool) (x y : List Entry) → P x → P y → P (cond t x y)
-  either true x y a b = a
-  either false x y a b = b
-
   raised : (c : Call) → P (raises s c)
   unfolding raises rangeRaises moveRaises position
   raised (find g) = one pq g
-  raised (range lo hi) = either (eqb (blockOf s lo) (blockOf s hi)) _ _ (one pq lo) (spread lo hi)
+  raised (range lo hi) = either P (eqb (blockOf s lo) (blockOf s hi)) _ _ (one pq lo) (spread lo hi)
   raised (insert d) = one ins (d .grower)
-  raised (delete d) = either (among d (held s)) _ _ (one de (d .grower)) (one pq (d .grower))
-  raised (move d g) = either (among d (held s)) _ _ (either (leb (d .grower) g) _ _ (two udf utf (d .grower) g (omega arith)) (two udb utb (d .grower) g (omega arith))) (one pq (d .grower))
+  raised (delete d) = either P (among d (held s)) _ _ (one de (d .grower)) (one pq (d .grower))
+  raised (move d g) = either P (among d (held s)) _ _ (either P (leb (d .grower) g) _ _ (two udf utf (d .grower) g (omega arith)) (two udb utb (d .grower) g (omega arith))) (one pq (d .grower))
 
 -- Blocks that there are.
 
