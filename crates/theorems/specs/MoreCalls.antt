@@ -65,7 +65,7 @@ module _ (L : ℕ) (p : PriceCard) (l : Limits) (s : Set) where
   abbrev pub leastCost : List Call → ℤ
   leastCost calls = cost calls L p l s (output calls L p l s)
 
-  -- a permitted layout has it, none has less, and the planner answers it, whatever slice it is lent
+  -- a permitted layout has it, none has less, and the planner answers it whenever it accepts
   pub record IsLeastCost (calls : List Call) : Type 0 where
     pub allowed : T (permitted p l s (output calls L p l s))
     pub least : (ends : List ℕ) → T (permitted p l s ends) → leastCost calls ≤ℤ cost calls L p l s ends

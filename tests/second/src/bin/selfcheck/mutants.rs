@@ -323,6 +323,7 @@ fn always_one_partition(
     )
 }
 
+/// One partition, where that is permitted, as soon as a delete is entered.
 fn one_partition_once_deleted(
     c: &PriceCard,
     l: &Limits,
@@ -330,8 +331,9 @@ fn one_partition_once_deleted(
     h: &[u32],
     o: &mut [u32],
 ) -> PlanAnswer {
-    if (0..BLOCK_LIMIT).any(|i| h[count_index(DE, i)] > 0) {
-        return always_one_partition(c, l, s, h, o);
+    let one = always_one_partition(c, l, s, h, o);
+    if one.refusal == 0 && (0..BLOCK_LIMIT).any(|i| h[count_index(DE, i)] > 0) {
+        return one;
     }
     plan_by_table(c, l, s, h, o)
 }
