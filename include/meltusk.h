@@ -22,7 +22,9 @@
  * snapshots of it. To plan again, put the used slots of the three slices in the
  * order of their growers (the sheet has it): they are an unpartitioned set then,
  * with a longer block length if they have become more than 64 blocks. Deliveries
- * also come from and go to weighbridge files. examples/host.c does all this.
+ * also come from and go to weighbridge files. examples/host.c does all this. To
+ * teach on a small set, list every layout that a plan chooses from:
+ * examples/lesson.c.
  *
  * REFUSALS
  *
@@ -54,6 +56,7 @@
  *   17  it has no needed name twice
  *   18  each row has as many fields as the header line, no broken quote, and its
  *       three numbers in range
+ *   23  a set to be listed has at most 12 blocks; put ahead of 11
  *
  * TERMS
  *
@@ -116,6 +119,13 @@
  * MELTUSK_SNAPSHOT_BYTES(M, K) bytes and no other text of the same column: what
  * is read and written again is the same to the byte.
  *
+ * The listing: a line a permitted layout, each layout once, with its count of
+ * partitions K, its cost and its K end blocks; of two layouts the one with the
+ * smaller end at the first difference comes first. Every number is decimal,
+ * right-justified with blanks, without leading zeros, zero as 0: the cost in 20
+ * columns, a minus just before its first digit if it is negative, every other
+ * number in 11. LF ends a line, of 32 + 11 * K bytes then, and no byte 0 the text.
+ *
  * The settlement sheet: a line a grower who has a record, growers rising, with
  * the grower, his records, their kg and their oil; then a line with the records,
  * kg and oil of all, which are the sums of the lines above it. Oil is the sum of
@@ -156,6 +166,9 @@ extern "C" {
 #define MELTUSK_COUNT 1
 #define MELTUSK_LENGTHS 2
 #define MELTUSK_FENCES (MELTUSK_LENGTHS + MELTUSK_PARTITIONS)
+/* Bytes that are enough for a listing of a set of n blocks, n 1 to 12: those of
+ * all its layouts. */
+#define MELTUSK_LISTING_BYTES(n) (((size_t)1 << (n)) * (75 + 11 * (size_t)(n)) / 4)
 /* The bytes of a snapshot of m deliveries in k partitions. */
 #define MELTUSK_SNAPSHOT_BYTES(m, k) (34 + 23 * (size_t)(k) + 34 * (size_t)(m))
 /* The bytes of a sheet of n growers; with n the deliveries they are always enough. */
@@ -227,6 +240,13 @@ typedef struct {
     uint32_t count;
     int64_t cost;
 } meltusk_planned;
+
+/* What listing answers: how many layouts, and the bytes of their lines. */
+typedef struct {
+    uint32_t refusal;
+    uint32_t layouts;
+    uint64_t bytes;
+} meltusk_listed;
 
 /* What writing a snapshot or a sheet and an export answer: how many bytes they wrote. */
 typedef struct {
@@ -435,6 +455,26 @@ meltusk_planned meltusk_plan(uint32_t rr, uint32_t sr, uint32_t rw,
                              const uint32_t *yields, size_t yields_count,
                              const uint32_t *histograms, size_t histograms_count,
                              uint32_t *ends, size_t ends_count);
+
+/*
+ * Writes the listing of a set of at most 12 blocks: every layout that meltusk_plan
+ * chooses from, and no other. Checks 1 2 3 4 5 8 9 23 11 15. Writes 32 + 11 * K
+ * bytes a layout of K partitions to `text`; what lies past them stays.
+ * MELTUSK_LISTING_BYTES of the set's blocks are always enough: 43 for one block,
+ * 211,968 for 12.
+ *
+ * The line of the least cost, of equal costs of the fewest partitions, then of the
+ * smaller end at the first difference, is what meltusk_plan answers. Where there
+ * would be no line both give 11.
+ */
+meltusk_listed meltusk_list_layouts(uint32_t rr, uint32_t sr, uint32_t rw,
+                                    uint32_t read, uint32_t insert,
+                                    uint32_t block, uint32_t used,
+                                    const uint32_t *growers, size_t growers_count,
+                                    const uint32_t *weights, size_t weights_count,
+                                    const uint32_t *yields, size_t yields_count,
+                                    const uint32_t *histograms, size_t histograms_count,
+                                    uint8_t *text, size_t text_count);
 
 /*
  * Adds a call's counts to the three numbers of a tally; those of a refused

@@ -7,6 +7,7 @@ mod columns;
 mod csv;
 mod empty;
 mod growers;
+mod listings;
 mod plans;
 mod race;
 mod sets;
@@ -71,12 +72,20 @@ fn calls() {
     [1, 64].into_iter().for_each(sse2::run);
     println!();
     planner();
+    println!();
+    lessons();
 }
 
 /// The planner, by the count of blocks.
 fn planner() {
     heading("call", "N", "second");
     [8, 16, 32, 64].into_iter().for_each(plans::run);
+}
+
+/// Listings of every layout, by the count of blocks.
+fn lessons() {
+    heading("call", "N", "second");
+    [4, 8, 12].into_iter().for_each(listings::run);
 }
 
 fn main() {
@@ -89,6 +98,7 @@ fn main() {
         ["sheets"] => settlements(),
         ["csv"] => files(),
         ["plans"] => planner(),
+        ["listings"] => lessons(),
         ["calibrate"] => calibrate::survey(),
         ["calibrate", block] => match block.parse() {
             Ok(block @ 1..=BLOCK_LENGTH_LIMIT) => calibrate::run(block),
@@ -97,7 +107,7 @@ fn main() {
         ["weeks"] => weeks::run(),
         ["cards"] => weeks::cards(),
         _ => fail(
-            "bench [calls | growers | empty | sheets | csv | plans | calibrate [BLOCK_LENGTH] | weeks | cards]",
+            "bench [calls | growers | empty | sheets | csv | plans | listings | calibrate [BLOCK_LENGTH] | weeks | cards]",
         ),
     }
 }

@@ -10,25 +10,38 @@ const BLOCK: usize = 16;
 /// Plans of a batch.
 const PLANS: usize = 4;
 
-pub fn run(blocks: usize) {
-    let mut r = Random::new(case_seed(101, blocks as u64));
+/// Limits that permit every layout of a set without equal growers.
+pub const LIMITS: Limits = Limits::new(LIMIT_LIMIT, LIMIT_LIMIT);
+
+/// A set of so many whole blocks without equal growers.
+pub fn set(blocks: usize) -> Set {
     let used = BLOCK * blocks;
-    let set = Set {
+    Set {
         block: BLOCK as u32,
         used: used as u32,
         growers: (0..used as u32).map(|i| 10 * i).collect(),
         weights: vec![100; used],
         yields: vec![2_000; used],
-    };
+    }
+}
+
+/// Histograms drawn anew, one for each call of a batch.
+pub fn histograms(r: &mut Random, batch: usize) -> Vec<Vec<u32>> {
+    (0..batch)
+        .map(|_| (0..HISTOGRAM_LEN).map(|_| r.below(100) as u32).collect())
+        .collect()
+}
+
+pub fn run(blocks: usize) {
+    let mut r = Random::new(case_seed(101, blocks as u64));
+    let set = set(blocks);
     let set = set.view();
     let card = PriceCard::FACTORY;
-    let limits = Limits::new(LIMIT_LIMIT, LIMIT_LIMIT);
+    let limits = LIMITS;
     let mut times = Times::default();
     for _ in 0..REPETITIONS {
         for round in 0..ROUNDS {
-            let all: Vec<Vec<u32>> = (0..PLANS)
-                .map(|_| (0..HISTOGRAM_LEN).map(|_| r.below(100) as u32).collect())
-                .collect();
+            let all = histograms(&mut r, PLANS);
             let mut answers: [Vec<(Planned, [u32; 64])>; 2] = Default::default();
             for side in [round % 2, 1 - round % 2] {
                 let (nanoseconds, given) = timed(PLANS, || {

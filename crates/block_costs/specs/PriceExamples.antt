@@ -2,10 +2,10 @@
 use Prim.Native.Nat.{ℕ}
 use mathlib.Core.Path.{_≡_}
 use mathlib.Core.List.{List, [], _∷_, map, flatten}
-use lib.IntN.{ℤ, pos, negℤ}
+use lib.IntN.{ℤ, pos, negℤ, subℕ}
 use Rattle.model.specs.Lists.{upFrom}
 use Rattle.model.specs.Prices.{factory}
-use Rattle.layout_search.specs.RunningSums.{sumsPerPlace}
+use Rattle.layout_search.specs.RunningSums.{sumsPerPlace, upBy, downBy}
 use Rattle.block_costs.specs.Terms.{runningSum}
 use Rattle.block_costs.specs.Price.{priceBySums, blocksCost}
 
@@ -24,6 +24,9 @@ pub record CostsBothWays (ends : List ℕ) (a e k : ℕ) (z : ℤ) : Type 0 wher
 
 pub record PriceExamples : Type 0 where
   pub running : flatten (map (λ (j : ℕ). map (λ (q : ℕ). runningSum 2 factory counts q j) (upFrom 0 sumsPerPlace)) (upFrom 0 3)) ≡ sums
+  -- the layouts of one partition and of two, end by end
+  pub one-end : subℕ (upBy sums 0 (1 ∷ [])) (downBy sums (1 ∷ [])) ≡ pos 7
+  pub two-ends : subℕ (upBy sums 0 (0 ∷ 1 ∷ [])) (downBy sums (0 ∷ 1 ∷ [])) ≡ pos 9
   -- both blocks in one partition; the first alone, with one behind; the last alone, which is below 0
   pub both : CostsBothWays (1 ∷ []) 0 1 1 (pos 7)
   pub first : CostsBothWays (0 ∷ 1 ∷ []) 0 0 2 (pos 18)

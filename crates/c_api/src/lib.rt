@@ -6,6 +6,7 @@ ghost use Rattle.model.specs.Deliveries.{delivery};
 ghost use Rattle.model.specs.Calls.{find, range, insert, delete, move};
 ghost use Rattle.model.specs.Recorder.{recordCall};
 ghost use Rattle.model.specs.Planner.{costCall, planCall};
+ghost use Rattle.model.specs.ListingCalls.{listCall};
 ghost use Rattle.model.specs.ColumnCalls.{applyCall, columnCall, partitionCall};
 ghost use Rattle.model.specs.Growers.{up, down};
 ghost use Rattle.model.specs.GrowerCalls.{growerCall};
@@ -24,6 +25,7 @@ use model::Delivery;
 use model::GrowerAnswer;
 use model::Imported;
 use model::Limits;
+use model::Listed;
 use model::PartitionSlice;
 use model::Planned;
 use model::PriceCard;
@@ -363,6 +365,41 @@ pub extern "C" fn meltusk_plan(
         yields,
         histograms,
         ends,
+    )
+}
+
+// Every permitted layout of a small set, as text.
+#[no_mangle]
+pub extern "C" fn meltusk_list_layouts(
+    rr: u32,
+    sr: u32,
+    rw: u32,
+    read: u32,
+    insert: u32,
+    block: u32,
+    used: u32,
+    growers: &[u32],
+    weights: &[u32],
+    yields: &[u32],
+    histograms: &[u32],
+    text: &mut [u8],
+) -> Listed
+    ensures { λ r. ⌜ record { answer = r; text = now (text .exit) }
+        ≡ listCall blockLimit (prices rr sr «rw») (limits read insert) (setIn block used growers weights yields)
+        (now (histograms .entry)) (now (text .entry)) ⌝ }
+{
+    let card = PriceCard { rr, sr, rw };
+    let limits = Limits { read, insert };
+    listing::list_layouts(
+        card,
+        limits,
+        block,
+        used,
+        growers,
+        weights,
+        yields,
+        histograms,
+        text,
     )
 }
 

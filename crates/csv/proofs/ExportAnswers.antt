@@ -27,8 +27,9 @@ use Rattle.checks.specs.Values.{allValuesOk}
 use Rattle.checks.proofs.Answers.{fails, passes, none-failed, every-rows}
 use Rattle.fields.specs.Writing.{placed}
 use Rattle.fields.proofs.Placing.{placed-first}
-use Rattle.csv_lines.specs.Writing.{Wrote, rowLines}
-use Rattle.csv_lines.proofs.WritingLaws.{front-room, wrote-room, wrote-joined}
+use Rattle.fields.specs.Writing.{Wrote}
+use Rattle.fields.proofs.WritingLaws.{front-room, wrote-room, wrote-joined}
+use Rattle.csv_lines.specs.Writing.{rowLines}
 
 -- The first m slots of slices that pass 3 and 4.
 

@@ -12,8 +12,9 @@ use Rattle.model.specs.Fields.{lineEnd}
 use Rattle.model.specs.Csv.{comma, carriageReturn}
 use Rattle.model.specs.Weighbridge.{plainNumber, headerLine, rowLine, csvText}
 use Rattle.model.proofs.Deliveries.{rowAt, rows-from}
-use Rattle.csv_lines.specs.Writing.{Wrote, CountIs, digitCount, rowLines}
-use Rattle.csv_lines.proofs.WritingLaws.{Left, left-start, next-room, left-next, left-end}
+use Rattle.fields.specs.Writing.{Wrote}
+use Rattle.fields.proofs.WritingLaws.{Left, left-start, next-room, left-next, left-end}
+use Rattle.csv_lines.specs.Writing.{CountIs, digitCount, rowLines}
 
 -- One line.
 

@@ -1,5 +1,5 @@
--- Bytes written at a cursor, and how many digits there are.
-use Prim.Native.Nat.{ℕ, _+_, _≤_}
+-- How many digits there are, and a line for each delivery.
+use Prim.Native.Nat.{ℕ, _≤_}
 use mathlib.Core.Path.{_≡_}
 use mathlib.Core.Bool.{cond}
 use mathlib.Core.List.{List, map, flatten}
@@ -8,12 +8,6 @@ use lib.Dec.{leb}
 use Rattle.model.specs.declared.Delivery.{Delivery}
 use Rattle.model.specs.Lists.{sumOf}
 use Rattle.model.specs.Weighbridge.{plainNumber, rowLine}
-use Rattle.fields.specs.Writing.{placed}
-
--- bytes written into t at a cursor: the text afterwards, and where it goes on
-pub record Wrote (t : List ℕ) (at : ℕ) (bs text : List ℕ) (next : ℕ) : Type 0 where
-  pub bytes : text ≡ placed at bs t
-  pub on : next ≡ at + length bs
 
 -- a count, and the most that it can be
 pub record CountIs (r count most : ℕ) : Type 0 where

@@ -9,7 +9,8 @@ ghost use Rattle.model.specs.Lent.{Even};
 ghost use Rattle.model.specs.Fields.{lineEnd};
 ghost use Rattle.model.specs.Csv.{carriageReturn};
 ghost use Rattle.model.specs.Weighbridge.{plainNumber, headerLine, rowLine, csvText};
-ghost use Rattle.csv_lines.specs.Writing.{Wrote, CountIs, reached, digitCount, rowLines};
+ghost use Rattle.fields.specs.Writing.{Wrote};
+ghost use Rattle.csv_lines.specs.Writing.{CountIs, reached, digitCount, rowLines};
 
 // The bytes of the header line, and those of a line that are no digits.
 const HEADER: usize = 21;
@@ -63,21 +64,6 @@ pub fn text_length(g: &[u32], w: &[u32], y: &[u32]) -> usize
     ensures { λ r. ⌜ r ≡ length (csvText (rows (now (g .entry)) (now (w .entry)) (now (y .entry)))) ⌝ }
 {
     HEADER + MARKS * g.len() + digits_total(g) + digits_total(w) + digits_total(y)
-}
-
-// Bytes at a cursor.
-fn put_bytes(text: &mut [u8], at: usize, bytes: &[u8]) -> usize
-    requires { ⌜ at + length (now bytes) ≤ length (now text) ⌝ }
-    ensures { λ r. ⌜ Wrote (now (text .entry)) at (now (bytes .entry)) (now (text .exit)) r ⌝ }
-{
-    let mut i = 0;
-    let mut e = at;
-    while i < bytes.len() {
-        text[e] = bytes[i];
-        e += 1;
-        i += 1;
-    }
-    e
 }
 
 // A number's digits at a cursor, from the last one to the left.
@@ -148,5 +134,5 @@ pub fn put_header(text: &mut [u8]) -> usize
     requires { ⌜ 21 ≤ length (now text) ⌝ }
     ensures { λ r. ⌜ Wrote (now (text .entry)) 0 headerLine (now (text .exit)) r ⌝ }
 {
-    put_bytes(text, 0, b"grower,weight,yield\r\n")
+    fields::put_bytes(text, 0, b"grower,weight,yield\r\n")
 }

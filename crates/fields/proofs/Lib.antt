@@ -2,5 +2,6 @@
 pub mod Columns
 pub mod Spelling
 pub mod Placing
+pub mod WritingLaws
 pub mod Putting
 pub mod Signs

@@ -8,7 +8,7 @@ ghost use lib.Dec.{T, ltb, eqb};
 ghost use Rattle.model.specs.Fields.{justified, numberField, signedField};
 ghost use Rattle.model.specs.Sheet.{wideField};
 ghost use Rattle.fields.specs.Reading.{readOf, readAt, fieldOk, valueAt, Blanks};
-ghost use Rattle.fields.specs.Writing.{placed};
+ghost use Rattle.fields.specs.Writing.{placed, Wrote};
 
 // What reading a field finds: its number and where the text goes on, or no number.
 pub enum Field {
@@ -117,6 +117,21 @@ pub fn spelled_at(text: &[u8], at: usize) -> u32
         k += 1;
     }
     v as u32
+}
+
+// Bytes at a cursor: where the text goes on.
+pub fn put_bytes(text: &mut [u8], at: usize, bytes: &[u8]) -> usize
+    requires { ⌜ at + length (now bytes) ≤ length (now text) ⌝ }
+    ensures { λ r. ⌜ Wrote (now (text .entry)) at (now (bytes .entry)) (now (text .exit)) r ⌝ }
+{
+    let mut i = 0;
+    let mut e = at;
+    while i < bytes.len() {
+        text[e] = bytes[i];
+        e += 1;
+        i += 1;
+    }
+    e
 }
 
 // A number right-justified in columns from a cursor, the sign just before its first digit.

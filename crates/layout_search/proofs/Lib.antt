@@ -8,4 +8,5 @@ pub mod MinimumLaws
 pub mod TailLaws
 pub mod LeastLaws
 pub mod NumberLaws
+pub mod EndLaws
 pub mod Bias

@@ -3,7 +3,7 @@
 use Prim.Native.Nat.{ℕ, _+_, _-_, _*_, _^_, _≤_, _<_}
 use mathlib.Core.Path.{_≡_}
 use mathlib.Core.Bool.{Bool, false, cond}
-use mathlib.Core.List.{List}
+use mathlib.Core.List.{List, [], _∷_}
 use lib.Dec.{leb}
 use lib.ListN.{length, getD}
 use Rattle.layout_search.specs.Sums.{span, spans}
@@ -100,6 +100,29 @@ pub record Priced (sums : List ℕ) (a e k r : ℕ) : Type 0 where
   pub is : r + span (λ i b f k. takesOf sums i k) a e k ≡ 2 ^ 60 + span (addsOf sums) a e k
   pub down : span (λ i b f k. takesOf sums i k) a e k ≤ (e + 1 - a) * 2 ^ 43
   pub up : span (addsOf sums) a e k ≤ (e + 1 - a) * 2 ^ 43
+
+-- What the partition of the blocks a to e adds to the cost, whatever comes behind it, and what it takes off: a block has as many partitions from its own
+-- to the last as there are ends from it on, so each end counts once the sums of partitions up to it.
+abbrev pub endUp : List ℕ → ℕ → ℕ → ℕ
+endUp sums a e = span (addsOf sums) a e 0 + sumAt sums perPartitionAdded (e + 1)
+
+abbrev pub endDown : List ℕ → ℕ → ℕ
+endDown sums e = sumAt sums perPartitionSaved (e + 1)
+
+-- those of the partitions that end at the blocks of a list, the first of which begins at block a
+unfoldable pub upBy : List ℕ → ℕ → List ℕ → ℕ
+upBy sums a [] = 0
+upBy sums a (e ∷ es) = endUp sums a e + upBy sums (e + 1) es
+
+unfoldable pub downBy : List ℕ → List ℕ → ℕ
+downBy sums [] = 0
+downBy sums (e ∷ es) = endDown sums e + downBy sums es
+
+-- r is 2 ^ 60 and what the partition of the blocks a to e adds to the cost
+pub record EndPriced (sums : List ℕ) (a e r : ℕ) : Type 0 where
+  pub is : r + endDown sums e ≡ 2 ^ 60 + endUp sums a e
+  pub high : r ≤ 2 ^ 60 + 2 ^ 52
+  pub low : 2 ^ 60 ≤ r + 2 ^ 52
 
 -- the ends lay out n blocks whose sums these are
 pub record Laid (sums ends : List ℕ) : Type 0 where

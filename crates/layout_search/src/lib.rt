@@ -5,7 +5,7 @@ ghost use Prim.Native.Nat.{_+_, _-_, _*_, _^_, _≤_, _<_, min};
 ghost use lib.ListN.{length, getD};
 ghost use lib.IntN.{pos, subℕ};
 ghost use Rattle.layout_search.specs.Task.{searchLimit};
-ghost use Rattle.layout_search.specs.RunningSums.{sumsPerPlace, sumAt, sumOver, Holds, partitionOk, taskOf, LocalPrice, Priced, Laid, Numbered};
+ghost use Rattle.layout_search.specs.RunningSums.{sumsPerPlace, sumAt, sumOver, Holds, partitionOk, taskOf, LocalPrice, Priced, EndPriced, Laid, Numbered};
 ghost use Rattle.layout_search.specs.Table.{Best, Offer, Chose, valOf, Row, Rows, Kept, LocalPrices, LocalRow, Tail, Tails, Small, LeastOf};
 ghost use Rattle.layout_search.specs.Table.{Lowest, Written};
 ghost use Rattle.layout_search.specs.Answer.{answer, Answered};
@@ -36,7 +36,7 @@ const SEARCH_LIMIT: usize = 256;
 // The number for no layout, and that for a cost of 0.
 const NONE: u64 = 0x4000_0000_0000_0000;
 
-const BASE: u64 = 0x1000_0000_0000_0000;
+pub const BASE: u64 = 0x1000_0000_0000_0000;
 
 const SIGNED_BASE: i64 = BASE as i64;
 
@@ -89,6 +89,18 @@ fn price(sums: &[u64], a: usize, e: usize, k: u64) -> u64
 {
     let added = times(sum_over(sums, PER_PARTITION_ADDED, a, e), k);
     let saved = times(sum_over(sums, PER_PARTITION_SAVED, a, e), k);
+    local_price(sums, a, e) + added - saved
+}
+
+// BASE and what the blocks a ..= e as a partition add to a cost, whatever comes behind them: a block has as many partitions from its own to the last as
+// there are ends from it on, so each end counts once the sums of partitions up to it.
+pub fn end_price(sums: &[u64], a: usize, e: usize) -> u64
+    requires { ⌜ Holds (now sums) (e + 1) ⌝ }
+    requires { ⌜ a ≤ e ⌝ }
+    ensures { λ r. ⌜ EndPriced (now (sums .entry)) a e r ⌝ }
+{
+    let added = sum_at(sums, PER_PARTITION_ADDED, e + 1);
+    let saved = sum_at(sums, PER_PARTITION_SAVED, e + 1);
     local_price(sums, a, e) + added - saved
 }
 

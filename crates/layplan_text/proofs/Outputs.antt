@@ -1,19 +1,19 @@
 -- The output, written line by line into an array of zeros. Assumes nothing.
-use Prim.Native.Nat.{ℕ, suc, _+_, _*_, _≤_, _<_}
+use Prim.Native.Nat.{ℕ, _+_, _*_, _≤_, _<_}
 use mathlib.Core.Path.{_≡_, refl, sym, ap, ap₂, _∙_}
 use mathlib.Core.List.{List, [], _∷_, _++_}
 use native.Mathlib.Omega.{arith}
 use native.Mathlib.Numerals.{add-one}
 use lib.ListN.{length, getD, drop, set, replicate, length-append, length-drop, length-set}
 use lib.Seq.{drop-cons, drop-length, append-snoc}
-use lib.IntN.{ℤ, pos, negsuc}
+use lib.IntN.{ℤ}
 use mir.Syntax.{w64}
 use mir.Val.{SFits, toZ, ofZ}
 use Rattle.model.specs.Bounds.{blockLimit}
-use Rattle.model.specs.Fields.{blank, minus, numberField, signedField, line}
+use Rattle.model.specs.Fields.{numberField, signedField, line}
 use Rattle.model.specs.Program.{partitionTexts}
 use Rattle.fields.specs.Writing.{placed}
-use Rattle.model.proofs.FieldLaws.{length-number, length-justified}
+use Rattle.model.proofs.FieldLaws.{length-number, length-signed}
 use Rattle.model.proofs.LineLaws.{length-line}
 use Rattle.fields.proofs.Placing.{length-placed, placed-none, placed-first, placed-one, placed-joined}
 use Rattle.fields.proofs.Signs.{held}
@@ -71,11 +71,6 @@ put-ends-end {t₀} {at} {ends} {t} {i} {e} {first} h w =
     sym (placed-none e t) ∙ ap (λ (l : List ℕ). placed e (partitionTexts first l) t) (sym x) ∙ w .work
 
 -- A plan.
-
-length-signed : (z : ℤ) → length (signedField z) ≡ 20
-unfolding signedField
-length-signed (pos n) = length-justified blank 20 n (omega arith)
-length-signed (negsuc n) = length-justified minus 20 (suc n) (omega arith)
 
 -- a signed number arrives as the number that its bits hold
 pub bill-put : (t₁ t₂ : List ℕ) (z : ℤ) → SFits w64 z → t₂ ≡ placed 11 (signedField (toZ w64 (ofZ w64 z))) t₁ → t₂ ≡ placed 11 (signedField z) t₁

@@ -20,12 +20,14 @@ use Rattle.model.specs.Growers.{nearestFrom, nearest, nearestOf, holdsOn
 use Rattle.model.specs.Fields.{leading, justified, signedField, spelled, readField, line, takeNumbers, afterLineEnd, takeLine, takeLines}
 use Rattle.model.specs.Snapshot.{partitionRows, bookText, headerOk, takeHeader, bookOk, readBook, isBook, slotsForBook}
 use Rattle.model.specs.Sheet.{placedOnce, eachOnce, sheetLines, linesTotals, wideLine, sheetOf, byGrower}
+use Rattle.model.specs.Listing.{fewBlocks, layoutLine, listingText, earlierEnd, earlierFirst}
 use Rattle.model.specs.Csv.{afterEnd, behind, takePlain, takeQuoted, takeField, takeFields, takeRecords}
 use Rattle.model.specs.Weighbridge.{timesNamed, columnNamed, headerNamed, headerOnce, numberIn, rowOf, rowsOf, readRows, rowCount, digits, plainNumber, csvText}
 use Rattle.model.specs.Questions.{recorderChecks, costChecks, plannerChecks, applyChecks, callChecks, columnChecks, growerChecks, partitionChecks}
-use Rattle.model.specs.Questions.{writeChecks, sheetChecks, readChecks, importChecks, exportChecks, ledgerChecks}
+use Rattle.model.specs.Questions.{listingChecks, writeChecks, sheetChecks, readChecks, importChecks, exportChecks, ledgerChecks}
 use Rattle.model.specs.Recorder.{recorderRefusal, recordCall, recordCalls, acceptedCalls}
 use Rattle.model.specs.Planner.{costCall, plannedEnds, plannerRefusal, planCall}
+use Rattle.model.specs.ListingCalls.{listCall}
 use Rattle.model.specs.ColumnCalls.{moveSlices, applyCall, laidColumn, callTotals, columnAfter, columnRefusal, refusedCounts, columnCall, columnCalls, reportAlone, partitionCall}
 use Rattle.model.specs.GrowerCalls.{growerCall, ledgerGrower}
 use Rattle.model.specs.SnapshotCalls.{readCall, columnRead, writeCall}
@@ -49,5 +51,6 @@ unfolding flatten sumOf ceilDiv upFrom every keep rising neverFalls sameList fir
     readWeek recordUntilRefused partitionTexts planText weekText layplan bytesOf afterEnd behind takePlain takeQuoted takeField takeFields takeRecords timesNamed
     columnNamed headerNamed headerOnce numberIn rowOf rowsOf readRows rowCount digits plainNumber csvText importChecks exportChecks importCall exportCall
     nearestFrom nearest nearestOf holdsOne downFrom path upToFirst countsScanned scannedFor scannedForOk growerChecks growerCall ledgerGrower
-    placedOnce eachOnce sheetLines linesTotals wideLine sheetOf byGrower sheetChecks sheetCall settlement
+    placedOnce eachOnce sheetLines linesTotals wideLine sheetOf byGrower sheetChecks sheetCall settlement fewBlocks layoutLine listingText earlierEnd
+    earlierFirst listingChecks listCall
 computed = tt

@@ -8,9 +8,10 @@ use native.Mathlib.Omega.{arith}
 use native.Mathlib.Nat.{pow-suc}
 use lib.Dec.{T, leb, eqb, le→leb, leb→le, eqb→eq, eqb-refl}
 use lib.ListN.{length, replicate, length-append, length-replicate}
+use lib.IntN.{ℤ, pos, negsuc}
 use Rattle.model.specs.Bounds.{mostNumber}
 use Rattle.model.specs.Lists.{sameList, onlyIf}
-use Rattle.model.specs.Fields.{blank, lastDigit, leading, justified, numberField, spelled, readField}
+use Rattle.model.specs.Fields.{blank, minus, lastDigit, leading, justified, numberField, signedField, spelled, readField}
 use Rattle.model.proofs.Tests.{and-fst, and-snd, is-true}
 
 -- Lists that are the same.
@@ -20,7 +21,7 @@ unfolding sameList
 same-self [] = refl
 same-self (a ∷ l) = rw (is-true (eqb a a) (eqb-refl a)) (same-self l)
 
-same-eq : (a b : List ℕ) → T (sameList a b) → a ≡ b
+pub same-eq : (a b : List ℕ) → T (sameList a b) → a ≡ b
 unfolding sameList
 same-eq [] [] t = refl
 same-eq [] (b ∷ bs) t = absurd t
@@ -44,6 +45,11 @@ length-justified sign w n h = omega (arith, length-append (leading sign (w - 1) 
 
 pub length-number : (n : ℕ) → length (numberField n) ≡ 11
 length-number n = length-justified blank 11 n (omega arith)
+
+pub length-signed : (z : ℤ) → length (signedField z) ≡ 20
+unfolding signedField
+length-signed (pos n) = length-justified blank 20 n (omega arith)
+length-signed (negsuc n) = length-justified minus 20 (suc n) (omega arith)
 
 -- What a field spells.
 

@@ -1,6 +1,6 @@
 -- The nearest grower: he is the first at or past g; records further on do not change him, nor does their order. Assumes nothing.
 use Prim.Native.Nat.{ℕ, _+_, _<_, min, max}
-use mathlib.Core.Path.{_≡_, refl, sym, ap, _∙_, subst}
+use mathlib.Core.Path.{_≡_, refl, sym, ap, ap₂, _∙_, subst}
 use mathlib.Core.Logic.{_⊎_, inl, inr}
 use mathlib.Core.Bool.{Bool, true, false, cond}
 use mathlib.Core.List.{List, [], _∷_, _++_, append-nil, append-assoc, map, flatten, List·Memᴰ, List·Memᴰ·head, List·Memᴰ·tail, List·Memᴰ·cases-cons, List·Memᴰ·not-nil}
@@ -96,6 +96,11 @@ module _ {A : Type 0} (P : A → Type 0) where
   none-kept f k [] h = refl
   none-kept f k (x ∷ l) h = rw (k x (h .0)) (none-kept f k l (h .1))
 
+  pub all-members : (l : List A) → ((x : A) → List·Memᴰ x l → P x) → All P l
+  unfolding All
+  all-members [] h = tt
+  all-members (x ∷ l) h = (h x (List·Memᴰ·head refl), all-members l (λ y m. h y (List·Memᴰ·tail m)))
+
   all-member : (l : List A) → All P l → (x : A) → List·Memᴰ x l → P x
   unfolding All
   all-member [] h x m = absurd (List·Memᴰ·not-nil m)
@@ -104,6 +109,17 @@ module _ {A : Type 0} (P : A → Type 0) where
       go : (List·Memᴰ x l → P x) → (x ≡ y) ⊎ List·Memᴰ x l → P x
       go ih (inl e) = subst P (sym e) (h .0)
       go ih (inr k) = ih k
+
+-- functions that agree on a list
+pub map-agree : {A B : Type 0} (f g : A → B) (l : List A) → All (λ (x : A). f x ≡ g x) l → map f l ≡ map g l
+unfolding All
+map-agree f g [] h = refl
+map-agree {B = B} f g (x ∷ l) h = ap₂ (λ (y : B) (r : List B). y ∷ r) (h .0) (map-agree f g l (h .1))
+
+pub keep-agree : {A : Type 0} (p q : A → Bool) (l : List A) → All (λ (x : A). p x ≡ q x) l → keep p l ≡ keep q l
+unfolding All keep
+keep-agree p q [] h = refl
+keep-agree {A} p q (x ∷ l) h = ap₂ (λ (t : Bool) (r : List A). cond t (x ∷ r) r) (h .0) (keep-agree p q l (h .1))
 
 -- all are kept
 pub keep-whole : {A : Type 0} (f : A → Bool) (l : List A) → All (λ (x : A). f x ≡ true) l → keep f l ≡ l

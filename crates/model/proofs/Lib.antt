@@ -35,6 +35,7 @@ pub mod GrowerLaws
 pub mod GrowerCounts
 pub mod OnceLaws
 pub mod SheetLaws
+pub mod ListingLaws
 pub mod Laws
 pub mod Computing
 pub mod Marked
@@ -42,3 +43,4 @@ pub mod BooksComputed
 pub mod CsvComputed
 pub mod GrowersComputed
 pub mod SheetsComputed
+pub mod ListingComputed

@@ -1,11 +1,11 @@
 -- Tests and lists of checks: what a Bool that came out true or false says. Assumes nothing.
 use Prim.Native.Nat.{ℕ, suc, _<_}
-use mathlib.Core.Path.{_≡_, refl, sym, subst}
+use mathlib.Core.Path.{_≡_, refl, sym, _∙_, subst}
 use mathlib.Core.Logic.{_≢_}
-use mathlib.Core.Bool.{Bool, true, false, not, _&&_, _||_}
+use mathlib.Core.Bool.{Bool, true, false, not, cond, _&&_, _||_}
 use mathlib.Core.List.{List, [], _∷_}
 use native.Mathlib.Omega.{arith}
-use lib.Dec.{T, leb, eqb, nleb→lt, eqb-refl}
+use lib.Dec.{T, leb, eqb, nleb→lt, eqb→eq, eqb-refl}
 use Rattle.model.specs.Checks.{Check, ask, firstFailed}
 
 pub and-fst : (a b : Bool) → T (a && b) → T a
@@ -77,3 +77,11 @@ or-snd false b h = h
 -- a test cannot come out both ways
 pub no-such : {b : Bool} → T b → b ≡ false → ⊥
 no-such t e = subst T e t
+
+-- an answer of a call holds the number of the first check that failed
+pub refusal-kept : {A : Type 0} (f : A → ℕ) (n : ℕ) (a b : A) → f a ≡ 0 → f b ≡ n → f (cond (eqb n 0) a b) ≡ n
+refusal-kept f n a b e g = go (eqb n 0) refl
+  where
+    go : (t : Bool) → eqb n 0 ≡ t → f (cond t a b) ≡ n
+    go true q = e ∙ sym (eqb→eq n 0 (of-true _ q))
+    go false q = g

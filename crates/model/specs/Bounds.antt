@@ -50,3 +50,7 @@ mostCalls = 1000
 -- the program of the settlement sheet (02: Slip 4): "with 512 slots"
 abbrev pub sheetSlots : ℕ
 sheetSlots = 512
+
+-- the listing of every layout (02: Slip 13): "for at most 12 blocks"
+abbrev pub mostListedBlocks : ℕ
+mostListedBlocks = 12

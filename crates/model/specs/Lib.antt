@@ -21,11 +21,13 @@ pub mod Growers
 pub mod Fields
 pub mod Snapshot
 pub mod Sheet
+pub mod Listing
 pub mod Csv
 pub mod Weighbridge
 pub mod Questions
 pub mod Recorder
 pub mod Planner
+pub mod ListingCalls
 pub mod ColumnCalls
 pub mod Ledger
 pub mod GrowerCalls
@@ -40,4 +42,5 @@ pub mod Examples
 pub mod GrowerExamples
 pub mod SnapshotExamples
 pub mod SheetExamples
+pub mod ListingExamples
 pub mod CsvExamples

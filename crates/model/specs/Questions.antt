@@ -21,6 +21,7 @@ use Rattle.model.specs.Column.{Column, lengthsOf, allRecords, sound, sca
 use Rattle.model.specs.Growers.{Direction, scannedForOk}
 use Rattle.model.specs.Snapshot.{snapshotText, slotsForBook, isBook}
 use Rattle.model.specs.Sheet.{sheetText}
+use Rattle.model.specs.Listing.{fewBlocks, listingText}
 use Rattle.model.specs.Weighbridge.{headerNamed, headerOnce, readRows, rowCount, csvText}
 
 -- L is the block limit
@@ -46,6 +47,18 @@ module _ (L : ℕ) where
       ∷ ask 9 (countsOk L hs)
       ∷ ask 11 (not (eqb (length (permittedLayouts p l s)) 0))
       ∷ ask 15 (leb needed room)
+      ∷ []
+
+  -- every layout of a small set (02: Slip 13): 1 2 3 4 5 8 9 23 11 15, "(23: more than 12 blocks; placed just before 11)"
+  unfoldable pub listingChecks : PriceCard → Limits → Set → List ℕ → ℕ → List Check
+  listingChecks p l s hs room =
+      ask 1 (pricesOk p && limitsOk l)
+      ∷ setChecks s
+      ++ ask 8 (valuesOk s)
+      ∷ ask 9 (countsOk L hs)
+      ∷ ask 23 (fewBlocks s)
+      ∷ ask 11 (not (eqb (length (permittedLayouts p l s)) 0))
+      ∷ ask 15 (leb (length (listingText L p l s hs)) room)
       ∷ []
 
   -- applying a layout (01: laying): 2 3 4 5 6 8

@@ -26,6 +26,8 @@ pub const MOST_PRICE: u32 = 1000;
 pub const MOST_LIMIT: u32 = 1000000;
 
 pub const MOST_TALLY: u64 = 1000000000000;
+// The most blocks of a set whose layouts are listed (02: 12).
+pub const MOST_LISTED_BLOCKS: usize = 12;
 // The greatest grower number (01: 32 bits).
 pub const MOST_NUMBER: u32 = 4294967295;
 // How many records a loop over slices takes at a time.
@@ -226,6 +228,14 @@ pub struct Planned {
     pub refusal: u32,
     pub count: u32,
     pub cost: i64,
+}
+
+// What listing every permitted layout answers beside the text: how many there are, and the bytes of their lines.
+#[repr(C)]
+pub struct Listed {
+    pub refusal: u32,
+    pub layouts: u32,
+    pub bytes: u64,
 }
 
 // What importing a weighbridge file answers beside the slices: how many rows it stored.

@@ -29,9 +29,9 @@ use Rattle.layout_search.specs.RunningSums.{sumsPerPlace, taskOf, Numbered}
 use Rattle.layout_search.specs.Answer.{answer, Answered, nothing, tight, found}
 use Rattle.block_costs.specs.Terms.{Summed}
 use Rattle.block_costs.proofs.LayoutCost.{cut-covers, layout-cost}
-use Rattle.planner.specs.Given.{givenChecks, Marked}
-use Rattle.planner.proofs.Given.{plan-failed, plan-passed}
-use Rattle.planner.proofs.Permitted.{Ready, task, permitted-allowed, allowed-permitted, cost-by-sums, least-cheapest, cheapest-least}
+use Rattle.permitted.specs.Given.{givenChecks, Marked}
+use Rattle.permitted.proofs.Given.{plan-failed, plan-passed}
+use Rattle.permitted.proofs.Permitted.{flagged, Ready, task, permitted-allowed, allowed-permitted, cost-by-sums, least-cheapest, cheapest-least}
 
 -- is any layout permitted?
 module _ (p : PriceCard) (l : Limits) (s : Set) where
@@ -88,10 +88,10 @@ module _ (L : ℕ) (p : PriceCard) (l : Limits) (s : Set) (hs out : List ℕ) wh
       -- room for fewer ends than the cheapest has
       too-tight : (o : Option (List ℕ)) → cheapest L p l s hs ≡ o → (es : List ℕ) → T (permitted p l s es)
           → ((ds : List ℕ) → Least (task l w) (mostPartitions p l) ds → length out < length ds) → plannerRefusal L p l s hs (length out) ≡ 15
-      too-tight none e es t f = absurd (none-permitted p l s L hs (w .some) e es t)
+      too-tight none e es t f = absurd (none-permitted p l s L hs (w .flagged .some) e es t)
       too-tight (some ds) e es t f =
-          let g = f ds (cheapest-least l w ds (cheapest-chosen p l s L hs ds (w .some) e)) in
-          refusal-is 15 (rw (any-so p l s es t (w .some), ends-planned ds e, lt-leb (length ds) (length out) g) refl)
+          let g = f ds (cheapest-least l w ds (cheapest-chosen p l s L hs ds (w .flagged .some) e)) in
+          refusal-is 15 (rw (any-so p l s es t (w .flagged .some), ends-planned ds e, lt-leb (length ds) (length out) g) refl)
 
       answered-task : (new : List ℕ) (r : Planned) → Answered (task l w) (mostPartitions p l) out new r → goal r new
       answered-task new r (nothing f e q) =
@@ -102,11 +102,11 @@ module _ (L : ℕ) (p : PriceCard) (l : Limits) (s : Set) (hs out : List ℕ) wh
           (plan-refused 15 (too-tight (cheapest L p l s hs) refl es (allowed-permitted l w es a) f) (λ z. omega arith)))
       answered-task new r (found es h room e q) =
           let c = least-cheapest l w es h in
-          let f = ends-planned es (chosen-cheapest p l s L hs es (w .some) c) in
+          let f = ends-planned es (chosen-cheapest p l s L hs es (w .flagged .some) c) in
           let z = cost-by-sums l w es (h .allowed .0) in
           subst (λ (v : List ℕ). goal r v) (sym q) (subst (λ (v : Planned). goal v (es ++ drop (length es) out)) (sym e)
           (subst (λ (v : ℤ). goal (answer 0 (length es) v) (es ++ drop (length es) out)) z
-          (plan-accepted es (refusal-is 0 (rw (any-so p l s es (c .allowed) (w .some), f, le-leb (length es) (length out) room) refl)) f)))
+          (plan-accepted es (refusal-is 0 (rw (any-so p l s es (c .allowed) (w .flagged .some), f, le-leb (length es) (length out) room) refl)) f)))
 
     -- the search's answer, where n, longest and most are what they must be
     pub answered-plan : (n longest most : ℕ) (sums : List ℕ) (were fits : List Bool) (new : List ℕ) (r : Planned)
@@ -114,7 +114,7 @@ module _ (L : ℕ) (p : PriceCard) (l : Limits) (s : Set) (hs out : List ℕ) wh
         → Summed L p hs ((n + 1) * sumsPerPlace) sums → Marked (s .block) (s .used) (s .growers) n were fits → Answered (taskOf sums fits longest n) most out new r
         → _≡_ {A = PlanResult} (record { answer = r; ends = new }) (planCall L p l s hs out)
     answered-plan n longest most sums were fits new r a b c few added marks h =
-        let w : Ready L p s hs sums fits = record { summed = rw a at added; marks = λ i g. marks .here i (omega arith); some = few } in
+        let w : Ready L p s hs sums fits = record { summed = rw a at added; flagged = flagged s n were fits a few marks } in
         answered-task w new r (rw (a, b, c) at h)
 
 -- the cost of a layout

@@ -1,4 +1,2 @@
 -- The laws of the planner.
-pub mod Given
-pub mod Permitted
 pub mod Answers

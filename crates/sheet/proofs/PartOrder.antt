@@ -1,28 +1,15 @@
 -- The first m slots in order: they are the same by all growers as by the first m. Assumes nothing.
 use Prim.Native.Nat.{ℕ, zero, suc, _+_, _≤_, _<_}
-use mathlib.Core.Path.{_≡_, refl, ap, ap₂}
-use mathlib.Core.Bool.{Bool, cond}
+use mathlib.Core.Path.{_≡_, ap, ap₂}
 use mathlib.Core.List.{List, [], _∷_, map, flatten}
 use native.Mathlib.Omega.{arith}
 use lib.Dec.{eqb}
 use lib.ListN.{getD, take}
 use lib.Seq.{getD-take}
-use Rattle.model.specs.Lists.{upFrom, keep}
+use Rattle.model.specs.Lists.{upFrom}
 use Rattle.model.specs.Sheet.{eachOnce, slotsOf, byGrower, slotsInOrder}
 use Rattle.model.proofs.MovesKeep.{All}
-use Rattle.model.proofs.GrowerLaws.{all-imply}
-
--- Functions that agree on a list.
-
-map-agree : {A B : Type 0} (f g : A → B) (l : List A) → All (λ (x : A). f x ≡ g x) l → map f l ≡ map g l
-unfolding All
-map-agree f g [] h = refl
-map-agree {B = B} f g (x ∷ l) h = ap₂ (λ (y : B) (r : List B). y ∷ r) (h .0) (map-agree f g l (h .1))
-
-keep-agree : {A : Type 0} (p q : A → Bool) (l : List A) → All (λ (x : A). p x ≡ q x) l → keep p l ≡ keep q l
-unfolding All keep
-keep-agree p q [] h = refl
-keep-agree {A} p q (x ∷ l) h = ap₂ (λ (t : Bool) (r : List A). cond t (x ∷ r) r) (h .0) (keep-agree p q l (h .1))
+use Rattle.model.proofs.GrowerLaws.{all-imply, map-agree, keep-agree}
 
 all-below : (m a n : ℕ) → a + n ≤ m → All (λ (i : ℕ). i < m) (upFrom a n)
 unfolding All upFrom

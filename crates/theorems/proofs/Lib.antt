@@ -34,6 +34,8 @@ pub mod LimitsExample
 pub mod CallBounds
 pub mod MoreCalls
 pub mod MoreCallsExample
+-- The listing of every permitted layout.
+pub mod Listing
 -- The snapshot's round trips.
 pub mod Snapshot
 -- The weighbridge file's round trip.

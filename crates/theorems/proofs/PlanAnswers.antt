@@ -25,11 +25,11 @@ use Rattle.model.specs.Plan.{comesBefore, permittedLayouts, cheapest}
 use Rattle.model.specs.Questions.{costChecks, plannerChecks}
 use Rattle.model.specs.Planner.{PlanResult, costCall, plannedEnds, plannerRefusal, planCall}
 use Rattle.model.specs.Laws.{IsCheapest}
-use Rattle.model.proofs.Tests.{and-fst, is-true, of-true, first-passed, nothing-failed}
+use Rattle.model.proofs.Tests.{and-fst, is-true, first-passed, nothing-failed, refusal-kept}
 use Rattle.model.proofs.Integers.{is-exists, le-is}
 use Rattle.model.proofs.Order.{comesBefore-elim}
 use Rattle.model.proofs.SetLaws.{good, n-least}
-use Rattle.model.proofs.PlanLaws.{permitted-ok, permitted-listed, listed-permitted, cheapest-chosen, none-permitted}
+use Rattle.model.proofs.PlanLaws.{permitted-ok, permitted-listed, listed-permitted, cheapest-chosen, chosen-cheapest, none-permitted}
 use Rattle.theorems.specs.Plan.{Admitted, layoutOf}
 use Rattle.theorems.proofs.PlanChecks.{prices-pass, set-passes}
 
@@ -48,21 +48,21 @@ any-listed : (xs : List (List ℕ)) → T (not (eqb (length xs) 0)) → (x : Lis
 any-listed [] t = absurd t
 any-listed (x ∷ xs) t = (x, List·Memᴰ·head refl)
 
-listed-any : (x : List ℕ) (xs : List (List ℕ)) → List·Memᴰ x xs → T (not (eqb (length xs) 0))
+pub listed-any : (x : List ℕ) (xs : List (List ℕ)) → List·Memᴰ x xs → T (not (eqb (length xs) 0))
 listed-any x [] m = absurd (List·Memᴰ·not-nil m)
 listed-any x (y ∷ xs) m = not-T (eqb (suc (length xs)) 0) (λ t. let e = eqb→eq (suc (length xs)) 0 t in omega arith)
 
 -- 11 and 15, and which of them is answered
-abbrev lastTwo : Bool → Bool → ℕ
+abbrev pub lastTwo : Bool → Bool → ℕ
 lastTwo b c = cond b (cond c 0 15) 11
 
-last-two : (b c : Bool) → firstFailed (ask 11 b ∷ ask 15 c ∷ []) ≡ lastTwo b c
+pub last-two : (b c : Bool) → firstFailed (ask 11 b ∷ ask 15 c ∷ []) ≡ lastTwo b c
 unfolding firstFailed
 last-two true true = refl
 last-two true false = refl
 last-two false c = refl
 
-not-eleven : (b c : Bool) → T b → lastTwo b c ≡ 11 → ⊥
+pub not-eleven : (b c : Bool) → T b → lastTwo b c ≡ 11 → ⊥
 not-eleven true true t e = omega arith
 not-eleven true false t e = omega arith
 not-eleven false c t e = t
@@ -85,16 +85,8 @@ zero-passed : (b c : Bool) → lastTwo b c ≡ 0 → T b
 zero-passed true c e = tt
 zero-passed false c e = absurd (omega arith)
 
--- a planner's answer holds its refusal number
-refusal-kept : (n : ℕ) (a b : PlanResult) → a .answer .refusal ≡ 0 → b .answer .refusal ≡ n → cond (eqb n 0) a b .answer .refusal ≡ n
-refusal-kept n a b e f = go (eqb n 0) refl
-  where
-    go : (t : Bool) → eqb n 0 ≡ t → cond t a b .answer .refusal ≡ n
-    go true q = e ∙ sym (eqb→eq n 0 (of-true _ q))
-    go false q = f
-
 module _ (L : ℕ) (p : PriceCard) (l : Limits) (s : Set) (h : Admitted L p l s) (hs : List ℕ) (c : T (countsOk L hs)) where
-  some-blocks : 1 ≤ blocks s
+  pub some-blocks : 1 ≤ blocks s
   some-blocks = n-least L s (good L s (prices-pass L p l s h .1))
 
   -- is any layout permitted?
@@ -143,9 +135,9 @@ module _ (L : ℕ) (p : PriceCard) (l : Limits) (s : Set) (h : Admitted L p l s)
       let q = prices-pass L p l s h in
       first-passed 1 _ _ (q .0) ∙ set-passes L s (q .1) .0 _ ∙ first-passed 8 _ _ (set-passes L s (q .1) .1) ∙ first-passed 9 _ _ c ∙ last-two any (fits out)
 
-  refusal-planned : (out : List ℕ) → planCall L p l s hs out .answer .refusal ≡ lastTwo any (fits out)
+  pub refusal-planned : (out : List ℕ) → planCall L p l s hs out .answer .refusal ≡ lastTwo any (fits out)
   unfolding planCall
-  refusal-planned out = refusal-kept (plannerRefusal L p l s hs (length out)) _ _ refl refl ∙ refusal-is out
+  refusal-planned out = refusal-kept (λ (r : PlanResult). r .answer .refusal) (plannerRefusal L p l s hs (length out)) _ _ refl refl ∙ refusal-is out
 
   pub eleven-exactly : (out : List ℕ) → planCall L p l s hs out .answer .refusal ≡ 11 ↔ ((x : List ℕ) → T (permitted p l s x) → ⊥)
   eleven-exactly out = (
@@ -192,6 +184,9 @@ module _ (L : ℕ) (p : PriceCard) (l : Limits) (s : Set) (h : Admitted L p l s)
 
     pub layout-billed : r .answer .cost ≡ costOf L p (blocks s) (layoutOf r) hs
     layout-billed = rw layout-is (ap (λ (v : PlanResult). v .answer .cost) result-is)
+
+    pub layout-chosen : cheapest L p l s hs ≡ some (layoutOf r)
+    layout-chosen = rw layout-is (chosen-cheapest p l s L hs ends some-blocks (ends-cheapest any-there))
 
     pub layout-least : (x : List ℕ) → T (permitted p l s x) → costOf L p (blocks s) (layoutOf r) hs ≤ℤ costOf L p (blocks s) x hs
     layout-least x t = rw layout-is (before-costs (λ (y : List ℕ). costOf L p (blocks s) y hs) ends x (ends-cheapest any-there .first x t))

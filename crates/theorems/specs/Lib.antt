@@ -8,5 +8,6 @@ pub mod Limits
 pub mod LimitsExample
 pub mod MoreCalls
 pub mod MoreCallsExample
+pub mod Listing
 pub mod Snapshot
 pub mod Weighbridge

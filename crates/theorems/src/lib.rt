@@ -5,6 +5,7 @@ ghost use Rattle.theorems.specs.Sheet.{SheetAgrees, SheetAfterCalls};
 ghost use Rattle.theorems.specs.Plan.{Demand3, NoneEmptyWhenLaid};
 ghost use Rattle.theorems.specs.Limits.{LimitsKept, OwnLimitsKept};
 ghost use Rattle.theorems.specs.MoreCalls.{EachCostBounded, LeastCostPlanned, LeastCostBounded, OldPlanBounded};
+ghost use Rattle.theorems.specs.Listing.{EveryPermittedListed};
 ghost use Rattle.theorems.specs.Snapshot.{WrittenIsRead, ReadIsWritten};
 ghost use Rattle.theorems.specs.Weighbridge.{ImportRestores};
 
@@ -31,6 +32,11 @@ pub fn limits_kept()
 // Does nothing: what more calls can add to each permitted layout's bill and to the least bill, likewise.
 pub fn more_calls_bounded()
     ensures { λ _. ⌜ EachCostBounded × LeastCostPlanned × LeastCostBounded × OldPlanBounded ⌝ }
+{}
+
+// Does nothing: that every permitted layout is listed and the planner's answer is the cheapest of the list, likewise.
+pub fn every_permitted_listed()
+    ensures { λ _. ⌜ EveryPermittedListed ⌝ }
 {}
 
 // Does nothing: that the next and the previous grower are the ledger's, likewise.

@@ -7,7 +7,7 @@ use meltusk::EDGES;
 const HEADER: &str = include_str!("../../../include/meltusk.h");
 
 /// Fewer calls found mean that the header is read wrongly.
-const CALLS: usize = 22;
+const CALLS: usize = 23;
 
 /// The header without its comments.
 fn declarations() -> String {

@@ -357,36 +357,46 @@ fn files(run: &mut Run) -> Result<(), String> {
     }
 }
 
-/// Each call of recorder, cost and planner: its refusal and its cost, if any.
+/// The listing of one record 0, 0, 0 of which nothing is recorded.
+const LISTING: &[u8] = b"          1                   0          0
+";
+
+/// Each call of recorder, cost, planner and listing: its refusal and its cost, if
+/// any.
 fn planned(
     set: &UnlaidSet,
     histograms: &mut [u32],
     ends: &[u32],
     room: &mut [u32],
-) -> [(u32, i64); 7] {
+    text: &mut [u8],
+) -> [(u32, i64); 8] {
     let card = PriceCard::FACTORY;
     let limits = Limits::new(100, 100);
     let cost = LIBRARY.cost(&card, set, ends, histograms);
     let plan = LIBRARY.plan(&card, &limits, set, histograms, room);
+    let list = LIBRARY.list_layouts(&card, &limits, set, histograms, text);
     let [find, range, insert, delete, moved] =
         five().map(|call| (LIBRARY.record(histograms, set, &call), 0));
     let (cost, plan) = ((cost.refusal, cost.cost), (plan.refusal, plan.cost));
-    [find, range, insert, delete, moved, cost, plan]
+    let list = (list.refusal, 0);
+    [find, range, insert, delete, moved, cost, plan, list]
 }
 
 /// Long slots are refused by 3 and long histograms by 9; long ends are no
-/// layout, and a long room is enough.
+/// layout, and a long room and a long text are enough.
 fn plans(run: &mut Run) -> Result<(), String> {
-    let (Some(mut slots), Some(mut counts), Some(mut ends), Some(mut room)) = (
+    let (Some(mut slots), Some(mut counts), Some(mut ends), Some(mut room), Some(mut text)) = (
         reserve(run, 1),
         reserve(run, HISTOGRAM_LEN),
         reserve(run, 1),
+        reserve(run, 0),
         reserve(run, 0),
     ) else {
         return Ok(());
     };
     let one: &[u32] = &[0];
     let short = || [0; HISTOGRAM_LEN];
+    let mut line = [0; LISTING.len()];
     let long: &[u32] = slots.slice();
     let ends: &[u32] = match valgrind::runs() {
         true => {
@@ -398,25 +408,32 @@ fn plans(run: &mut Run) -> Result<(), String> {
     let of_slots = [[long, one, one], [one, long, one], [one, one, long]];
     let of_slots = of_slots.map(|[growers, weights, yields]| {
         let set = one_slot(growers, weights, yields);
-        (planned(&set, &mut short(), &[0], &mut [7]), [3; 7])
+        let given = planned(&set, &mut short(), &[0], &mut [7], &mut line);
+        (given, [3; 8])
     });
     let proper = one_slot(one, one, one);
     // The answers, each with the refusals that they have to have.
     let mut answers = of_slots.to_vec();
     answers.extend([
-        (planned(&proper, counts.slice(), &[0], &mut [7]), [9; 7]),
         (
-            planned(&proper, &mut short(), ends, room.slice()),
-            [0, 0, 0, 0, 0, 6, 0],
+            planned(&proper, counts.slice(), &[0], &mut [7], &mut line),
+            [9; 8],
+        ),
+        (
+            planned(&proper, &mut short(), ends, room.slice(), text.bytes()),
+            [0, 0, 0, 0, 0, 6, 0, 0],
         ),
     ]);
-    run.seen.calls += 7 * answers.len() as u64;
+    run.seen.calls += 8 * answers.len() as u64;
     for (i, (given, expected)) in answers.iter().enumerate() {
         if *given != expected.map(|refusal| (refusal, 0)) {
             return Err(format!("case {i}: {given:?} for {expected:?}"));
         }
     }
-    Ok(())
+    match &text.bytes()[..LISTING.len()] == LISTING {
+        true => Ok(()),
+        false => Err("another listing".into()),
+    }
 }
 
 pub const TESTS: &[(&str, Test)] = &[

@@ -2,8 +2,8 @@
 //! same types.
 
 use second::{
-    CostAnswer, DirectoryAnswer, GrowerAnswer, ImportAnswer, PlanAnswer, ReadAnswer, SpanAnswer,
-    TextAnswer, WriteAnswer,
+    CostAnswer, DirectoryAnswer, GrowerAnswer, ImportAnswer, ListAnswer, PlanAnswer, ReadAnswer,
+    SpanAnswer, TextAnswer, WriteAnswer,
 };
 
 /// MELTUSK_DIRECTORY
@@ -70,6 +70,14 @@ pub struct Planned {
     pub refusal: u32,
     pub count: u32,
     pub cost: i64,
+}
+
+#[repr(C)]
+#[derive(Clone, Copy, Debug, PartialEq, Eq)]
+pub struct Listed {
+    pub refusal: u32,
+    pub layouts: u32,
+    pub bytes: u64,
 }
 
 #[repr(C)]
@@ -174,6 +182,16 @@ impl From<PlanAnswer> for Planned {
             refusal: a.refusal,
             count: a.count as u32,
             cost: a.bill,
+        }
+    }
+}
+
+impl From<ListAnswer> for Listed {
+    fn from(a: ListAnswer) -> Listed {
+        Listed {
+            refusal: a.refusal,
+            layouts: a.layouts as u32,
+            bytes: a.written as u64,
         }
     }
 }

@@ -1,7 +1,7 @@
 //! The declarations of include/meltusk.h.
 
 use crate::answers::{
-    Answer, Applied, Costed, Imported, PartitionSlice, Planned, Stepped, Written,
+    Answer, Applied, Costed, Imported, Listed, PartitionSlice, Planned, Stepped, Written,
 };
 
 /// Declares C calls. A parameter `&name: T` is a slice that the call reads and
@@ -84,6 +84,10 @@ declare! {
         rr: u32, sr: u32, rw: u32, read: u32, insert: u32, block: u32, used: u32, &growers: u32,
         &weights: u32, &yields: u32, &histograms: u32, mut ends: u32
     ) -> Planned;
+    meltusk_list_layouts(
+        rr: u32, sr: u32, rw: u32, read: u32, insert: u32, block: u32, used: u32, &growers: u32,
+        &weights: u32, &yields: u32, &histograms: u32, mut text: u8
+    ) -> Listed;
     meltusk_tally_add(
         rr: *mut u64, sr: *mut u64, rw: *mut u64, more_rr: u64, more_sr: u64, more_rw: u64
     ) -> u32;

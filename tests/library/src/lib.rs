@@ -11,8 +11,8 @@ mod seen;
 mod set;
 
 pub use answers::{
-    Answer, Applied, Costed, Counts, Imported, PartitionSlice, Planned, Stepped, Totals, Written,
-    DIRECTORY,
+    Answer, Applied, Costed, Counts, Imported, Listed, PartitionSlice, Planned, Stepped, Totals,
+    Written, DIRECTORY,
 };
 pub use calls::{call_second, record_second, sheet_second, step_second, Call, Step};
 pub use column::{Column, ColumnSlices, View};

@@ -1,7 +1,7 @@
 //! Safe calls of the compiled library.
 
 use crate::answers::{
-    Answer, Applied, Costed, Counts, Imported, PartitionSlice, Planned, Stepped, Written,
+    Answer, Applied, Costed, Counts, Imported, Listed, PartitionSlice, Planned, Stepped, Written,
 };
 use crate::column::{ColumnSlices, View};
 use crate::declared;
@@ -194,6 +194,20 @@ impl Library {
         call!(self => meltusk_plan(
             card.rr, card.sr, card.rw, limits.read, limits.insert, set.b, set.m as u32,
             &set.growers, &set.weights, &set.yields, &histograms, mut ends
+        ))
+    }
+
+    pub fn list_layouts(
+        &self,
+        card: &PriceCard,
+        limits: &Limits,
+        set: &UnlaidSet,
+        histograms: &[u32],
+        text: &mut [u8],
+    ) -> Listed {
+        call!(self => meltusk_list_layouts(
+            card.rr, card.sr, card.rw, limits.read, limits.insert, set.b, set.m as u32,
+            &set.growers, &set.weights, &set.yields, &histograms, mut text
         ))
     }
 

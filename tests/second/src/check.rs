@@ -40,6 +40,8 @@ pub const COLUMN_TWICE: u32 = 17;
 /// Each row has the header's field count, no broken quote, and its numbers in
 /// range.
 pub const ROW: u32 = 18;
+/// A set to be listed has at most 12 blocks; asked ahead of 11.
+pub const LISTED_BLOCKS: u32 = 23;
 
 /// Outcome of a list of checks: the first "no" ends it.
 pub type Checked<T> = Result<T, u32>;

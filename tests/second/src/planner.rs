@@ -29,7 +29,7 @@ pub fn longest_partition(card: &PriceCard, limits: &Limits) -> usize {
 }
 
 /// Checks 1 2 3 4 5 8 9.
-fn check_all(
+pub(crate) fn check_all(
     card: &PriceCard,
     limits: &Limits,
     set: &UnlaidSet,

@@ -2,6 +2,8 @@
 
 /// Block limit: the most blocks of an unlaid set and the most partitions.
 pub const BLOCK_LIMIT: usize = 64;
+/// The most blocks of an unlaid set whose layouts are listed.
+pub const LISTED_BLOCK_LIMIT: usize = 12;
 /// Largest block length B.
 pub const BLOCK_LENGTH_LIMIT: u32 = 4_096;
 /// Largest slice length C, and largest M of a snapshot.
@@ -253,6 +255,26 @@ impl PlanAnswer {
             refusal,
             count: 0,
             bill: 0,
+        }
+    }
+}
+
+/// Answer of listing the layouts; the lines themselves are in the output slice.
+#[derive(Clone, Copy, Debug, PartialEq, Eq)]
+pub struct ListAnswer {
+    pub refusal: u32,
+    /// Number of layouts, 0 when refused.
+    pub layouts: usize,
+    /// Number of bytes written, 0 when refused.
+    pub written: usize,
+}
+
+impl ListAnswer {
+    pub(crate) const fn refused(refusal: u32) -> ListAnswer {
+        ListAnswer {
+            refusal,
+            layouts: 0,
+            written: 0,
         }
     }
 }

@@ -3,7 +3,7 @@ use mathlib.Core.List.{[], _∷_}
 use native.Mathlib.Omega.{arith}
 use borrow.Author.Needs.{needs}
 use Rattle.model.specs.Weighbridge.{plainNumber}
-use Rattle.csv_lines.proofs.WritingLaws.{front-room, byte-behind, wrote-byte}
+use Rattle.fields.proofs.WritingLaws.{front-room, byte-behind, wrote-byte}
 use Rattle.csv_lines.proofs.put_field.Statement.{statement}
 use Rattle.csv_lines.proofs.put_field.Tie as tie
 

@@ -4,7 +4,7 @@ use borrow.Author.Needs.{needs}
 use lib.ListN.{length-set}
 use Rattle.model.specs.Fields.{lineEnd}
 use Rattle.model.specs.Csv.{carriageReturn}
-use Rattle.csv_lines.proofs.WritingLaws.{wrote-one, wrote-byte}
+use Rattle.fields.proofs.WritingLaws.{wrote-one, wrote-byte}
 use Rattle.csv_lines.proofs.put_line_end.Statement.{statement}
 use Rattle.csv_lines.proofs.put_line_end.Tie as tie
 

@@ -12,7 +12,7 @@ use Rattle.model.specs.Questions.{costChecks}
 use Rattle.model.specs.Lent.{setOf}
 use Rattle.layout_search.proofs.Bias.{held-cost}
 use Rattle.block_costs.proofs.TermLaws.{summed-holds}
-use Rattle.planner.proofs.Given.{Given, cost-given}
+use Rattle.permitted.proofs.Given.{Given, cost-given}
 use Rattle.planner.proofs.Answers.{cost-refused, layout-covers-blocks, cost-answered}
 use Rattle.planner.proofs.cost.Statement.{statement}
 use Rattle.planner.proofs.cost.Tie as tie

@@ -9,7 +9,7 @@ use Rattle.model.specs.Checks.{Check, ask, firstFailed}
 use Rattle.model.specs.Questions.{applyChecks, costChecks}
 use Rattle.model.specs.Lent.{setOf}
 use Rattle.checks.proofs.Answers.{fails, passes, none-failed, failed-first}
-use Rattle.planner.proofs.Given.{apply-passed}
+use Rattle.permitted.proofs.Given.{apply-passed}
 use Rattle.planner.proofs.cost_refusal.Statement.{statement}
 use Rattle.planner.proofs.cost_refusal.Tie as tie
 

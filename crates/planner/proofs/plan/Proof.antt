@@ -8,8 +8,8 @@ use Rattle.model.specs.Checks.{firstFailed}
 use Rattle.model.specs.Blocks.{Set}
 use Rattle.model.specs.Lent.{setOf}
 use Rattle.block_costs.proofs.TermLaws.{summed-holds}
-use Rattle.planner.specs.Given.{givenChecks}
-use Rattle.planner.proofs.Given.{Given, plan-given}
+use Rattle.permitted.specs.Given.{givenChecks}
+use Rattle.permitted.proofs.Given.{Given, plan-given}
 use Rattle.planner.proofs.Answers.{plan-not-given, answered-plan}
 use Rattle.planner.proofs.plan.Statement.{statement}
 use Rattle.planner.proofs.plan.Tie as tie

@@ -13,7 +13,7 @@ const BLOCKS: [usize; 16] = [1, 2, 3, 4, 5, 7, 8, 9, 15, 16, 17, 31, 32, 33, 63,
 
 /// The most at every place, at those that raise a cost, at those that lower it,
 /// at every other block, or at drawn places; otherwise 0.
-fn histograms(r: &mut Random) -> Vec<u32> {
+pub fn histograms(r: &mut Random) -> Vec<u32> {
     let kind = r.below(5);
     (0..HISTOGRAM_LEN)
         .map(|at| {
@@ -51,6 +51,7 @@ pub fn planned(run: &mut Run) -> Result<(), String> {
             ends: vec![blocks as u32 - 1],
             histograms: histograms(r),
             room: vec![0; blocks],
+            text: 0,
             call: Call::Find(0),
             set,
         };

@@ -1,9 +1,10 @@
-//! Calls of recorder, cost and planner made of both implementations.
+//! Calls of recorder, cost, planner and listing made of both implementations.
 
 use super::seen;
 use crate::calls::slots_text;
 use crate::memory::Memory;
-use meltusk::{record_second, Call, Costed, Library, Planned, Seen, Set};
+use crate::text::{old_bytes, shown, TEXT};
+use meltusk::{record_second, Call, Costed, Library, Listed, Planned, Seen, Set};
 use second::random::Random;
 use second::{Limits, PriceCard};
 
@@ -17,6 +18,8 @@ pub struct Case {
     pub histograms: Vec<u32>,
     /// The output slice of the planner.
     pub room: Vec<u32>,
+    /// Bytes lent to the listing.
+    pub text: usize,
     pub call: Call,
 }
 
@@ -184,5 +187,44 @@ pub fn plan(
         case.room.len(),
         case_text(set),
         counts_text(&case.histograms)
+    ))
+}
+
+/// The listing by both; compares answers, texts, slices and guards. Answers the
+/// bytes that the library wrote.
+pub fn list(
+    r: &mut Random,
+    seen: &mut Seen,
+    library: &Library,
+    case: &Case,
+) -> Result<(Listed, Vec<u8>), String> {
+    let (card, limits, set) = (&case.card, &case.limits, &case.set);
+    let (view, counts) = (set.view(), &case.histograms[..]);
+    let mut slots = Memory::new(r, &[view.growers, view.weights, view.yields, counts]);
+    let before = slots.clone();
+    let old = old_bytes(r, case.text);
+    let mut compiled_text = Memory::new(r, &[&old]);
+    let mut second_text = compiled_text.clone();
+    let compiled = slots.lend(|[growers, weights, yields, histograms]| {
+        let set = set.over([growers, weights, yields]);
+        compiled_text.lend(|[text]| library.list_layouts(card, limits, &set, histograms, text))
+    });
+    let answer = second_text.lend(|[text]| second::list_layouts(card, limits, &view, counts, text));
+    let second = Listed::from(answer);
+    seen.answer("list_layouts", second.refusal);
+    let lent = slots.counts(&NAMES).chain(second_text.counts(&TEXT));
+    seen.lent("list_layouts", library, lent);
+    let (written, rest) = compiled_text.slice(0).split_at(answer.written);
+    let same = compiled == second && compiled_text.equals(&second_text) && slots.equals(&before);
+    if same && rest == &old[answer.written..] {
+        return Ok((second, written.to_vec()));
+    }
+    Err(format!(
+        "list_layouts: compiled {compiled:?}, second {second:?}; {}; {}; text {}; {card:?}, {limits:?}, {}, {}",
+        compiled_text.compared(&second_text, &TEXT),
+        slots.compared(&before, &NAMES[..4]),
+        shown(compiled_text.slice(0)),
+        case_text(set),
+        counts_text(counts)
     ))
 }

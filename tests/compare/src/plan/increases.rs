@@ -70,6 +70,7 @@ pub fn bounded(run: &mut Run) -> Result<(), String> {
             ends: inputs::layout(r, &set.view()),
             histograms: recorded(run, r, &library, &set, &calls)?,
             room: vec![0; blocks],
+            text: 0,
             call: Call::Find(0),
             set,
         };

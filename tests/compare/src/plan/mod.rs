@@ -1,19 +1,23 @@
-//! Recorder, cost and planner.
+//! Recorder, cost, planner and listing.
 
 mod bounds;
 mod calls;
 mod increases;
 mod limits;
+mod listings;
 mod seen;
 
 use crate::inputs::{self, EDGE_COUNTS};
 use crate::layouts::{self, Fault, END_FAULTS, SET_FAULTS};
 use crate::{Run, Test};
-use calls::{cost, plan, By, Case, Recorder};
+use calls::{cost, list, plan, By, Case, Recorder};
 use meltusk::{record_second, Call, Empty, Library, Set, Slots, LIBRARIES};
 use second::random::Random;
 use second::recorder::count_index;
-use second::{Delivery, Limits, PriceCard, COUNT_LIMIT, HISTOGRAMS, HISTOGRAM_LEN, LIMIT_LIMIT};
+use second::{
+    Delivery, Limits, PriceCard, COUNT_LIMIT, HISTOGRAMS, HISTOGRAM_LEN, LIMIT_LIMIT,
+    LISTED_BLOCK_LIMIT,
+};
 
 fn card(r: &mut Random) -> PriceCard {
     match r.below(5) {
@@ -188,6 +192,7 @@ fn case(r: &mut Random, most_blocks: usize) -> Case {
         ends: inputs::layout(r, &set.view()),
         histograms: histograms(r, &set),
         room: room(r, blocks),
+        text: 0,
         call: proper_call(r, &set, which),
         set,
     }
@@ -271,6 +276,10 @@ enum CaseFault {
     ReadBelow,
     InsertBelow,
     Room(usize),
+    /// Room for all of a listing but its last byte.
+    TextShort,
+    /// A set of so many blocks.
+    Blocks(usize),
     RangeFalls,
     OfferedWeight(u32),
     OfferedYield(u32),
@@ -284,9 +293,13 @@ enum CaseFault {
 
 use CaseFault::*;
 
-/// Those of the set come last: a call is made from a proper set.
+/// Those of the set come last: a call is made from a proper set. A listing is
+/// measured before all else.
 fn case_faults() -> Vec<CaseFault> {
     let mut all = vec![
+        TextShort,
+        Blocks(LISTED_BLOCK_LIMIT + 1),
+        Blocks(64),
         ReadBelow,
         InsertBelow,
         Limit(0, LIMIT_LIMIT + 1),
@@ -320,6 +333,7 @@ enum Target {
     Record,
     Cost,
     Plan,
+    List,
 }
 
 impl CaseFault {
@@ -336,7 +350,19 @@ impl CaseFault {
             Limit(_, limit) => case.limits.insert = limit,
             ReadBelow => case.limits.read = case.card.rr - 1,
             InsertBelow => case.limits.insert = 2 * (case.card.rr + case.card.rw) - 1,
-            Room(n) => case.room.truncate(n),
+            Room(n) => {
+                case.room.truncate(n);
+                case.text = case.text.min(n);
+            }
+            // Only a listing is lent a text.
+            TextShort => match case.text {
+                0 => return false,
+                _ => case.text = listings::size(case) - 1,
+            },
+            Blocks(n) => {
+                case.set = one_a_block(n);
+                case.ends = vec![n as u32 - 1];
+            }
             RangeFalls => match &mut case.call {
                 Call::Range(lo, hi) if *lo < *hi => std::mem::swap(lo, hi),
                 _ => return false,
@@ -366,11 +392,14 @@ impl CaseFault {
     /// The refusal of an else accepted call with this fault alone.
     fn expected(self, target: Target) -> u32 {
         let on = |yes: bool, number: u32| if yes { number } else { 0 };
+        let limited = matches!(target, Target::Plan | Target::List);
         match self {
             Price(..) => on(target != Target::Record, 1),
-            Limit(..) => on(target == Target::Plan, 1),
-            ReadBelow | InsertBelow => on(target == Target::Plan, 11),
-            Room(_) => on(target == Target::Plan, 15),
+            Limit(..) => on(limited, 1),
+            ReadBelow | InsertBelow => on(limited, 11),
+            Room(_) => on(limited, 15),
+            TextShort => on(target == Target::List, 15),
+            Blocks(_) => on(target == Target::List, 23),
             RangeFalls => on(target == Target::Record, 7),
             OfferedWeight(_) | OfferedYield(_) => on(target == Target::Record, 8),
             CountsAtLimit => on(target == Target::Record, 10),
@@ -381,19 +410,27 @@ impl CaseFault {
     }
 }
 
-/// A case that all three targets accept.
-fn accepted(r: &mut Random, which: usize) -> Case {
-    let set = layouts::base(r);
+/// A case that its target accepts.
+fn accepted(r: &mut Random, target: Target, which: usize) -> Case {
+    let mut set = layouts::base(r);
+    while target == Target::List && set.view().blocks() > LISTED_BLOCK_LIMIT {
+        set = layouts::base(r);
+    }
     let card = card(r);
-    Case {
+    let mut case = Case {
         limits: Limits::new(LIMIT_LIMIT, LIMIT_LIMIT),
         card,
         ends: inputs::layout(r, &set.view()),
         histograms: recorded_histograms(r, &set),
         room: vec![7; 64],
+        text: 0,
         call: proper_call(r, &set, which),
         set,
+    };
+    if target == Target::List {
+        case.text = listings::size(&case) + r.pick(&[0, 1, 500]);
     }
+    case
 }
 
 fn made(
@@ -410,11 +447,12 @@ fn made(
         }
         Target::Cost => cost(r, seen, library, case).map(|a| a.refusal),
         Target::Plan => plan(r, seen, library, case, By::Table).map(|(a, _)| a.refusal),
+        Target::List => list(r, seen, library, case).map(|(a, _)| a.refusal),
     }
 }
 
-/// The five recorded calls, the cost and the plan.
-const TARGETS: [(Target, usize); 7] = [
+/// The five recorded calls, the cost, the plan and the listing.
+const TARGETS: [(Target, usize); 8] = [
     (Target::Record, 0),
     (Target::Record, 1),
     (Target::Record, 2),
@@ -422,6 +460,7 @@ const TARGETS: [(Target, usize); 7] = [
     (Target::Record, 4),
     (Target::Cost, 0),
     (Target::Plan, 0),
+    (Target::List, 0),
 ];
 
 fn alone(run: &mut Run) -> Result<(), String> {
@@ -430,7 +469,7 @@ fn alone(run: &mut Run) -> Result<(), String> {
         let library = inputs::library(r);
         for fault in &faults {
             for (target, which) in TARGETS {
-                let mut case = accepted(r, which);
+                let mut case = accepted(r, target, which);
                 if fault.is_large() && !r.one_in(4) || !fault.put(r, &mut case) {
                     continue;
                 }
@@ -455,7 +494,7 @@ fn pairs(run: &mut Run) -> Result<(), String> {
                     if (first.is_large() || second.is_large()) && !r.one_in(8) {
                         continue;
                     }
-                    let mut case = accepted(r, which);
+                    let mut case = accepted(r, target, which);
                     first.put(r, &mut case);
                     second.put(r, &mut case);
                     let with = |why| format!("{first:?} and {second:?}: {why}");
@@ -467,15 +506,15 @@ fn pairs(run: &mut Run) -> Result<(), String> {
     })
 }
 
-/// Growers, weights, yields, histograms, ends and room, each alone at the
+/// Growers, weights, yields, histograms, ends, room and text, each alone at the
 /// edge counts.
 fn edge_counts(run: &mut Run) -> Result<(), String> {
     run.cases(46, 1, |run, r| {
         for library in LIBRARIES {
             for (target, which) in TARGETS {
-                for lent in 0..6 {
+                for lent in 0..7 {
                     for n in EDGE_COUNTS {
-                        let mut case = accepted(r, which);
+                        let mut case = accepted(r, target, which);
                         let last = case.set.view().blocks() as u32 - 1;
                         match lent {
                             3 => case.histograms.resize(n, 0),
@@ -486,13 +525,15 @@ fn edge_counts(run: &mut Run) -> Result<(), String> {
                                 case.limits.insert = 2 * (case.card.rr + case.card.rw);
                                 case.room = vec![7; n];
                             }
+                            6 => case.text = n,
                             i => case.set.slices()[i].resize(n, u32::MAX),
                         }
                         let expected = match (lent, target) {
                             (3, _) => 9,
                             (4, Target::Cost) if n != 1 => 6,
                             (5, Target::Plan) if n == 0 => 15,
-                            (4 | 5, _) => 0,
+                            (6, Target::List) if n <= 1 => 15,
+                            (4..=6, _) => 0,
                             _ => 3,
                         };
                         let refusal = made(run, r, &library, &case, target)?;
@@ -513,11 +554,12 @@ fn nothing_lent(run: &mut Run) -> Result<(), String> {
     run.cases(47, 1, |run, r| {
         for library in LIBRARIES {
             for (target, which) in TARGETS {
-                let mut case = accepted(r, which);
+                let mut case = accepted(r, target, which);
                 case.set.resize(0);
                 case.histograms.clear();
                 case.ends.clear();
                 case.room.clear();
+                case.text = 0;
                 let refusal = made(run, r, &library, &case, target)?;
                 if refusal != 3 {
                     return Err(format!("{:?}: refusal {refusal}", case.call));
@@ -528,17 +570,18 @@ fn nothing_lent(run: &mut Run) -> Result<(), String> {
     })
 }
 
-/// A set of one slot, one end and room for one end.
+/// A set of one slot, one end and room for one end or for its line.
 fn one_slot(run: &mut Run) -> Result<(), String> {
     run.cases(48, 20, |run, r| {
         let library = inputs::library(r);
         for (target, which) in TARGETS {
-            let mut case = accepted(r, which);
+            let mut case = accepted(r, target, which);
             let block = r.pick(&[1, 2, 4_096]);
             case.set = inputs::one_delivery(r, block, 1);
             case.call = proper_call(r, &case.set, which);
             case.ends = vec![0];
             case.room = vec![7];
+            case.text = 43;
             let refusal = made(run, r, &library, &case, target)?;
             if refusal != 0 {
                 return Err(format!("{case:?}: refusal {refusal}"));
@@ -548,10 +591,8 @@ fn one_slot(run: &mut Run) -> Result<(), String> {
     })
 }
 
-/// The answers that 01 states of the main case.
-fn examples(run: &mut Run) -> Result<(), String> {
-    let library = Library { empty: Empty::Null };
-    let mut r = Random::new(0);
+/// 01's main case: five finds and an insert, recorded by both.
+fn main_case(run: &mut Run, r: &mut Random, library: &Library) -> Result<Case, String> {
     let mut set = Set {
         block: 2,
         used: 8,
@@ -560,23 +601,31 @@ fn examples(run: &mut Run) -> Result<(), String> {
         yields: vec![2_000; 8],
     };
     set.resize(9);
-    let mut recorder = Recorder::new(&mut r, &set, &[0; HISTOGRAM_LEN]);
+    let mut recorder = Recorder::new(r, &set, &[0; HISTOGRAM_LEN]);
     let insert = Call::Insert(Delivery::new(15, 100, 2_000));
     for call in [Call::Find(30); 5].iter().chain(&[insert]) {
-        let refusal = recorder.record(&mut run.seen, &library, call)?;
+        let refusal = recorder.record(&mut run.seen, library, call)?;
         if refusal != 0 {
             return Err(format!("{call:?}: refusal {refusal}"));
         }
     }
-    let mut case = Case {
+    Ok(Case {
         card: PriceCard::FACTORY,
         limits: Limits::new(100, 100),
         ends: Vec::new(),
         histograms: recorder.histograms().to_vec(),
         room: vec![9; 4],
+        text: 0,
         call: insert,
         set,
-    };
+    })
+}
+
+/// The answers that 01 states of the main case.
+fn examples(run: &mut Run) -> Result<(), String> {
+    let library = Library { empty: Empty::Null };
+    let mut r = Random::new(0);
+    let mut case = main_case(run, &mut r, &library)?;
     // Read limit, insert limit, refusal, cost, ends.
     let stated: [(u32, u32, u32, i64, &[u32]); 8] = [
         (100, 100, 0, 35, &[1, 3]),
@@ -626,6 +675,16 @@ pub const TESTS: &[(&str, Test)] = &[
         "plan: limits against the counts of finds and inserts, N to 7",
         limits::by_counts,
     ),
+    ("plan: listings of 01's main case", listings::examples),
+    (
+        "plan: listings against every layout and the plan, N to 12",
+        listings::every_layout,
+    ),
+    (
+        "plan: listings of all layouts of 12 blocks",
+        listings::largest,
+    ),
+    ("plan: listings, N past 12", listings::too_many_blocks),
     (
         "plan: calls added to a list against their bounds",
         increases::bounded,

@@ -1,10 +1,11 @@
-//! What the compared calls of recorder, cost and planner answered.
+//! What the compared calls of recorder, cost, planner and listing answered.
 
+use super::listings;
 use meltusk::{Call, Costed, Planned, Seen};
 use second::Increase;
 
 /// The refusals of each call, 0 for accepted.
-const ANSWERS: [(&str, &[u32]); 7] = [
+const ANSWERS: [(&str, &[u32]); 8] = [
     ("record_find", &[0, 2, 3, 4, 5, 8, 9, 10]),
     ("record_range", &[0, 2, 3, 4, 5, 7, 8, 9, 10]),
     ("record_insert", &[0, 2, 3, 4, 5, 8, 9, 10]),
@@ -12,6 +13,7 @@ const ANSWERS: [(&str, &[u32]); 7] = [
     ("record_move", &[0, 2, 3, 4, 5, 8, 9, 10]),
     ("cost", &[0, 1, 2, 3, 4, 5, 6, 8, 9]),
     ("plan", &[0, 1, 2, 3, 4, 5, 8, 9, 11, 15]),
+    ("list_layouts", &[0, 1, 2, 3, 4, 5, 8, 9, 11, 15, 23]),
 ];
 
 const KINDS: [&str; 5] = [
@@ -61,5 +63,6 @@ pub fn note_increase(seen: &mut Seen, increase: &Increase) {
 /// An error if an answer or a kind of answer has not occurred.
 pub fn complete(seen: &Seen) -> Result<(), String> {
     seen.complete(&ANSWERS, &KINDS)?;
+    seen.complete(&[], &listings::KINDS)?;
     seen.complete(&[], &Increase::KINDS)
 }

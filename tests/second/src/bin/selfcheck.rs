@@ -13,6 +13,8 @@ mod groups;
 mod growers;
 #[path = "selfcheck/increases.rs"]
 mod increases;
+#[path = "selfcheck/listings.rs"]
+mod listings;
 #[path = "selfcheck/model.rs"]
 mod model;
 #[path = "selfcheck/mutants.rs"]
@@ -23,6 +25,8 @@ mod random;
 mod sheets;
 #[path = "selfcheck/subject.rs"]
 mod subject;
+#[path = "selfcheck/wrong_listings.rs"]
+mod wrong_listings;
 
 use groups::Outcome;
 use subject::{Library, Subject};
@@ -65,6 +69,19 @@ const GROUPS: &[(&str, Group, u64)] = &[
         groups::planner_large,
         2_000,
     ),
+    ("example: listings", listings::listing_examples, 1),
+    (
+        "listing against all boundary bits",
+        listings::listing_bits,
+        2_000,
+    ),
+    (
+        "cheapest of a listing against the planner",
+        listings::listing_least,
+        4_000,
+    ),
+    ("listing of any set", listings::listing_refused, 4_000),
+    ("listing of 1 to 12 blocks", listings::listing_sizes, 1),
     (
         "example: calls added to a list",
         increases::increase_examples,

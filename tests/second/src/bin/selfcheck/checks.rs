@@ -301,24 +301,37 @@ fn require_zero(refusal: u32, zero: bool) -> Outcome {
     Ok(())
 }
 
-fn planner_checks() -> Outcome {
-    let mut faults = price_faults(0);
-    faults.extend(limit_faults(0));
-    faults.extend(set_faults(1));
-    faults.extend(value_faults(5));
-    faults.extend(histogram_faults(6));
-    for (name, read, insert) in [
+/// Check 11.
+fn permission_faults(place: usize) -> Vec<Fault<Work>> {
+    let limits = [
         ("R below RR", 2, 100),
         ("R one block, equal growers", 3, 100),
         ("U 0", 7, 0),
         ("U 4", 7, 4),
         ("U 9", 7, 9),
         ("R and U", 7, 14),
-    ] {
-        faults.push(fault(7, 11, name, move |w: &mut Work| {
+    ];
+    let of = |(name, read, insert)| {
+        fault(place, 11, name, move |w: &mut Work| {
             w.limits = Limits::new(read, insert)
-        }));
-    }
+        })
+    };
+    limits.into_iter().map(of).collect()
+}
+
+/// Checks 1 2 3 4 5 8 9, which planning and listing put first.
+fn plan_faults() -> Vec<Fault<Work>> {
+    let mut faults = price_faults(0);
+    faults.extend(limit_faults(0));
+    faults.extend(set_faults(1));
+    faults.extend(value_faults(5));
+    faults.extend(histogram_faults(6));
+    faults
+}
+
+fn planner_checks() -> Outcome {
+    let mut faults = plan_faults();
+    faults.extend(permission_faults(7));
     faults.push(fault(8, 15, "room 1", |w: &mut Work| w.room = 1));
     faults.push(fault(8, 15, "room 0", |w: &mut Work| w.room = 0));
     alone_and_in_pairs(&work(), &faults, &|w| {
@@ -331,6 +344,42 @@ fn planner_checks() -> Outcome {
         require_zero(a.refusal, a.bill == 0 && a.count == 0)?;
         if a.refusal != 0 {
             require_same(&one, &vec![5; w.room])?;
+        }
+        Ok(a.refusal)
+    })
+}
+
+/// So many blocks of one record.
+fn block_fault(place: usize, blocks: usize) -> Fault<Work> {
+    let name = format!("{blocks} blocks");
+    fault(place, 23, &name, move |w: &mut Work| {
+        w.set.m = blocks;
+        for at in 8..blocks {
+            put(&mut w.set.growers, at, 70 + at as u32);
+            put(&mut w.set.weights, at, 0);
+            put(&mut w.set.yields, at, 0);
+        }
+    })
+}
+
+fn listing_checks() -> Outcome {
+    let mut base = work();
+    let layouts = permitted_layouts(&base.card, &base.limits, &base.set.view());
+    base.room = listing_size(&layouts);
+    let short = base.room - 1;
+    let mut faults = plan_faults();
+    faults.extend([13, 64].map(|blocks| block_fault(7, blocks)));
+    faults.extend(permission_faults(8));
+    for room in [short, 43, 0] {
+        let name = format!("room {room}");
+        faults.push(fault(9, 15, &name, move |w: &mut Work| w.room = room));
+    }
+    alone_and_in_pairs(&base, &faults, &|w| {
+        let mut out = vec![b'#'; w.room];
+        let a = list_layouts(&w.card, &w.limits, &w.set.view(), &w.histograms, &mut out);
+        require_zero(a.refusal, a.layouts == 0 && a.written == 0)?;
+        if a.refusal != 0 {
+            require_same(&out, &vec![b'#'; w.room])?;
         }
         Ok(a.refusal)
     })
@@ -1254,9 +1303,10 @@ fn recorder_checks() -> Vec<(&'static str, Box<dyn Fn() -> Outcome>)> {
 
 pub fn all() -> Vec<(String, Outcome)> {
     let mut list = recorder_checks();
-    let rest: [(&str, fn() -> Outcome); 23] = [
+    let rest: [(&str, fn() -> Outcome); 24] = [
         ("cost of a layout", cost_checks),
         ("planner", planner_checks),
+        ("listing", listing_checks),
         ("apply layout", apply_checks),
         ("find", find_checks),
         ("range", range_checks),

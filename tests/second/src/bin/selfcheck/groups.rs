@@ -39,7 +39,7 @@ pub fn main_set() -> Set {
     set
 }
 
-fn main_histograms(s: &dyn Subject) -> Result<Vec<u32>, String> {
+pub fn main_histograms(s: &dyn Subject) -> Result<Vec<u32>, String> {
     let set = main_set();
     let mut h = vec![0; HISTOGRAM_LEN];
     let d = Delivery::new(15, 100, 2_000);
@@ -213,7 +213,7 @@ pub fn example_layplan(s: &dyn Subject, _: u64) -> Outcome {
 }
 
 /// A recorded list over a set; answers the accepted calls too.
-fn recorded(s: &dyn Subject, r: &mut Random, set: &Set, most: usize) -> (Vec<u32>, Vec<Call>) {
+pub fn recorded(s: &dyn Subject, r: &mut Random, set: &Set, most: usize) -> (Vec<u32>, Vec<Call>) {
     let held = set.records();
     let mut h = vec![0; HISTOGRAM_LEN];
     let mut accepted = Vec::new();

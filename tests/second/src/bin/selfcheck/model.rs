@@ -1,6 +1,7 @@
 //! Plain models of the rules, written apart from the library.
 
-use crate::subject::{step_refused, Answer, Call, Column, Set, Step};
+use crate::subject::{step_refused, Answer, Call, Case, Column, Set, Step};
+use second::planner::layout_of_bits;
 use second::*;
 use std::collections::BTreeMap;
 
@@ -419,4 +420,48 @@ pub fn sheet(c: &Column) -> (Vec<u8>, Vec<u32>) {
     lines.push((1..4).map(|i| lines.iter().map(|l| l[i]).sum()).collect());
     let order = slots.into_values().flatten().map(|s| s as u32);
     (text_in(20, &lines), order.collect())
+}
+
+/// A layout of a listing: its bill and its ends.
+pub type Layout = (i128, Vec<u32>);
+
+/// The layouts of a proper case by their boundary bits: those whose dearest find
+/// and insert keep within the limits and whose ends part no equal growers.
+pub fn listing(case: &Case) -> Vec<Layout> {
+    let Case { card, limits, .. } = case;
+    let records = case.set.records();
+    let b = case.set.b as usize;
+    let blocks = records.chunks(b).count();
+    let parts = |past: usize| records[past * b - 1].grower == records[past * b].grower;
+    let permitted = |ends: &[u32]| {
+        let pasts: Vec<usize> = ends.iter().map(|&e| e as usize + 1).collect();
+        let firsts = std::iter::once(0).chain(pasts.iter().copied());
+        let longest = firsts.zip(&pasts).map(|(first, past)| past - first).max();
+        let reads = longest.map_or(0, |blocks| blocks as u64 - 1);
+        let find = u64::from(card.rr) + u64::from(card.sr) * reads;
+        let insert = u64::from(card.rr + card.rw) * (1 + ends.len() as u64);
+        find <= u64::from(limits.read)
+            && insert <= u64::from(limits.insert)
+            && !pasts[..pasts.len() - 1].iter().any(|&past| parts(past))
+    };
+    let mut all: Vec<Layout> = (0..1u32 << (blocks - 1))
+        .map(|inner| layout_of_bits(inner, blocks))
+        .filter(|ends| permitted(ends))
+        .map(|ends| (equation_cost(card, blocks, &case.histograms, &ends), ends))
+        .collect();
+    all.sort_by(|x, y| x.1.cmp(&y.1));
+    all
+}
+
+/// The text of a listing, printed plainly.
+pub fn listing_text(layouts: &[Layout]) -> Vec<u8> {
+    let mut text = String::new();
+    for (bill, ends) in layouts {
+        text.push_str(&format!("{:>11}{bill:>20}", ends.len()));
+        for end in ends {
+            text.push_str(&format!("{end:>11}"));
+        }
+        text.push('\n');
+    }
+    text.into_bytes()
 }

@@ -8,6 +8,7 @@ use crate::increases;
 use crate::model::text_in;
 use crate::sheets;
 use crate::subject::*;
+use crate::wrong_listings::{self, List};
 use second::planner::layout_of_bits;
 use second::recorder::*;
 use second::*;
@@ -25,6 +26,7 @@ struct Mutant {
     record: Option<fn(&UnlaidSet, &mut [u32], &Call) -> u32>,
     cost: Option<fn(&PriceCard, &UnlaidSet, &[u32], &[u32]) -> CostAnswer>,
     plan: Option<fn(&PriceCard, &Limits, &UnlaidSet, &[u32], &mut [u32]) -> PlanAnswer>,
+    list: Option<List>,
     apply: Option<fn(&UnlaidSet, &[u32]) -> DirectoryAnswer>,
     read: Option<fn(&[u8], &mut Column) -> DirectoryAnswer>,
     write: Option<fn(&Column, &mut [u8]) -> TextAnswer>,
@@ -74,6 +76,10 @@ impl Subject for Mutant {
             Some(f) => f(card, limits, set, h, out),
             None => Library.plan(card, limits, set, h, out),
         }
+    }
+
+    fn list(&self, case: &Case, out: &mut [u8]) -> ListAnswer {
+        self.list.unwrap_or(library_list)(case, out)
     }
 
     fn apply(&self, set: &UnlaidSet, ends: &[u32]) -> DirectoryAnswer {
@@ -1395,6 +1401,13 @@ fn plan(f: fn(&PriceCard, &Limits, &UnlaidSet, &[u32], &mut [u32]) -> PlanAnswer
     }
 }
 
+fn listed(f: List) -> Mutant {
+    Mutant {
+        list: Some(f),
+        ..Mutant::default()
+    }
+}
+
 fn priced(f: fn(&PriceCard, &UnlaidSet, &[u32], &[u32]) -> CostAnswer) -> Mutant {
     Mutant {
         cost: Some(f),
@@ -1446,7 +1459,7 @@ pub fn all() -> Vec<(String, Outcome)> {
         settlement_books, settlement_examples, sheet_columns, sheet_edges, sheet_examples,
         sheet_finds, sheet_refused,
     };
-    let list: Vec<(&str, Mutant, &[Group])> = vec![
+    let mut list: Vec<(&str, Mutant, &[Group])> = vec![
         (
             "t without its own partition",
             priced(t_without_own),
@@ -1923,6 +1936,8 @@ pub fn all() -> Vec<(String, Outcome)> {
             &[example_layplan, layplan_pieces],
         ),
     ];
+    let listings = wrong_listings::ALL.iter();
+    list.extend(listings.map(|&(name, list, detectors)| (name, listed(list), detectors)));
     list.into_iter()
         .map(|(name, mutant, detectors)| {
             let missed = detectors

@@ -250,6 +250,20 @@ pub fn library_sheet(c: &Column, room: &mut Room) -> TextAnswer {
     )
 }
 
+/// What listing the layouts is given.
+#[derive(Clone, Debug)]
+pub struct Case {
+    pub card: PriceCard,
+    pub limits: Limits,
+    pub set: Set,
+    pub histograms: Vec<u32>,
+}
+
+pub fn library_list(case: &Case, out: &mut [u8]) -> ListAnswer {
+    let (card, limits) = (&case.card, &case.limits);
+    list_layouts(card, limits, &case.set.view(), &case.histograms, out)
+}
+
 /// The calls that a wrong variant may replace.
 pub trait Subject {
     fn call(&self, c: &mut Column, call: &Call) -> Answer {
@@ -283,6 +297,10 @@ pub trait Subject {
         out: &mut [u32],
     ) -> PlanAnswer {
         plan_by_table(card, limits, set, histograms, out)
+    }
+
+    fn list(&self, case: &Case, out: &mut [u8]) -> ListAnswer {
+        library_list(case, out)
     }
 
     fn apply(&self, set: &UnlaidSet, ends: &[u32]) -> DirectoryAnswer {

@@ -1,0 +1,2 @@
+-- The layouts that chosen ends can go on to, and their lines.
+pub mod Rests

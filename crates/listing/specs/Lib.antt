@@ -1,0 +1,2 @@
+-- What checking a set for a listing finds.
+pub mod Answers
