@@ -1,13 +1,12 @@
 -- The lines of the layouts that chosen ends go on to: with one end more chosen they are the same lines, and those of two lists are one behind the other.
 -- Assumes nothing.
-use Prim.Native.Nat.{ℕ, zero, suc, _+_, _-_, _*_, _^_, _≤_, _<_}
+use Prim.Native.Nat.{ℕ, _+_, _-_, _*_, _^_, _≤_, _<_}
 use mathlib.Core.Path.{_≡_, refl, sym, ap, ap₂, _∙_, subst}
 use mathlib.Core.List.{List, [], _∷_, _++_, append-assoc, append-nil, map, map-append, flatten}
 use native.Mathlib.Omega.{arith}
 use lib.ListN.{length, take, set, length-append, length-set}
 use lib.Seq.{length-take-le, take-take, take-at}
 use lib.IntN.{ℤ, subℕ}
-use Rattle.model.specs.Bounds.{mostListedBlocks}
 use Rattle.model.specs.Lists.{sumOf}
 use Rattle.model.specs.Fields.{numberField, signedField, line, lineEnd}
 use Rattle.model.proofs.Integers.{is-sub, eq-is}
@@ -18,7 +17,7 @@ use Rattle.fields.specs.Writing.{placed, Wrote}
 use Rattle.fields.proofs.Placing.{placed-none, placed-front}
 use Rattle.fields.proofs.WritingLaws.{wrote-size, wrote-joined, byte-behind, wrote-byte}
 use Rattle.layout_search.specs.RunningSums.{endUp, endDown, upBy, downBy}
-use Rattle.layout_lines.specs.Rests.{lineBytes, costAfter, lineAfter, linesAfter, Carrying}
+use Rattle.layout_lines.specs.Rests.{lineBytes, costAfter, lineAfter, linesAfter}
 
 -- The fields in the row.
 

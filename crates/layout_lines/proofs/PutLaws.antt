@@ -1,12 +1,12 @@
 -- The lines written at a place: none, those past block i, the one of the last block, or those behind an end at i and then those past i. Assumes nothing.
 use Prim.Native.Nat.{ℕ, _+_, _*_, _^_, _≤_}
-use mathlib.Core.Path.{_≡_, refl, sym, ap, ap₂, _∙_, subst}
+use mathlib.Core.Path.{_≡_, refl, sym, ap, _∙_, subst}
 use mathlib.Core.List.{List, [], _∷_, _++_, map}
 use native.Mathlib.Omega.{arith}
-use lib.ListN.{length, take, length-append}
+use lib.ListN.{length, take}
 use lib.IntN.{subℕ}
 use Rattle.model.specs.Fields.{numberField, signedField, lineEnd}
-use Rattle.fields.specs.Writing.{placed, Wrote}
+use Rattle.fields.specs.Writing.{Wrote}
 use Rattle.fields.proofs.WritingLaws.{front-room, wrote-room, wrote-joined}
 use Rattle.layout_lines.specs.Rests.{linesAfter, Chose, PutLines}
 use Rattle.layout_lines.proofs.RestLaws.{Place, later, behind, followed}

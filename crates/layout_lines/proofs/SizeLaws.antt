@@ -1,6 +1,6 @@
 -- How many layouts chosen ends go on to and how long their lines are, added up block by block; of 12 blocks both are small. Assumes nothing.
 use Prim.Native.Nat.{ℕ, zero, suc, _+_, _-_, _*_, _^_, _≤_, _<_}
-use mathlib.Core.Path.{_≡_, refl, sym, ap, ap₂, _∙_, subst}
+use mathlib.Core.Path.{_≡_, refl, sym, ap, _∙_, subst}
 use mathlib.Core.Bool.{Bool, true, false, cond}
 use mathlib.Core.List.{List, [], _∷_, _++_, map}
 use native.Mathlib.Omega.{arith}
@@ -9,7 +9,7 @@ use lib.ListN.{length, length-append, length-map}
 use Rattle.model.specs.Bounds.{mostListedBlocks}
 use Rattle.model.specs.Lists.{sumOf, keep}
 use Rattle.model.specs.Layouts.{layoutsFrom}
-use Rattle.model.proofs.ListLaws.{sum-append, keep-fewer}
+use Rattle.model.proofs.ListLaws.{keep-fewer}
 use Rattle.layout_lines.specs.Rests.{restOk, okBy, rests, lineBytes, Sized, Choosing}
 use Rattle.layout_lines.proofs.RestLaws.{Place, followed}
 

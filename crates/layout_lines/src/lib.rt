@@ -25,6 +25,13 @@ const LINE: usize = ENDS + 1;
 // The fields of as many ends as there can be.
 const ROW: usize = WIDTH * MOST_LISTED_BLOCKS;
 
+// What the layouts are held to: how many blocks a partition may have, how many partitions there may be, and how many blocks there are.
+pub struct Rules {
+    pub longest: usize,
+    pub most: usize,
+    pub blocks: usize,
+}
+
 // How many layouts there are, and the bytes of their lines.
 pub struct Size {
     pub layouts: u32,
@@ -52,43 +59,35 @@ fn one_of(k: usize) -> Size
 }
 
 // Whether k chosen ends can go on: there may be one more, and the blocks a ..= i are no longer than a partition may be.
-fn goes_on(longest: usize, most: usize, k: usize, a: usize, i: usize) -> bool
+fn goes_on(rules: Rules, k: usize, a: usize, i: usize) -> bool
     requires { ⌜ (a ≤ i) × (i < 12) ⌝ }
-    ensures { λ r. ⌜ r ≡ ltb k most && leb (i + 1 - a) longest ⌝ }
+    ensures { λ r. ⌜ r ≡ ltb k (rules .most) && leb (i + 1 - a) (rules .longest) ⌝ }
 {
-    if most <= k {
+    if rules.most <= k {
         return false;
     }
-    i + 1 - a <= longest
+    i + 1 - a <= rules.longest
 }
 
 // How many layouts k chosen ends can go on to, and the bytes of their lines: the next partition begins at block a, its end is i or later.
-pub fn size_rest(
-    fits: &[bool],
-    longest: usize,
-    most: usize,
-    n: usize,
-    k: usize,
-    a: usize,
-    i: usize,
-) -> Size
-    requires { ⌜ Choosing n k a i (now fits) ⌝ }
-    ensures { λ r. ⌜ Sized (r .layouts) (r .bytes) k (rests (okBy (now (fits .entry)) longest) most n k a i) ⌝ }
+pub fn size_rest(fits: &[bool], rules: Rules, k: usize, a: usize, i: usize) -> Size
+    requires { ⌜ Choosing (rules .blocks) k a i (now fits) ⌝ }
+    ensures { λ r. ⌜ Sized (r .layouts) (r .bytes) k (rests (okBy (now (fits .entry)) (rules .longest)) (rules .most) (rules .blocks) k a i) ⌝ }
 {
-    if !goes_on(longest, most, k, a, i) {
+    if !goes_on(rules, k, a, i) {
         return nothing();
     }
     if !fits[i] {
-        if i + 1 == n {
+        if i + 1 == rules.blocks {
             return nothing();
         }
-        return size_rest(fits, longest, most, n, k, a, i + 1);
+        return size_rest(fits, rules, k, a, i + 1);
     }
-    if i + 1 == n {
+    if i + 1 == rules.blocks {
         return one_of(k + 1);
     }
-    let here = size_rest(fits, longest, most, n, k + 1, i + 1, i + 1);
-    let later = size_rest(fits, longest, most, n, k, a, i + 1);
+    let here = size_rest(fits, rules, k + 1, i + 1, i + 1);
+    let later = size_rest(fits, rules, k, a, i + 1);
     Size {
         layouts: here.layouts + later.layouts,
         bytes: here.bytes + later.bytes,
@@ -123,9 +122,7 @@ fn choose(sums: &[u64], a: usize, i: usize, k: usize, number: u64, row: &mut [u8
 fn put_rest(
     sums: &[u64],
     fits: &[bool],
-    longest: usize,
-    most: usize,
-    n: usize,
+    rules: Rules,
     k: usize,
     a: usize,
     i: usize,
@@ -134,89 +131,39 @@ fn put_rest(
     text: &mut [u8],
     at: usize,
 ) -> usize
-    requires { ⌜ Holds (now sums) n ⌝ }
-    requires { ⌜ Choosing n k a i (now fits) × Carrying k number (now row) ⌝ }
-    requires { ⌜ at + length (linesAfter (now sums) k a number (take (11 * k) (now row)) (rests (okBy (now fits) longest) most n k a i)) ≤ length (now text) ⌝ }
-    ensures { λ r. ⌜ PutLines (now (sums .entry)) k a number (rests (okBy (now (fits .entry)) longest) most n k a i)
+    requires { ⌜ Holds (now sums) (rules .blocks) ⌝ }
+    requires { ⌜ Choosing (rules .blocks) k a i (now fits) × Carrying k number (now row) ⌝ }
+    requires { ⌜ at + length (linesAfter (now sums) k a number (take (11 * k) (now row))
+        (rests (okBy (now fits) (rules .longest)) (rules .most) (rules .blocks) k a i)) ≤ length (now text) ⌝ }
+    ensures { λ r. ⌜ PutLines (now (sums .entry)) k a number (rests (okBy (now (fits .entry)) (rules .longest)) (rules .most) (rules .blocks) k a i)
         (now (row .entry)) (now (text .entry)) at (now (row .exit)) (now (text .exit)) r ⌝ }
 {
-    if !goes_on(longest, most, k, a, i) {
+    if !goes_on(rules, k, a, i) {
         return at;
     }
     if !fits[i] {
-        if i + 1 == n {
+        if i + 1 == rules.blocks {
             return at;
         }
-        return put_rest(
-            sums,
-            fits,
-            longest,
-            most,
-            n,
-            k,
-            a,
-            i + 1,
-            number,
-            row,
-            text,
-            at,
-        );
+        return put_rest(sums, fits, rules, k, a, i + 1, number, row, text, at);
     }
     let next = choose(sums, a, i, k, number, row);
-    if i + 1 == n {
+    if i + 1 == rules.blocks {
         return put_line(text, at, k + 1, next, row);
     }
-    let e = put_rest(
-        sums,
-        fits,
-        longest,
-        most,
-        n,
-        k + 1,
-        i + 1,
-        i + 1,
-        next,
-        row,
-        text,
-        at,
-    );
-    put_rest(
-        sums,
-        fits,
-        longest,
-        most,
-        n,
-        k,
-        a,
-        i + 1,
-        number,
-        row,
-        text,
-        e,
-    )
+    let e = put_rest(sums, fits, rules, k + 1, i + 1, i + 1, next, row, text, at);
+    put_rest(sums, fits, rules, k, a, i + 1, number, row, text, e)
 }
 
-// The lines of every layout of n blocks, from the start of a text on.
-pub fn put_all(sums: &[u64], fits: &[bool], longest: usize, most: usize, n: usize, text: &mut [u8])
-    requires { ⌜ Holds (now sums) n ⌝ }
-    requires { ⌜ Choosing n 0 0 0 (now fits) ⌝ }
-    requires { ⌜ length (linesAfter (now sums) 0 0 (2 ^ 60) [] (rests (okBy (now fits) longest) most n 0 0 0)) ≤ length (now text) ⌝ }
-    ensures { λ _. ⌜ now (text .exit)
-        ≡ placed 0 (linesAfter (now (sums .entry)) 0 0 (2 ^ 60) [] (rests (okBy (now (fits .entry)) longest) most n 0 0 0)) (now (text .entry)) ⌝ }
+// The lines of every layout, from the start of a text on.
+pub fn put_all(sums: &[u64], fits: &[bool], rules: Rules, text: &mut [u8])
+    requires { ⌜ Holds (now sums) (rules .blocks) ⌝ }
+    requires { ⌜ Choosing (rules .blocks) 0 0 0 (now fits) ⌝ }
+    requires { ⌜ length (linesAfter (now sums) 0 0 (2 ^ 60) [] (rests (okBy (now fits) (rules .longest)) (rules .most) (rules .blocks) 0 0 0))
+        ≤ length (now text) ⌝ }
+    ensures { λ _. ⌜ now (text .exit) ≡ placed 0 (linesAfter (now (sums .entry)) 0 0 (2 ^ 60) []
+        (rests (okBy (now (fits .entry)) (rules .longest)) (rules .most) (rules .blocks) 0 0 0)) (now (text .entry)) ⌝ }
 {
     let mut row = [0u8; ROW];
-    put_rest(
-        sums,
-        fits,
-        longest,
-        most,
-        n,
-        0,
-        0,
-        0,
-        BASE,
-        &mut row[..],
-        text,
-        0,
-    );
+    put_rest(sums, fits, rules, 0, 0, 0, BASE, &mut row[..], text, 0);
 }

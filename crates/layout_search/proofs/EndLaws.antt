@@ -1,5 +1,5 @@
 -- The cost of a layout end by end: what each end adds does not depend on the partitions behind it. Assumes nothing.
-use Prim.Native.Nat.{ℕ, _+_, _-_, _*_, _^_, _≤_, _<_}
+use Prim.Native.Nat.{ℕ, _+_, _-_, _*_, _≤_, _<_}
 use mathlib.Core.Path.{_≡_}
 use mathlib.Core.List.{List, [], _∷_}
 use native.Mathlib.Omega.{arith}
@@ -7,7 +7,7 @@ use lib.ListN.{length}
 use Rattle.layout_search.specs.Sums.{span, spans}
 use Rattle.layout_search.specs.Task.{Covers}
 use Rattle.layout_search.specs.RunningSums.{sumsPerPlace, perPartitionAdded, perPartitionSaved, sumAt, sumOver, addsOf, takesOf, Rising, Holds}
-use Rattle.layout_search.specs.RunningSums.{LocalPrice, endUp, endDown, upBy, downBy, EndPriced}
+use Rattle.layout_search.specs.RunningSums.{LocalPrice, upBy, downBy, EndPriced}
 use Rattle.layout_search.proofs.PriceLaws.{product-grows, rises, span-by-sums, saved-by-sums, sum-small, span-most}
 
 module _ (sums : List ℕ) (n : ℕ) (h : Rising sums n) where

@@ -1,11 +1,11 @@
 -- What checking a set for a listing and listing its layouts answer. Assumes nothing.
 use Prim.Native.Nat.{ℕ, _+_, _*_, _^_, _≤_, _<_}
-use mathlib.Core.Path.{_≡_, refl, sym, ap, ap₂, _∙_, subst}
-use mathlib.Core.Bool.{Bool, true, false, not, cond}
+use mathlib.Core.Path.{_≡_, refl, sym, ap, ap₂, _∙_}
+use mathlib.Core.Bool.{Bool, not, cond}
 use mathlib.Core.List.{List, [], _∷_, _++_, map}
 use native.Mathlib.Omega.{arith}
 use borrow.Author.Tests.{le-leb, lt-leb, eq-eqb, ne-eqb}
-use lib.Dec.{T, leb, eqb, leb→le}
+use lib.Dec.{leb, eqb, leb→le}
 use lib.ListN.{length, drop}
 use Rattle.model.specs.declared.PriceCard.{PriceCard}
 use Rattle.model.specs.declared.Limits.{Limits}
@@ -14,7 +14,6 @@ use Rattle.model.specs.Bounds.{mostListedBlocks}
 use Rattle.model.specs.Lists.{sumOf}
 use Rattle.model.specs.Checks.{Check, ask, firstFailed}
 use Rattle.model.specs.Blocks.{Set, blocks}
-use Rattle.model.specs.Layouts.{mostPartitions, longestPartition}
 use Rattle.model.specs.Plan.{permittedLayouts}
 use Rattle.model.specs.Listing.{fewBlocks, listingText}
 use Rattle.model.specs.Questions.{listingChecks}
@@ -26,18 +25,17 @@ use Rattle.fields.proofs.Placing.{placed-first}
 use Rattle.layout_search.specs.RunningSums.{sumsPerPlace, Holds}
 use Rattle.block_costs.specs.Terms.{Summed}
 use Rattle.permitted.specs.Given.{givenChecks, Marked}
-use Rattle.permitted.proofs.Permitted.{Flagged, flagged, Ready}
+use Rattle.permitted.proofs.Permitted.{flagged}
+use Rattle.layout_lines.specs.declared.Rules.{Rules}
 use Rattle.layout_lines.specs.Rests.{okBy, rests, lineBytes, linesAfter, Sized}
-use Rattle.listing.specs.Answers.{checkedOf}
+use Rattle.listing.specs.Answers.{rulesOf, checkedOf}
 use Rattle.listing.proofs.Rests.{listed-permitted-ones, length-listing, lines-listing}
 
--- what the recursion lists, by numbers that are what they must be
-the-ones : (p : PriceCard) (l : Limits) (s : Set) {n longest most : ℕ} {old flags : List Bool} → n ≡ blocks s → longest ≡ longestPartition p l → most ≡ mostPartitions p l → 1 ≤ blocks s
-    → Marked (s .block) (s .used) (s .growers) n old flags → rests (okBy flags longest) most n 0 0 0 ≡ permittedLayouts p l s
-the-ones p l s {n} {longest} {most} {old} {flags} eb el em ok m =
-    ap (λ (j : ℕ). rests (okBy flags longest) most j 0 0 0) eb
-    ∙ ap₂ (λ (a b : ℕ). rests (okBy flags a) b (blocks s) 0 0 0) el em
-    ∙ listed-permitted-ones p l (flagged s n old flags eb ok m)
+-- what the recursion lists, by rules and blocks that are what they must be
+the-ones : (p : PriceCard) (l : Limits) (s : Set) {rules : Rules} {n : ℕ} {old flags : List Bool} → rules ≡ rulesOf p l n → n ≡ blocks s → 1 ≤ blocks s
+    → Marked (s .block) (s .used) (s .growers) n old flags → rests (okBy flags (rules .longest)) (rules .most) (rules .blocks) 0 0 0 ≡ permittedLayouts p l s
+the-ones p l s {rules} {n} {old} {flags} er eb ok m =
+    ap (λ (r : Rules). rests (okBy flags (r .longest)) (r .most) (r .blocks) 0 0 0) (er ∙ ap (rulesOf p l) eb) ∙ listed-permitted-ones p l (flagged s n old flags eb ok m)
 
 module _ (L : ℕ) (p : PriceCard) (l : Limits) (s : Set) (hs : List ℕ) (room : ℕ) where
   -- the last three checks
@@ -79,11 +77,11 @@ pub record Counted (L : ℕ) (p : PriceCard) (l : Limits) (s : Set) (hs : List �
   pub count : layouts ≡ length (permittedLayouts p l s)
   pub size : bytes ≡ length (listingText L p l s hs)
 
-pub counted : (L : ℕ) (p : PriceCard) (l : Limits) (s : Set) (hs : List ℕ) {layouts bytes n longest most : ℕ} {old flags : List Bool} → firstFailed (givenChecks L p l s hs) ≡ 0
-    → blocks s ≤ mostListedBlocks → n ≡ blocks s → longest ≡ longestPartition p l → most ≡ mostPartitions p l → 1 ≤ blocks s → Marked (s .block) (s .used) (s .growers) n old flags
-    → Sized layouts bytes 0 (rests (okBy flags longest) most n 0 0 0) → Counted L p l s hs layouts bytes
-counted L p l s hs given small eb el em ok m z =
-    let e = the-ones p l s eb el em ok m in
+pub counted : (L : ℕ) (p : PriceCard) (l : Limits) (s : Set) (hs : List ℕ) {layouts bytes n : ℕ} {rules : Rules} {old flags : List Bool} → firstFailed (givenChecks L p l s hs) ≡ 0
+    → blocks s ≤ mostListedBlocks → rules ≡ rulesOf p l n → n ≡ blocks s → 1 ≤ blocks s → Marked (s .block) (s .used) (s .growers) n old flags
+    → Sized layouts bytes 0 (rests (okBy flags (rules .longest)) (rules .most) (rules .blocks) 0 0 0) → Counted L p l s hs layouts bytes
+counted L p l s hs given small er eb ok m z =
+    let e = the-ones p l s er eb ok m in
     record {
       given = given;
       small = small;
@@ -169,9 +167,9 @@ module _ (L : ℕ) (p : PriceCard) (l : Limits) (s : Set) (hs out : List ℕ) (x
       ap₂ {C = ListResult} (λ (y : Listed) (u : List ℕ). record { answer = y; text = u }) (e ∙ checked-by 0 k) (q ∙ placed-first lines out) ∙ sym (called-by 0 k)
 
 -- what the recursion is to write
-pub lines-are : (L : ℕ) (p : PriceCard) (l : Limits) (s : Set) (hs sums : List ℕ) (n longest most : ℕ) (old flags : List Bool) → n ≡ blocks s → longest ≡ longestPartition p l
-    → most ≡ mostPartitions p l → 1 ≤ blocks s → Summed L p hs ((n + 1) * sumsPerPlace) sums → Holds sums n → Marked (s .block) (s .used) (s .growers) n old flags
-    → linesAfter sums 0 0 (2 ^ 60) [] (rests (okBy flags longest) most n 0 0 0) ≡ listingText L p l s hs
-lines-are L p l s hs sums n longest most old flags eb el em ok added holds m =
+pub lines-are : (L : ℕ) (p : PriceCard) (l : Limits) (s : Set) (hs sums : List ℕ) (rules : Rules) (n : ℕ) (old flags : List Bool) → rules ≡ rulesOf p l n → n ≡ blocks s → 1 ≤ blocks s
+    → Summed L p hs ((n + 1) * sumsPerPlace) sums → Holds sums n → Marked (s .block) (s .used) (s .growers) n old flags
+    → linesAfter sums 0 0 (2 ^ 60) [] (rests (okBy flags (rules .longest)) (rules .most) (rules .blocks) 0 0 0) ≡ listingText L p l s hs
+lines-are L p l s hs sums rules n old flags er eb ok added holds m =
     let f = flagged s n old flags eb ok m in
-    lines-listing l (record { summed = rw eb at added; flagged = f }) (rw eb at holds) _ (the-ones p l s eb el em ok m)
+    lines-listing l (record { summed = rw eb at added; flagged = f }) (rw eb at holds) _ (the-ones p l s er eb ok m)

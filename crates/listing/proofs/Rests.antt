@@ -1,10 +1,10 @@
 -- What follows no chosen end is the permitted layouts, its lines are the listing, and its size the listing's. Assumes nothing.
-use Prim.Native.Nat.{ℕ, _+_, _-_, _*_, _^_, _≤_, _<_}
-use mathlib.Core.Path.{_≡_, refl, sym, ap, ap₂, _∙_}
-use mathlib.Core.Bool.{Bool, _&&_}
+use Prim.Native.Nat.{ℕ, _+_, _-_, _^_, _≤_}
+use mathlib.Core.Path.{_≡_, sym, ap, ap₂, _∙_}
+use mathlib.Core.Bool.{Bool}
 use mathlib.Core.List.{List, [], _∷_, _++_, map, flatten, List·Memᴰ}
 use native.Mathlib.Omega.{arith}
-use lib.Dec.{T, leb, leb→le, le→leb}
+use lib.Dec.{T, leb→le, le→leb}
 use lib.ListN.{length}
 use lib.IntN.{ℤ, subℕ}
 use Rattle.model.specs.declared.PriceCard.{PriceCard}
@@ -22,12 +22,12 @@ use Rattle.model.proofs.LayoutLaws.{Cut, every-layout, layout-cut}
 use Rattle.model.proofs.PlanLaws.{listed-permitted}
 use Rattle.model.proofs.GrowerLaws.{all-members, map-agree, keep-agree}
 use Rattle.model.proofs.ListingLaws.{length-parts, length-joined}
-use Rattle.layout_search.specs.Task.{Task, Layout, Allowed, adds, takes}
+use Rattle.layout_search.specs.Task.{Task, Layout}
 use Rattle.layout_search.specs.RunningSums.{taskOf, Holds, upBy, downBy}
 use Rattle.layout_search.proofs.EndLaws.{up-by-ends, down-by-ends}
 use Rattle.block_costs.proofs.LayoutCost.{cut-covers}
 use Rattle.permitted.proofs.Permitted.{Flagged, layout-cuts, permitted-laid, laid-permitted, Ready, permitted-allowed, cost-by-sums}
-use Rattle.layout_lines.specs.Rests.{restOk, okBy, rests, lineBytes, costAfter, lineAfter, linesAfter, Sized}
+use Rattle.layout_lines.specs.Rests.{restOk, okBy, rests, lineBytes, costAfter, lineAfter, linesAfter}
 
 -- ends that may follow are a layout of the search's, and the other way round
 module _ (sums : List ℕ) (fits : List Bool) (longest most n : ℕ) where

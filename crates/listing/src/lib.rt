@@ -3,7 +3,9 @@ ghost use mathlib.Core.Path.{_≡_};
 ghost use Rattle.model.specs.Bounds.{blockLimit};
 ghost use Rattle.model.specs.Lent.{setIn};
 ghost use Rattle.model.specs.ListingCalls.{listed, listCall};
-ghost use Rattle.listing.specs.Answers.{checkedOf};
+ghost use Rattle.block_costs.specs.Terms.{PricesPass};
+ghost use Rattle.listing.specs.Answers.{rulesOf, checkedOf};
+use layout_lines::Rules;
 use layout_search::SUMS_PER_PLACE;
 use model::Limits;
 use model::Listed;
@@ -28,6 +30,20 @@ fn refused(n: u32) -> Listed
         refusal: n,
         layouts: 0,
         bytes: 0,
+    }
+}
+
+// What the limits let a layout of so many blocks be.
+fn rules_of(card: PriceCard, limits: Limits, blocks: usize) -> Rules
+    requires { ⌜ PricesPass card ⌝ }
+    ensures { λ r. ⌜ r ≡ rulesOf card limits blocks ⌝ }
+{
+    let longest = permitted::longest_partition(card, limits);
+    let most = permitted::most_partitions(card, limits);
+    Rules {
+        longest,
+        most,
+        blocks,
     }
 }
 
@@ -62,11 +78,10 @@ fn check_listing(
     if MOST_LISTED_BLOCKS < n {
         return refused(TOO_MANY_BLOCKS);
     }
-    let longest = permitted::longest_partition(card, limits);
-    let most = permitted::most_partitions(card, limits);
+    let rules = rules_of(card, limits, n);
     let mut fits = [false; MOST_LISTED_BLOCKS];
     permitted::mark(block, used, growers, n, &mut fits[..]);
-    let s = layout_lines::size_rest(&fits[..], longest, most, n, 0, 0, 0);
+    let s = layout_lines::size_rest(&fits[..], rules, 0, 0, 0);
     if s.layouts == 0 {
         return refused(NONE_PERMITTED);
     }
@@ -111,12 +126,11 @@ pub fn list_layouts(
         return checked;
     }
     let n = sets::block_count(block, used) as usize;
-    let longest = permitted::longest_partition(card, limits);
-    let most = permitted::most_partitions(card, limits);
+    let rules = rules_of(card, limits, n);
     let mut sums = [0u64; SUMS];
     let mut fits = [false; MOST_LISTED_BLOCKS];
     block_costs::add_up(card, histograms, n, &mut sums[..]);
     permitted::mark(block, used, growers, n, &mut fits[..]);
-    layout_lines::put_all(&sums[..], &fits[..], longest, most, n, text);
+    layout_lines::put_all(&sums[..], &fits[..], rules, text);
     checked
 }

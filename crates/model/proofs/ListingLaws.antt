@@ -2,7 +2,7 @@
 use Prim.Native.Nat.{ℕ, zero, suc, _+_, _-_, _*_, _≤_, _<_}
 use mathlib.Core.Path.{_≡_, refl, sym, ap, _∙_, subst}
 use mathlib.Core.Logic.{_⊎_, inl, inr}
-use mathlib.Core.Bool.{Bool, true, false, cond, _&&_}
+use mathlib.Core.Bool.{Bool, true, false, cond}
 use mathlib.Core.List.{List, [], _∷_, _++_, map, flatten, List·Memᴰ, List·Memᴰ·cases-cons, List·Memᴰ·not-nil}
 use native.Mathlib.Omega.{arith}
 use borrow.Author.Tests.{lt-ltb, le-ltb}
@@ -14,14 +14,13 @@ use Rattle.model.specs.declared.Limits.{Limits}
 use Rattle.model.specs.Lists.{sumOf, every, keep, sameList}
 use Rattle.model.specs.Blocks.{Set, blocks}
 use Rattle.model.specs.Layouts.{permitted, layoutsFrom, everyLayout}
-use Rattle.model.specs.Plan.{decide, permittedLayouts}
+use Rattle.model.specs.Plan.{permittedLayouts}
 use Rattle.model.specs.Fields.{numberField, signedField, line}
-use Rattle.model.specs.Listing.{layoutLine, listingText, earlierEnd, earlierFirst}
+use Rattle.model.specs.Listing.{earlierEnd, earlierFirst}
 use Rattle.model.proofs.Tests.{and-fst, and-snd, and-mk, is-true, of-true}
 use Rattle.model.proofs.ListLaws.{every-joined, every-kept}
 use Rattle.model.proofs.FieldLaws.{same-self, same-eq, length-number, length-signed}
 use Rattle.model.proofs.LineLaws.{length-line}
-use Rattle.model.proofs.MovesKeep.{All}
 use Rattle.model.proofs.GrowerLaws.{all-members, none-kept}
 use Rattle.model.proofs.PlanLaws.{permitted-listed, listed-permitted}
 

@@ -1,14 +1,13 @@
 -- The listing of every permitted layout: the theorem that specs/Listing.antt states. Assumes nothing.
-use Prim.Native.Nat.{ℕ, suc, _≤_, _<_}
+use Prim.Native.Nat.{ℕ, _≤_, _<_}
 use mathlib.Core.Path.{_≡_, refl, sym, ap, _∙_}
 use mathlib.Core.Logic.{_↔_}
 use mathlib.Core.Bool.{Bool, true, false, not, cond}
-use mathlib.Core.List.{List, [], _∷_, _++_, map, flatten, List·Memᴰ·head}
+use mathlib.Core.List.{List, [], _∷_, _++_, flatten, List·Memᴰ·head}
 use native.Mathlib.Omega.{arith}
 use borrow.Author.Tests.{le-leb, lt-leb, leb-false}
 use lib.Dec.{T, leb, eqb}
 use lib.ListN.{length, drop}
-use lib.IntN.{ℤ}
 use Rattle.model.specs.declared.PriceCard.{PriceCard}
 use Rattle.model.specs.declared.Limits.{Limits}
 use Rattle.model.specs.declared.Costed.{Costed}
@@ -26,8 +25,8 @@ use Rattle.model.proofs.Tests.{first-passed, refusal-kept}
 use Rattle.model.proofs.PlanLaws.{listed-permitted}
 use Rattle.model.proofs.GrowerLaws.{all-members, map-agree}
 use Rattle.model.proofs.ListingLaws.{permitted-once, permitted-in-order}
-use Rattle.theorems.specs.Plan.{Admitted, layoutOf}
-use Rattle.theorems.specs.Listing.{lines, listing, planning, LayoutsListed, EveryPermittedListed}
+use Rattle.theorems.specs.Plan.{Admitted}
+use Rattle.theorems.specs.Listing.{lines, listing, planning, EveryPermittedListed}
 use Rattle.theorems.proofs.PlanChecks.{prices-pass, set-passes}
 use Rattle.theorems.proofs.PlanAnswers.{listed-any, some-blocks, lastTwo, last-two, not-eleven, bill-answered, refusal-planned, layout-permitted, layout-billed, layout-chosen}
 

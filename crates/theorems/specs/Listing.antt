@@ -7,7 +7,6 @@ use mathlib.Core.Option.{some}
 use mathlib.Core.List.{List, [], _++_, map, flatten}
 use lib.ListN.{length, drop}
 use lib.Dec.{T}
-use lib.IntN.{ℤ}
 use Rattle.model.specs.declared.PriceCard.{PriceCard}
 use Rattle.model.specs.declared.Limits.{Limits}
 use Rattle.model.specs.Bounds.{mostListedBlocks}

@@ -26,7 +26,7 @@ use Rattle.layout_lines.proofs.+put_rest.{statement}
 use Rattle.layout_lines.proofs.+put_rest.Tie.{close}
 
 abbrev μ : Measures 4 put-rest-kinds.ps ℕ
-μ κs a = a .1 .1 .1 .1 .0 - a .1 .1 .1 .1 .1 .1 .1 .0
+μ κs a = a .1 .1 .0 .blocks - a .1 .1 .1 .1 .1 .0
 
 -- what `put_rest` is given at the measure t, and what a call of it asks below t
 abbrev at : ℕ → In 4 put-rest-kinds.ps
@@ -56,12 +56,12 @@ module _ (t : ℕ) where
   goes-at c = c .before .before .before .before
 
   abbrev place : Start → Place
-  place s = let a = s .args in record { fits = a .fits .now; longest = a .longest; most = a .most; n = a .n; k = a .k; a = a .a; i = a .i }
+  place s = let a = s .args in record { fits = a .fits .now; longest = a .rules .longest; most = a .rules .most; n = a .rules .blocks; k = a .k; a = a .a; i = a .i }
 
-  holds : (c : Goes) → (let a = start c .args in Holds (a .sums .now) (a .n))
+  holds : (c : Goes) → (let a = start c .args in Holds (a .sums .now) (a .rules .blocks))
   holds c = start c .pre .1 .0
 
-  choosing : (c : Goes) → (let a = start c .args in Choosing (a .n) (a .k) (a .a) (a .i) (a .fits .now))
+  choosing : (c : Goes) → (let a = start c .args in Choosing (a .rules .blocks) (a .k) (a .a) (a .i) (a .fits .now))
   choosing c = start c .pre .1 .1 .0 .0
 
   carrying : (c : Goes) → (let a = start c .args in Carrying (a .k) (a .number) (a .row .now))
@@ -74,7 +74,7 @@ module _ (t : ℕ) where
   short c = is-short (place (start c)) (goes c)
 
   -- blocks are left, and fewer
-  more : (c : Goes) → (let a = start c .args in (a .i + 1 ≡ a .n → ⊥) → (a .i + 1 < a .n) × (a .n - (a .i + 1) < t))
+  more : (c : Goes) → (let a = start c .args in (a .i + 1 ≡ a .rules .blocks → ⊥) → (a .i + 1 < a .rules .blocks) × (a .rules .blocks - (a .i + 1) < t))
   more c h = omega (arith, choosing c .inside, start c .pre .0)
 
   -- the fields of the chosen ends, and room for one more
@@ -85,10 +85,10 @@ module _ (t : ℕ) where
   front-size c = length-take-le _ (start c .args .row .now) (omega (arith, row-room c))
 
   -- what is listed past a block without an end, at the last block, and at another that is an end
-  passes : (c : lts.Else3 (claims t) (at t) put-rest.Post) → (let x = place (start (c .before .before .before)) in followed x ≡ followed (later x))
+  passes : (c : lts.Else3 (claims t) (at t) put-rest.Post) → (let x = place (start (c .before .before .before .before)) in followed x ≡ followed (later x))
   passes c =
-      let g = c .before .before .before in
-      passed-over (place (start g)) (short g) (more g (c .if3 .left) .0) (not-true _ (c .before .if2 .taken))
+      let g = c .before .before .before .before in
+      passed-over (place (start g)) (short g) (more g (c .if3 .left) .0) (not-true _ (c .before .before .if2 .taken))
 
   flag : (c : Chosen) → (let a = start (goes-at c) .args in getD (a .fits .now) (a .i) false ≡ true)
   flag c = not-false _ (c .before .before .if2 .left)
@@ -97,17 +97,17 @@ module _ (t : ℕ) where
   ends c e = let g = goes-at c in last-end (place (start g)) (short g) e (more-fit (place (start g)) (goes g)) (flag c)
 
   goes-on : (c : lts.Else4 (claims t) (at t) put-rest.Post)
-      → (let x = place (start (goes-at (c .before .before .before))) in followed x ≡ map (λ (es : List ℕ). x .i ∷ es) (followed (behind x)) ++ followed (later x))
+      → (let x = place (start (goes-at (c .before .before .before .before))) in followed x ≡ map (λ (es : List ℕ). x .i ∷ es) (followed (behind x)) ++ followed (later x))
   goes-on c =
-      let d = c .before .before .before in
+      let d = c .before .before .before .before in
       let g = goes-at d in
       chosen-or-not (place (start g)) (short g) (more g (c .if4 .left) .0) (flag d)
 
   -- the row is as long as it was
-  row-long : (c : lts.After-put-rest2 (claims t) (at t) put-rest.Post) → 132 ≤ length (c .put-rest2 .last .1 .1 .1 .1 .1 .1 .1 .1 .1 .0)
+  row-long : (c : lts.After-put-rest2 (claims t) (at t) put-rest.Post) → 132 ≤ length (c .put-rest2 .last .1 .1 .1 .1 .1 .1 .1 .0)
   row-long c =
-      let d = c .before .before .before .before .before .before in
-      let same = c .put-rest2 .kept .1 .1 .1 .1 .1 .1 .1 .1 .1 .0 in
+      let d = c .before .before .before .before .before .before .before in
+      let same = c .put-rest2 .kept .1 .1 .1 .1 .1 .1 .1 .0 in
       omega (arith, d .choose .ensures .carrying .room, same)
 
 pub +put-rest-spec : {M : Type 1} → statement M
@@ -116,11 +116,11 @@ pub +put-rest-spec : {M : Type 1} → statement M
     (λ c. let x = place t (c .before .before .before .before .before .before) in none-put x _ _ _ _ _ (stops x (sym (c .before .goes-on .ensures) ∙ not-true _ (c .if1 .taken))))
     (λ c. let k = choosing t (c .before) in omega (arith, k .flags, k .inside))
     (λ c. let k = choosing t (c .before .before) in omega (arith, k .few, k .inside))
-    (λ c. let g = c .before .before .before in let x = place t (start t g) in none-put x _ _ _ _ _ (no-end x (short t g) (c .if3 .taken) (not-true _ (c .before .if2 .taken))))
-    (λ c. let k = choosing t (c .before .before .before) in omega (arith, k .few, k .inside))
+    (λ c. let g = c .before .before .before .before in let x = place t (start t g) in none-put x _ _ _ _ _ (no-end x (short t g) (c .if3 .taken) (not-true _ (c .before .before .if2 .taken))))
+    (λ c. let k = choosing t (c .before .before .before .before) in omega (arith, k .few, k .inside))
     (λ c κs.
     let e = c .before .before in
-    let g = e .before .before .before in
+    let g = e .before .before .before .before in
     let m = more t g (e .if3 .left) in
     (m .1, (holds t g, ((choosing-later (choosing t g) (m .0), carrying t g), passed-room (place t (start t g)) _ _ _ _ (start t g .args .text .now) (passes t e) (start t g .pre .1 .1 .1)))))
     (λ c. search needs)
@@ -128,16 +128,16 @@ pub +put-rest-spec : {M : Type 1} → statement M
     (λ c.
     let r = c .before .before .before .before in
     let e = r .before .before .before in
-    passed-put (place t (start t (e .before .before .before))) _ _ _ _ _ (passes t e) (r .put-rest .ensures))
+    passed-put (place t (start t (e .before .before .before .before))) _ _ _ _ _ (passes t e) (r .put-rest .ensures))
     (λ c κs.
     let g = c .before .before .before in
     let k = choosing t g in
     (holds-less _ _ _ (holds t g) (omega (arith, k .inside)), (k .first, omega (arith, k .few, k .inside), omega (arith, k .few, k .inside, k .first, k .count), carrying t g)))
     (λ c. let k = choosing t (goes-at t (c .before .before)) in omega (arith, k .few, k .inside))
-    (λ c. let k = choosing t (goes-at t (c .before .before .before .before)) in omega (arith, k .few, k .inside, k .first, k .count))
+    (λ c. let k = choosing t (goes-at t (c .before .before .before .before .before)) in omega (arith, k .few, k .inside, k .first, k .count))
     (λ c κs.
     let e = c .before .before in
-    let d = e .before .before .before in
+    let d = e .before .before .before .before in
     let g = goes-at t d in
     let k = choosing t g in (
       omega (arith, k .few, k .inside, k .first, k .count),
@@ -149,15 +149,15 @@ pub +put-rest-spec : {M : Type 1} → statement M
     (λ c.
     let r = c .before .before in
     let e = r .before .before .before in
-    let d = e .before .before .before in
+    let d = e .before .before .before .before in
     let g = goes-at t d in
     last-put (place t (start t g)) _ _ _ _ _ (d .choose .ensures) (row-room t g) (ends t d (e .if4 .taken)) (r .put-line .ensures))
-    (λ c. let k = choosing t (goes-at t (c .before .before .before)) in omega (arith, k .few, k .inside, k .first, k .count))
-    (λ c. let k = choosing t (goes-at t (c .before .before .before)) in omega (arith, k .few, k .inside))
-    (λ c. let k = choosing t (goes-at t (c .before .before .before)) in omega (arith, k .few, k .inside))
+    (λ c. let k = choosing t (goes-at t (c .before .before .before .before)) in omega (arith, k .few, k .inside, k .first, k .count))
+    (λ c. let k = choosing t (goes-at t (c .before .before .before .before)) in omega (arith, k .few, k .inside))
+    (λ c. let k = choosing t (goes-at t (c .before .before .before .before)) in omega (arith, k .few, k .inside))
     (λ c κs.
     let e = c .before .before in
-    let d = e .before .before .before in
+    let d = e .before .before .before .before in
     let g = goes-at t d in
     let m = more t g (e .if4 .left) in (
       m .1,
@@ -169,11 +169,11 @@ pub +put-rest-spec : {M : Type 1} → statement M
         ),
       ),
     ))
-    (λ c. let k = choosing t (goes-at t (c .before .before .before .before .before .before .before .before .before .before)) in omega (arith, k .few, k .inside))
+    (λ c. let k = choosing t (goes-at t (c .before .before .before .before .before .before .before .before .before .before .before)) in omega (arith, k .few, k .inside))
     (λ c κs.
     let r = c .before .before .before .before .before .before in
     let e = r .before .before .before in
-    let d = e .before .before .before in
+    let d = e .before .before .before .before in
     let g = goes-at t d in
     let m = more t g (e .if4 .left) in (
       m .1,
@@ -191,6 +191,6 @@ pub +put-rest-spec : {M : Type 1} → statement M
     let l = c .before .before .before .before in
     let r = l .before .before .before .before .before .before .before in
     let e = r .before .before .before in
-    let d = e .before .before .before in
+    let d = e .before .before .before .before in
     let g = goes-at t d in
     both-put (place t (start t g)) _ _ _ _ _ (d .choose .ensures) (row-room t g) (goes-on t e) (start t g .pre .1 .1 .1) (r .put-rest2 .ensures) (l .put-rest3 .ensures))

@@ -1,12 +1,11 @@
 -- The proof of the cycle of calls {size_rest}. The measure is the blocks that are left, n - i. What follows the chosen ends is nothing, the last block
 -- alone, what follows past block i, or that and what follows an end at i; sizes add up as the lists do. Assumes nothing.
-use Prim.Native.Nat.{ℕ, _+_, _-_, _*_, _≤_, _<_}
+use Prim.Native.Nat.{ℕ, _+_, _-_, _≤_, _<_}
 use mathlib.Core.Path.{_≡_, sym, _∙_}
-use mathlib.Core.Bool.{true, _&&_}
+use mathlib.Core.Bool.{true}
 use native.Mathlib.Omega.{arith}
 use borrow.Author.Needs.{needs}
 use borrow.Author.Tests.{not-true, not-false}
-use lib.Dec.{leb, ltb}
 use borrow.Fn.Kinds.{In}
 use borrow.Fn.PlainCycle.{Measures, is, falls, and}
 use Rattle.layout_lines.specs.Rests.{Choosing}
@@ -22,7 +21,7 @@ use Rattle.layout_lines.proofs.+size_rest.{statement}
 use Rattle.layout_lines.proofs.+size_rest.Tie.{close}
 
 abbrev μ : Measures 1 size-rest-kinds.ps ℕ
-μ κs a = a .1 .1 .1 .0 - a .1 .1 .1 .1 .1 .1 .0
+μ κs a = a .1 .0 .blocks - a .1 .1 .1 .1 .0
 
 -- what `size_rest` is given at the measure t, and what a call of it asks below t
 abbrev at : ℕ → In 1 size-rest-kinds.ps
@@ -50,12 +49,12 @@ module _ (t : ℕ) where
   start c = c .before .before .before
 
   abbrev goes-at : Chosen → Goes
-  goes-at c = c .before .before .before
+  goes-at c = c .before .before .before .before
 
   abbrev place : Start → Place
-  place s = let a = s .args in record { fits = a .fits .now; longest = a .longest; most = a .most; n = a .n; k = a .k; a = a .a; i = a .i }
+  place s = let a = s .args in record { fits = a .fits .now; longest = a .rules .longest; most = a .rules .most; n = a .rules .blocks; k = a .k; a = a .a; i = a .i }
 
-  choosing : (c : Goes) → (let a = start c .args in Choosing (a .n) (a .k) (a .a) (a .i) (a .fits .now))
+  choosing : (c : Goes) → (let a = start c .args in Choosing (a .rules .blocks) (a .k) (a .a) (a .i) (a .fits .now))
   choosing c = start c .pre .1
 
   goes : (c : Goes) → goesOn (place (start c)) ≡ true
@@ -65,7 +64,7 @@ module _ (t : ℕ) where
   short c = is-short (place (start c)) (goes c)
 
   -- blocks are left, and fewer
-  more : (c : Goes) → (let a = start c .args in (a .i + 1 ≡ a .n → ⊥) → (a .i + 1 < a .n) × (a .n - (a .i + 1) < t))
+  more : (c : Goes) → (let a = start c .args in (a .i + 1 ≡ a .rules .blocks → ⊥) → (a .i + 1 < a .rules .blocks) × (a .rules .blocks - (a .i + 1) < t))
   more c h = omega (arith, choosing c .inside, start c .pre .0)
 
   -- both sizes are small
@@ -89,19 +88,19 @@ pub +size-rest-spec : {M : Type 1} → statement M
     (λ c. let k = choosing t (c .before .before) in omega (arith, k .few, k .inside))
     (λ c κs. search needs)
     (λ c.
-    let f = c .before .before in
+    let f = c .before .before .before in
     sized-none (c .nothing2 .ensures .0) (c .nothing2 .ensures .1) (no-end (place t (start t (f .before .before))) (short t (f .before .before)) (c .before .if3 .taken) (not-true _ (f .if2 .taken))))
-    (λ c. let k = choosing t (c .before .before .before) in omega (arith, k .few, k .inside))
-    (λ c κs. let g = c .before .before .before in let m = more t g (c .if3 .left) in (m .1, choosing-later (choosing t g) (m .0)))
+    (λ c. let k = choosing t (c .before .before .before .before) in omega (arith, k .few, k .inside))
+    (λ c κs. let g = c .before .before .before .before in let m = more t g (c .if3 .left) in (m .1, choosing-later (choosing t g) (m .0)))
     (λ c.
-    let f = c .before .before in
+    let f = c .before .before .before in
     let g = f .before .before in
     sized-as (c .size-rest .ensures) (passed-over (place t (start t g)) (short t g) (more t g (c .before .if3 .left) .0) (not-true _ (f .if2 .taken))))
     (λ c. let k = choosing t (c .before .before) in omega (arith, k .few, k .inside))
-    (λ c. let k = choosing t (c .before .before .before) in omega (arith, k .few, k .inside, k .first, k .count))
-    (λ c κs. let k = choosing t (c .before .before .before) in omega (arith, k .few, k .inside, k .first, k .count))
+    (λ c. let k = choosing t (c .before .before .before .before) in omega (arith, k .few, k .inside, k .first, k .count))
+    (λ c κs. let k = choosing t (c .before .before .before .before) in omega (arith, k .few, k .inside, k .first, k .count))
     (λ c.
-    let f = c .before .before in
+    let f = c .before .before .before in
     let g = f .before .before in
     sized-one (c .one-of .ensures .0) (c .one-of .ensures .1)
     (last-end (place t (start t g)) (short t g) (c .before .if4 .taken) (more-fit (place t (start t g)) (goes t g)) (not-false _ (f .if2 .left))))
@@ -118,4 +117,4 @@ pub +size-rest-spec : {M : Type 1} → statement M
     let e = l .before .before in
     let g = goes-at t e in
     sized-both (place t (start t g) .i) (l .before .size-rest2 .ensures) (l .size-rest3 .ensures)
-    (chosen-or-not (place t (start t g)) (short t g) (more t g (e .if4 .left) .0) (not-false _ (e .before .if2 .left))))
+    (chosen-or-not (place t (start t g)) (short t g) (more t g (e .if4 .left) .0) (not-false _ (e .before .before .if2 .left))))

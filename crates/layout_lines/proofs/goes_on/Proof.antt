@@ -9,7 +9,7 @@ returns : tie.Need-returns
 returns c = and-no _ _ (le-ltb _ _ (c .if1 .taken))
 
 returns-2 : tie.Need-returns-2
-returns-2 c = and-yes _ _ (lt-ltb _ _ (c .if1 .left))
+returns-2 c = and-yes _ _ (lt-ltb _ _ (c .before .if1 .left))
 
 pub goes-on-spec : {M : Type 1} → statement M
 goes-on-spec = tie.close (tie.spec returns (λ c. search needs) (λ c. search needs) returns-2)

@@ -1,13 +1,14 @@
 -- `listing::check_listing` meets its contract: past the checks of what is given and 23, what `size_rest` counts is the permitted layouts and their lines, which 11 and 15 are put of.
 -- Assumes nothing.
 use Prim.Native.Nat.{_≤_}
-use mathlib.Core.Path.{_≡_, sym, _∙_}
+use mathlib.Core.Path.{_≡_, sym, ap, _∙_}
 use native.Mathlib.Omega.{arith}
 use borrow.Author.Needs.{needs}
 use Rattle.model.specs.Bounds.{blockLimit, mostListedBlocks}
 use Rattle.model.specs.Checks.{firstFailed}
 use Rattle.model.specs.Blocks.{Set, blocks}
 use Rattle.model.specs.Lent.{setOf}
+use Rattle.layout_lines.specs.declared.Rules.{Rules}
 use Rattle.permitted.specs.Given.{givenChecks}
 use Rattle.permitted.proofs.Given.{Given, plan-given}
 use Rattle.listing.proofs.ListingAnswers.{not-given, too-many, Counted, counted, none-there, too-short, accepted}
@@ -48,33 +49,37 @@ returns-2 c =
     too-many blockLimit (s .args .card) (s .args .limits) (the-set s) (s .args .histograms .now) (s .args .room) (passed g) _ (omega (arith, n .block-count .ensures, c .before .if2 .taken))
     (c .refused2 .ensures)
 
-longest-partition-requires : tie.Need-longest-partition-requires
-longest-partition-requires c κs = given (c .before .before) .prices
-
-most-partitions-requires : tie.Need-most-partitions-requires
-most-partitions-requires c κs = given (c .before .before .before) .prices
+rules-of-requires : tie.Need-rules-of-requires
+rules-of-requires c κs = given (c .before .before) .prices
 
 mark-requires : tie.Need-mark-requires
-mark-requires c κs = let e = c .before .before .before in (given (e .before .before) .size, omega (arith, small e))
+mark-requires c κs = let e = c .before .before in (given (e .before .before) .size, omega (arith, small e))
 
 size-rest-requires : tie.Need-size-rest-requires
 size-rest-requires c κs =
     let m = c .before .before in
-    let w = small (m .before .before .before .before) in
-    record { few = w .1; flags = omega (arith, w .1, m .mark .ensures .long); inside = omega (arith, w .0); first = omega arith; count = omega arith }
+    let r = m .before .before in
+    let w = small (r .before) in
+    let b = ap (λ (x : Rules). x .blocks) (r .rules-of .ensures) in
+    record {
+      few = omega (arith, w .1);
+      flags = omega (arith, w .1, m .mark .ensures .long);
+      inside = omega (arith, w .0);
+      first = omega arith;
+      count = omega arith;
+    }
 
 -- the layouts counted
-all : (c : tie.After-size-rest) → (let s = start (c .before .before .before .before .before .before .before .before .before) in
+all : (c : tie.After-size-rest) → (let s = start (c .before .before .before .before .before .before .before .before) in
     Counted blockLimit (s .args .card) (s .args .limits) (the-set s) (s .args .histograms .now) (c .size-rest .result .layouts) (c .size-rest .result .bytes))
 all c =
     let m = c .before .before .before in
-    let most = m .before .before in
-    let longest = most .before in
-    let e = longest .before in
+    let r = m .before .before in
+    let e = r .before in
     let n = e .before in
     let s = start (n .before) in
-    counted blockLimit (s .args .card) (s .args .limits) (the-set s) (s .args .histograms .now) (passed (n .before)) (few e) (n .block-count .ensures) (longest .longest-partition .ensures)
-    (most .most-partitions .ensures) (given (n .before) .some) (m .mark .ensures) (c .size-rest .ensures)
+    counted blockLimit (s .args .card) (s .args .limits) (the-set s) (s .args .histograms .now) (passed (n .before)) (few e) (r .rules-of .ensures) (n .block-count .ensures)
+    (given (n .before) .some) (m .mark .ensures) (c .size-rest .ensures)
 
 returns-3 : tie.Need-returns-3
 returns-3 c = none-there (all (c .before .before .before)) _ _ (c .before .if3 .taken) (c .refused3 .ensures)
@@ -96,8 +101,7 @@ check-listing-spec =
     (λ c. search needs)
     (λ c κs. search needs)
     returns-2
-    longest-partition-requires
-    most-partitions-requires
+    rules-of-requires
     (λ c. search needs)
     mark-requires
     (λ c. search needs)

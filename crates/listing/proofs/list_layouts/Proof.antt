@@ -13,6 +13,7 @@ use Rattle.fields.specs.Writing.{placed}
 use Rattle.layout_search.specs.RunningSums.{Holds}
 use Rattle.block_costs.proofs.TermLaws.{summed-holds}
 use Rattle.permitted.proofs.Given.{Given, plan-given}
+use Rattle.layout_lines.specs.declared.Rules.{Rules}
 use Rattle.layout_lines.specs.Rests.{okBy, rests, linesAfter}
 use Rattle.listing.proofs.ListingAnswers.{list-refused, CanList, can-list, list-done, lines-are}
 use Rattle.listing.proofs.list_layouts.Statement.{statement}
@@ -42,28 +43,25 @@ returns c = list-refused _ _ _ _ _ _ _ (c .before .before .check-listing .ensure
 block-count-requires : tie.Need-block-count-requires
 block-count-requires c κs = let y = given c .size in omega (arith, y .block-least, y .block-most, y .used-fits, y .slots-most)
 
-longest-partition-requires : tie.Need-longest-partition-requires
-longest-partition-requires c κs = given (c .before) .prices
-
-most-partitions-requires : tie.Need-most-partitions-requires
-most-partitions-requires c κs = given (c .before .before) .prices
+rules-of-requires : tie.Need-rules-of-requires
+rules-of-requires c κs = given (c .before) .prices
 
 add-up-requires : tie.Need-add-up-requires
-add-up-requires c κs = let n = c .before .before .before in let g = given (n .before) in (g .counts, (g .prices, omega (arith, few n)))
+add-up-requires c κs = let n = c .before .before in let g = given (n .before) in (g .counts, (g .prices, omega (arith, few n)))
 
 mark-requires : tie.Need-mark-requires
-mark-requires c κs = let n = c .before .before .before .before .before .before in (given (n .before) .size, omega (arith, few n))
+mark-requires c κs = let n = c .before .before .before .before .before in (given (n .before) .size, omega (arith, few n))
 
 -- what the search for lines is lent
 
 abbrev added : tie.After-mark → tie.After-add-up
 added c = c .before .before .before
 
-abbrev most : tie.After-mark → tie.After-most-partitions
-most c = added c .before .before
+abbrev ruled : tie.After-mark → tie.After-rules-of
+ruled c = added c .before .before
 
 abbrev count : tie.After-mark → tie.After-block-count
-count c = most c .before .before
+count c = ruled c .before
 
 holds : (c : tie.After-mark) → Holds (added c .add-up .last .1 .1 .1 .0) (count c .block-count .result)
 holds c =
@@ -74,22 +72,29 @@ holds c =
 
 lines : (c : tie.After-mark) → (let s = start (count c .before) in
     linesAfter (added c .add-up .last .1 .1 .1 .0) 0 0 (2 ^ 60) []
-    (rests (okBy (c .mark .last .1 .1 .1 .1 .0) (most c .before .longest-partition .result)) (most c .most-partitions .result) (count c .block-count .result) 0 0 0)
+    (rests (okBy (c .mark .last .1 .1 .1 .1 .0) (ruled c .rules-of .result .longest)) (ruled c .rules-of .result .most) (ruled c .rules-of .result .blocks) 0 0 0)
     ≡ listingText blockLimit (s .args .card) (s .args .limits) (the-set s) (s .args .histograms .now))
 lines c =
     let n = count c in
     let s = start (n .before) in
-    lines-are blockLimit (s .args .card) (s .args .limits) (the-set s) (s .args .histograms .now) _ _ _ _ _ _ (n .block-count .ensures) (most c .before .longest-partition .ensures)
-    (most c .most-partitions .ensures) (given (n .before) .some) (added c .add-up .ensures .summed) (holds c) (c .mark .ensures)
+    lines-are blockLimit (s .args .card) (s .args .limits) (the-set s) (s .args .histograms .now) _ _ _ _ _ (ruled c .rules-of .ensures) (n .block-count .ensures) (given (n .before) .some)
+    (added c .add-up .ensures .summed) (holds c) (c .mark .ensures)
 
 put-all-requires : tie.Need-put-all-requires
 put-all-requires c κs =
     let m = c .before .before .before .before in
     let n = count m in
-    let w = few n in (
-      holds m,
+    let w = few n in
+    let b = ap (λ (x : Rules). x .blocks) (ruled m .rules-of .ensures) in (
+      rw b (holds m),
       (
-        record { few = w .1; flags = omega (arith, w .1, m .mark .ensures .long); inside = omega (arith, w .0); first = omega arith; count = omega arith },
+        record {
+          few = omega (arith, w .1);
+          flags = omega (arith, w .1, m .mark .ensures .long);
+          inside = omega (arith, w .0);
+          first = omega arith;
+          count = omega arith;
+        },
         omega (arith, ap length (lines m), can (n .before) .room),
       ),
     )
@@ -110,8 +115,7 @@ list-layouts-spec =
     returns
     block-count-requires
     (λ c. search needs)
-    longest-partition-requires
-    most-partitions-requires
+    rules-of-requires
     (λ c. search needs)
     add-up-requires
     (λ c. search needs)
