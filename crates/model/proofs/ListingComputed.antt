@@ -4,6 +4,10 @@ use mathlib.Core.Path.{refl}
 use Rattle.model.specs.ListingExamples.{ListingComputed, ListingQuestions}
 use Rattle.model.proofs.Computing.{computed}
 
+pub listing-questions : (L : ℕ) → ListingQuestions L
+unfolding computed
+listing-questions L = record { asked = λ p l s hs room. refl }
+
 pub listing-computed : ListingComputed
 unfolding computed
 listing-computed = record {
@@ -27,7 +31,3 @@ listing-computed = record {
   left-alone = refl;
   past-the-lines = refl;
 }
-
-pub listing-questions : (L : ℕ) → ListingQuestions L
-unfolding computed
-listing-questions L = record { asked = λ p l s hs room. refl }

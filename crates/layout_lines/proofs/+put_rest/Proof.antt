@@ -110,87 +110,117 @@ module _ (t : ℕ) where
       let same = c .put-rest2 .kept .1 .1 .1 .1 .1 .1 .1 .0 in
       omega (arith, d .choose .ensures .carrying .room, same)
 
+  returns : lts.Need-returns (claims t) (at t) put-rest.Post
+  returns c = let x = place (c .before .before .before .before .before .before) in none-put x _ _ _ _ _ (stops x (sym (c .before .goes-on .ensures) ∙ not-true _ (c .if1 .taken)))
+
+  returns-2 : lts.Need-returns-2 (claims t) (at t) put-rest.Post
+  returns-2 c = let g = c .before .before .before .before in let x = place (start g) in none-put x _ _ _ _ _ (no-end x (short g) (c .if3 .taken) (not-true _ (c .before .before .if2 .taken)))
+
+  put-rest-requires : lts.Need-put-rest-requires (claims t) (at t) put-rest.Post
+  put-rest-requires c κs =
+      let e = c .before .before in
+      let g = e .before .before .before .before in
+      let m = more g (e .if3 .left) in
+      (m .1, (holds g, ((choosing-later (choosing g) (m .0), carrying g), passed-room (place (start g)) _ _ _ _ (start g .args .text .now) (passes e) (start g .pre .1 .1 .1))))
+
+  returns-3 : lts.Need-returns-3 (claims t) (at t) put-rest.Post
+  returns-3 c =
+      let r = c .before .before .before .before in
+      let e = r .before .before .before in
+      passed-put (place (start (e .before .before .before .before))) _ _ _ _ _ (passes e) (r .put-rest .ensures)
+
+  choose-requires : lts.Need-choose-requires (claims t) (at t) put-rest.Post
+  choose-requires c κs =
+      let g = c .before .before .before in
+      let k = choosing g in
+      (holds-less _ _ _ (holds g) (omega (arith, k .inside)), (k .first, omega (arith, k .few, k .inside), omega (arith, k .few, k .inside, k .first, k .count), carrying g))
+
+  put-line-requires : lts.Need-put-line-requires (claims t) (at t) put-rest.Post
+  put-line-requires c κs =
+      let e = c .before .before in
+      let d = e .before .before .before .before in
+      let g = goes-at d in
+      let k = choosing g in (
+        omega (arith, k .few, k .inside, k .first, k .count),
+        d .choose .ensures .carrying,
+        last-room (place (start g)) _ _ _ _ (start g .args .text .now) (d .choose .ensures) (row-room g) (ends d (e .if4 .taken)) (front-size g) (start g .pre .1 .1 .1),
+      )
+
+  returns-4 : lts.Need-returns-4 (claims t) (at t) put-rest.Post
+  returns-4 c =
+      let r = c .before .before in
+      let e = r .before .before .before in
+      let d = e .before .before .before .before in
+      let g = goes-at d in
+      last-put (place (start g)) _ _ _ _ _ (d .choose .ensures) (row-room g) (ends d (e .if4 .taken)) (r .put-line .ensures)
+
+  put-rest-requires-2 : lts.Need-put-rest-requires-2 (claims t) (at t) put-rest.Post
+  put-rest-requires-2 c κs =
+      let e = c .before .before in
+      let d = e .before .before .before .before in
+      let g = goes-at d in
+      let m = more g (e .if4 .left) in (
+        m .1,
+        (
+          holds g,
+          (
+            (choosing-behind (choosing g) (m .0), d .choose .ensures .carrying),
+            here-room (place (start g)) _ _ _ _ (start g .args .text .now) (d .choose .ensures) (row-room g) (goes-on e) (start g .pre .1 .1 .1),
+          ),
+        ),
+      )
+
+  put-rest-requires-3 : lts.Need-put-rest-requires-3 (claims t) (at t) put-rest.Post
+  put-rest-requires-3 c κs =
+      let r = c .before .before .before .before .before .before in
+      let e = r .before .before .before in
+      let d = e .before .before .before .before in
+      let g = goes-at d in
+      let m = more g (e .if4 .left) in (
+        m .1,
+        (
+          holds g,
+          (
+            (choosing-later (choosing g) (m .0), record { room = row-long r; high = carrying g .high; low = carrying g .low }),
+            past-room (place (start g)) _ _ _ _ _ (d .choose .ensures) (row-room g) (goes-on e) (start g .pre .1 .1 .1) (r .put-rest2 .ensures),
+          ),
+        ),
+      )
+
+  returns-5 : lts.Need-returns-5 (claims t) (at t) put-rest.Post
+  returns-5 c =
+      let l = c .before .before .before .before in
+      let r = l .before .before .before .before .before .before .before in
+      let e = r .before .before .before in
+      let d = e .before .before .before .before in
+      let g = goes-at d in
+      both-put (place (start g)) _ _ _ _ _ (d .choose .ensures) (row-room g) (goes-on e) (start g .pre .1 .1 .1) (r .put-rest2 .ensures) (l .put-rest3 .ensures)
+
 pub +put-rest-spec : {M : Type 1} → statement M
 +put-rest-spec = close μ λ t. lts.spec (claims t) (at t) put-rest.Post
     (λ c κs. let k = c .before .before .before .before .pre .1 .1 .0 .0 in omega (arith, k .few, k .inside, k .first))
-    (λ c. let x = place t (c .before .before .before .before .before .before) in none-put x _ _ _ _ _ (stops x (sym (c .before .goes-on .ensures) ∙ not-true _ (c .if1 .taken))))
+    (returns t)
     (λ c. let k = choosing t (c .before) in omega (arith, k .flags, k .inside))
     (λ c. let k = choosing t (c .before .before) in omega (arith, k .few, k .inside))
-    (λ c. let g = c .before .before .before .before in let x = place t (start t g) in none-put x _ _ _ _ _ (no-end x (short t g) (c .if3 .taken) (not-true _ (c .before .before .if2 .taken))))
+    (returns-2 t)
     (λ c. let k = choosing t (c .before .before .before .before) in omega (arith, k .few, k .inside))
-    (λ c κs.
-    let e = c .before .before in
-    let g = e .before .before .before .before in
-    let m = more t g (e .if3 .left) in
-    (m .1, (holds t g, ((choosing-later (choosing t g) (m .0), carrying t g), passed-room (place t (start t g)) _ _ _ _ (start t g .args .text .now) (passes t e) (start t g .pre .1 .1 .1)))))
+    (put-rest-requires t)
     (λ c. search needs)
     (λ c. search needs)
-    (λ c.
-    let r = c .before .before .before .before in
-    let e = r .before .before .before in
-    passed-put (place t (start t (e .before .before .before .before))) _ _ _ _ _ (passes t e) (r .put-rest .ensures))
-    (λ c κs.
-    let g = c .before .before .before in
-    let k = choosing t g in
-    (holds-less _ _ _ (holds t g) (omega (arith, k .inside)), (k .first, omega (arith, k .few, k .inside), omega (arith, k .few, k .inside, k .first, k .count), carrying t g)))
+    (returns-3 t)
+    (choose-requires t)
     (λ c. let k = choosing t (goes-at t (c .before .before)) in omega (arith, k .few, k .inside))
     (λ c. let k = choosing t (goes-at t (c .before .before .before .before .before)) in omega (arith, k .few, k .inside, k .first, k .count))
-    (λ c κs.
-    let e = c .before .before in
-    let d = e .before .before .before .before in
-    let g = goes-at t d in
-    let k = choosing t g in (
-      omega (arith, k .few, k .inside, k .first, k .count),
-      d .choose .ensures .carrying,
-      last-room (place t (start t g)) _ _ _ _ (start t g .args .text .now) (d .choose .ensures) (row-room t g) (ends t d (e .if4 .taken)) (front-size t g) (start t g .pre .1 .1 .1),
-    ))
+    (put-line-requires t)
     (λ c. search needs)
     (λ c. search needs)
-    (λ c.
-    let r = c .before .before in
-    let e = r .before .before .before in
-    let d = e .before .before .before .before in
-    let g = goes-at t d in
-    last-put (place t (start t g)) _ _ _ _ _ (d .choose .ensures) (row-room t g) (ends t d (e .if4 .taken)) (r .put-line .ensures))
+    (returns-4 t)
     (λ c. let k = choosing t (goes-at t (c .before .before .before .before)) in omega (arith, k .few, k .inside, k .first, k .count))
     (λ c. let k = choosing t (goes-at t (c .before .before .before .before)) in omega (arith, k .few, k .inside))
     (λ c. let k = choosing t (goes-at t (c .before .before .before .before)) in omega (arith, k .few, k .inside))
-    (λ c κs.
-    let e = c .before .before in
-    let d = e .before .before .before .before in
-    let g = goes-at t d in
-    let m = more t g (e .if4 .left) in (
-      m .1,
-      (
-        holds t g,
-        (
-          (choosing-behind (choosing t g) (m .0), d .choose .ensures .carrying),
-          here-room (place t (start t g)) _ _ _ _ (start t g .args .text .now) (d .choose .ensures) (row-room t g) (goes-on t e) (start t g .pre .1 .1 .1),
-        ),
-      ),
-    ))
+    (put-rest-requires-2 t)
     (λ c. let k = choosing t (goes-at t (c .before .before .before .before .before .before .before .before .before .before .before)) in omega (arith, k .few, k .inside))
-    (λ c κs.
-    let r = c .before .before .before .before .before .before in
-    let e = r .before .before .before in
-    let d = e .before .before .before .before in
-    let g = goes-at t d in
-    let m = more t g (e .if4 .left) in (
-      m .1,
-      (
-        holds t g,
-        (
-          (choosing-later (choosing t g) (m .0), record { room = row-long t r; high = carrying t g .high; low = carrying t g .low }),
-          past-room (place t (start t g)) _ _ _ _ _ (d .choose .ensures) (row-room t g) (goes-on t e) (start t g .pre .1 .1 .1) (r .put-rest2 .ensures),
-        ),
-      ),
-    ))
+    (put-rest-requires-3 t)
     (λ c. search needs)
     (λ c. search needs)
-    (λ c.
-    let l = c .before .before .before .before in
-    let r = l .before .before .before .before .before .before .before in
-    let e = r .before .before .before in
-    let d = e .before .before .before .before in
-    let g = goes-at t d in
-    both-put (place t (start t g)) _ _ _ _ _ (d .choose .ensures) (row-room t g) (goes-on t e) (start t g .pre .1 .1 .1) (r .put-rest2 .ensures) (l .put-rest3 .ensures))
+    (returns-5 t)

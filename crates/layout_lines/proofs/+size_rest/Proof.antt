@@ -79,42 +79,69 @@ module _ (t : ℕ) where
       let l = few-sized (later x) (choosing-later (choosing g) m) (c .size-rest3 .ensures) in
       (omega arith, omega arith)
 
+  returns : lts.Need-returns (claims t) (at t) size-rest.Post
+  returns c =
+      let g = c .before .before in
+      let x = place (g .before .before) in
+      sized-none (c .nothing .ensures .0) (c .nothing .ensures .1) (stops x (sym (g .goes-on .ensures) ∙ not-true _ (c .before .if1 .taken)))
+
+  returns-2 : lts.Need-returns-2 (claims t) (at t) size-rest.Post
+  returns-2 c =
+      let f = c .before .before .before in
+      sized-none (c .nothing2 .ensures .0) (c .nothing2 .ensures .1) (no-end (place (start (f .before .before))) (short (f .before .before)) (c .before .if3 .taken) (not-true _ (f .if2 .taken)))
+
+  size-rest-requires : lts.Need-size-rest-requires (claims t) (at t) size-rest.Post
+  size-rest-requires c κs = let g = c .before .before .before .before in let m = more g (c .if3 .left) in (m .1, choosing-later (choosing g) (m .0))
+
+  returns-3 : lts.Need-returns-3 (claims t) (at t) size-rest.Post
+  returns-3 c =
+      let f = c .before .before .before in
+      let g = f .before .before in
+      sized-as (c .size-rest .ensures) (passed-over (place (start g)) (short g) (more g (c .before .if3 .left) .0) (not-true _ (f .if2 .taken)))
+
+  returns-4 : lts.Need-returns-4 (claims t) (at t) size-rest.Post
+  returns-4 c =
+      let f = c .before .before .before in
+      let g = f .before .before in
+      sized-one (c .one-of .ensures .0) (c .one-of .ensures .1)
+      (last-end (place (start g)) (short g) (c .before .if4 .taken) (more-fit (place (start g)) (goes g)) (not-false _ (f .if2 .left)))
+
+  size-rest-requires-2 : lts.Need-size-rest-requires-2 (claims t) (at t) size-rest.Post
+  size-rest-requires-2 c κs = let g = goes-at c in let m = more g (c .if4 .left) in (m .1, choosing-behind (choosing g) (m .0))
+
+  size-rest-requires-3 : lts.Need-size-rest-requires-3 (claims t) (at t) size-rest.Post
+  size-rest-requires-3 c κs = let g = goes-at (c .before) in let m = more g (c .before .if4 .left) in (m .1, choosing-later (choosing g) (m .0))
+
+  returns-5 : lts.Need-returns-5 (claims t) (at t) size-rest.Post
+  returns-5 c =
+      let l = c .before .before .before .before in
+      let e = l .before .before in
+      let g = goes-at e in
+      sized-both (place (start g) .i) (l .before .size-rest2 .ensures) (l .size-rest3 .ensures)
+      (chosen-or-not (place (start g)) (short g) (more g (e .if4 .left) .0) (not-false _ (e .before .before .if2 .left)))
+
 pub +size-rest-spec : {M : Type 1} → statement M
 +size-rest-spec = close μ λ t. lts.spec (claims t) (at t) size-rest.Post
     (λ c κs. let k = c .before .pre .1 in omega (arith, k .few, k .inside, k .first))
     (λ c κs. search needs)
-    (λ c. sized-none (c .nothing .ensures .0) (c .nothing .ensures .1) (stops (place t (c .before .before .before .before)) (sym (c .before .before .goes-on .ensures) ∙ not-true _ (c .before .if1 .taken))))
+    (returns t)
     (λ c. let k = choosing t (c .before) in omega (arith, k .flags, k .inside))
     (λ c. let k = choosing t (c .before .before) in omega (arith, k .few, k .inside))
     (λ c κs. search needs)
-    (λ c.
-    let f = c .before .before .before in
-    sized-none (c .nothing2 .ensures .0) (c .nothing2 .ensures .1) (no-end (place t (start t (f .before .before))) (short t (f .before .before)) (c .before .if3 .taken) (not-true _ (f .if2 .taken))))
+    (returns-2 t)
     (λ c. let k = choosing t (c .before .before .before .before) in omega (arith, k .few, k .inside))
-    (λ c κs. let g = c .before .before .before .before in let m = more t g (c .if3 .left) in (m .1, choosing-later (choosing t g) (m .0)))
-    (λ c.
-    let f = c .before .before .before in
-    let g = f .before .before in
-    sized-as (c .size-rest .ensures) (passed-over (place t (start t g)) (short t g) (more t g (c .before .if3 .left) .0) (not-true _ (f .if2 .taken))))
+    (size-rest-requires t)
+    (returns-3 t)
     (λ c. let k = choosing t (c .before .before) in omega (arith, k .few, k .inside))
     (λ c. let k = choosing t (c .before .before .before .before) in omega (arith, k .few, k .inside, k .first, k .count))
     (λ c κs. let k = choosing t (c .before .before .before .before) in omega (arith, k .few, k .inside, k .first, k .count))
-    (λ c.
-    let f = c .before .before .before in
-    let g = f .before .before in
-    sized-one (c .one-of .ensures .0) (c .one-of .ensures .1)
-    (last-end (place t (start t g)) (short t g) (c .before .if4 .taken) (more-fit (place t (start t g)) (goes t g)) (not-false _ (f .if2 .left))))
+    (returns-4 t)
     (λ c. let k = choosing t (goes-at t c) in omega (arith, k .few, k .inside, k .first, k .count))
     (λ c. let k = choosing t (goes-at t c) in omega (arith, k .few, k .inside))
     (λ c. let k = choosing t (goes-at t c) in omega (arith, k .few, k .inside))
-    (λ c κs. let g = goes-at t c in let m = more t g (c .if4 .left) in (m .1, choosing-behind (choosing t g) (m .0)))
+    (size-rest-requires-2 t)
     (λ c. let k = choosing t (goes-at t (c .before)) in omega (arith, k .few, k .inside))
-    (λ c κs. let g = goes-at t (c .before) in let m = more t g (c .before .if4 .left) in (m .1, choosing-later (choosing t g) (m .0)))
+    (size-rest-requires-3 t)
     (λ c. omega (arith, few-here t (c .before .before)))
     (λ c. omega (arith, few-here t (c .before .before .before .before)))
-    (λ c.
-    let l = c .before .before .before .before in
-    let e = l .before .before in
-    let g = goes-at t e in
-    sized-both (place t (start t g) .i) (l .before .size-rest2 .ensures) (l .size-rest3 .ensures)
-    (chosen-or-not (place t (start t g)) (short t g) (more t g (e .if4 .left) .0) (not-false _ (e .before .before .if2 .left))))
+    (returns-5 t)

@@ -29,7 +29,9 @@ start c = c .before .before .before .before .before .before .before .before
 
 can : (c : tie.Else1) → (let s = start c in
     CanList blockLimit (s .args .card) (s .args .limits) (the-set s) (s .args .histograms .now) (s .args .text .now) _ (c .before .before .check-listing .ensures))
-can c = let s = start c in can-list blockLimit (s .args .card) (s .args .limits) (the-set s) (s .args .histograms .now) (s .args .text .now) _ (c .before .before .check-listing .ensures) (c .if1 .left)
+can c =
+    let s = start c in
+    can-list blockLimit (s .args .card) (s .args .limits) (the-set s) (s .args .histograms .now) (s .args .text .now) _ (c .before .before .check-listing .ensures) (c .if1 .left)
 
 given : (c : tie.Else1) → (let s = start c in Given blockLimit (s .args .card) (the-set s) (s .args .histograms .now))
 given c = let s = start c in plan-given blockLimit (s .args .card) (the-set s) (s .args .histograms .now) (s .args .limits) (can c .given)
