@@ -73,7 +73,7 @@ fn calls() {
     println!();
     planner();
     println!();
-    lessons();
+    layouts_listed();
 }
 
 /// The planner, by the count of blocks.
@@ -83,7 +83,7 @@ fn planner() {
 }
 
 /// Listings of every layout, by the count of blocks.
-fn lessons() {
+fn layouts_listed() {
     heading("call", "N", "second");
     [4, 8, 12].into_iter().for_each(listings::run);
 }
@@ -98,7 +98,7 @@ fn main() {
         ["sheets"] => settlements(),
         ["csv"] => files(),
         ["plans"] => planner(),
-        ["listings"] => lessons(),
+        ["listings"] => layouts_listed(),
         ["calibrate"] => calibrate::survey(),
         ["calibrate", block] => match block.parse() {
             Ok(block @ 1..=BLOCK_LENGTH_LIMIT) => calibrate::run(block),

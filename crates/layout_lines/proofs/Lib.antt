@@ -3,3 +3,4 @@ pub mod RestLaws
 pub mod SizeLaws
 pub mod LineLaws
 pub mod PutLaws
+pub mod RestsComputed

@@ -10,7 +10,7 @@ use Rattle.model.specs.Bounds.{mostListedBlocks}
 use Rattle.model.specs.Lists.{sumOf, keep}
 use Rattle.model.specs.Layouts.{layoutsFrom}
 use Rattle.model.proofs.ListLaws.{keep-fewer}
-use Rattle.layout_lines.specs.Rests.{restOk, okBy, rests, lineBytes, Sized, Choosing}
+use Rattle.layout_lines.specs.Rests.{restOk, okBy, rests, lineBytes, LinesSize, Choosing}
 use Rattle.layout_lines.proofs.RestLaws.{Place, followed}
 
 -- the bytes of the lines
@@ -79,7 +79,7 @@ module _ (ok : ℕ → ℕ → Bool) (most n k a i : ℕ) (h : n ≤ mostListedB
 
 -- What the code answers.
 
-pub few-sized : (x : Place) {layouts bytes : ℕ} → Choosing (x .n) (x .k) (x .a) (x .i) (x .fits) → Sized layouts bytes (x .k) (followed x) → (layouts ≤ 2048) × (bytes ≤ 335872)
+pub few-sized : (x : Place) {layouts bytes : ℕ} → Choosing (x .n) (x .k) (x .a) (x .i) (x .fits) → LinesSize layouts bytes (x .k) (followed x) → (layouts ≤ 2048) × (bytes ≤ 335872)
 few-sized x c s =
     let ok = okBy (x .fits) (x .longest) in
     let f : x .k ≤ x .i = omega (arith, c .first, c .count) in (
@@ -87,7 +87,7 @@ few-sized x c s =
       omega (arith, s .size, few-bytes ok (x .most) (x .n) (x .k) (x .a) (x .i) (c .few) (c .inside) f),
     )
 
-pub sized-none : {x b k : ℕ} {ls : List (List ℕ)} → x ≡ 0 → b ≡ 0 → ls ≡ [] → Sized x b k ls
+pub sized-none : {x b k : ℕ} {ls : List (List ℕ)} → x ≡ 0 → b ≡ 0 → ls ≡ [] → LinesSize x b k ls
 unfolding sumOf
 sized-none {x} {b} {k} p q e = record { count = p ∙ sym (ap length e); size = q ∙ sym (ap (total k) e) }
 
@@ -95,14 +95,14 @@ pub total-one : (k i : ℕ) (ls : List (List ℕ)) → ls ≡ (i ∷ []) ∷ [] 
 unfolding sumOf
 total-one k i ls e = let z = ap (total k) e in omega arith
 
-pub sized-one : {x b k i : ℕ} {ls : List (List ℕ)} → x ≡ 1 → b ≡ 32 + 11 * (k + 1) → ls ≡ (i ∷ []) ∷ [] → Sized x b k ls
+pub sized-one : {x b k i : ℕ} {ls : List (List ℕ)} → x ≡ 1 → b ≡ 32 + 11 * (k + 1) → ls ≡ (i ∷ []) ∷ [] → LinesSize x b k ls
 sized-one {x} {b} {k} {i} {ls} p q e = record { count = p ∙ sym (ap length e); size = q ∙ sym (total-one k i ls e) }
 
-pub sized-as : {x b k : ℕ} {ls ms : List (List ℕ)} → Sized x b k ls → ms ≡ ls → Sized x b k ms
-sized-as {x} {b} {k} s e = subst (λ (l : List (List ℕ)). Sized x b k l) (sym e) s
+pub sized-as : {x b k : ℕ} {ls ms : List (List ℕ)} → LinesSize x b k ls → ms ≡ ls → LinesSize x b k ms
+sized-as {x} {b} {k} s e = subst (λ (l : List (List ℕ)). LinesSize x b k l) (sym e) s
 
-pub sized-both : (i : ℕ) {x b y d k : ℕ} {ls here later : List (List ℕ)} → Sized x b (k + 1) here → Sized y d k later
-    → ls ≡ map (λ (es : List ℕ). i ∷ es) here ++ later → Sized (x + y) (b + d) k ls
+pub sized-both : (i : ℕ) {x b y d k : ℕ} {ls here later : List (List ℕ)} → LinesSize x b (k + 1) here → LinesSize y d k later
+    → ls ≡ map (λ (es : List ℕ). i ∷ es) here ++ later → LinesSize (x + y) (b + d) k ls
 sized-both i {k = k} {here = here} {later} s t e =
     let m = map (λ (es : List ℕ). i ∷ es) here in
     record {

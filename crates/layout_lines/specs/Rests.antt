@@ -31,7 +31,7 @@ abbrev pub lineBytes : ℕ → List ℕ → ℕ
 lineBytes k es = 32 + 11 * (k + length es)
 
 -- how many layouts there are, and the bytes of their lines
-pub record Sized (layouts bytes k : ℕ) (ls : List (List ℕ)) : Type 0 where
+pub record LinesSize (layouts bytes k : ℕ) (ls : List (List ℕ)) : Type 0 where
   pub count : layouts ≡ length ls
   pub size : bytes ≡ sumOf (map (lineBytes k) ls)
 

@@ -10,7 +10,7 @@ ghost use Rattle.model.specs.Fields.{numberField, signedField, lineEnd};
 ghost use lib.IntN.{subℕ};
 ghost use Rattle.layout_search.specs.RunningSums.{Holds};
 ghost use Rattle.fields.specs.Writing.{Wrote, placed};
-ghost use Rattle.layout_lines.specs.Rests.{okBy, rests, Sized, linesAfter, Choosing, Carrying, Chose, PutLines};
+ghost use Rattle.layout_lines.specs.Rests.{okBy, rests, LinesSize, linesAfter, Choosing, Carrying, Chose, PutLines};
 use fields::SIGNED_WIDTH;
 use fields::WIDTH;
 use layout_search::BASE;
@@ -72,7 +72,7 @@ fn goes_on(rules: Rules, k: usize, a: usize, i: usize) -> bool
 // How many layouts k chosen ends can go on to, and the bytes of their lines: the next partition begins at block a, its end is i or later.
 pub fn size_rest(fits: &[bool], rules: Rules, k: usize, a: usize, i: usize) -> Size
     requires { ⌜ Choosing (rules .blocks) k a i (now fits) ⌝ }
-    ensures { λ r. ⌜ Sized (r .layouts) (r .bytes) k (rests (okBy (now (fits .entry)) (rules .longest)) (rules .most) (rules .blocks) k a i) ⌝ }
+    ensures { λ r. ⌜ LinesSize (r .layouts) (r .bytes) k (rests (okBy (now (fits .entry)) (rules .longest)) (rules .most) (rules .blocks) k a i) ⌝ }
 {
     if !goes_on(rules, k, a, i) {
         return nothing();

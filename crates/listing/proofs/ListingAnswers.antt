@@ -27,7 +27,7 @@ use Rattle.block_costs.specs.Terms.{Summed}
 use Rattle.permitted.specs.Given.{givenChecks, Marked}
 use Rattle.permitted.proofs.Permitted.{flagged}
 use Rattle.layout_lines.specs.declared.Rules.{Rules}
-use Rattle.layout_lines.specs.Rests.{okBy, rests, lineBytes, linesAfter, Sized}
+use Rattle.layout_lines.specs.Rests.{okBy, rests, lineBytes, linesAfter, LinesSize}
 use Rattle.listing.specs.Answers.{rulesOf, checkedOf}
 use Rattle.listing.proofs.Rests.{listed-permitted-ones, length-listing, lines-listing}
 
@@ -79,7 +79,7 @@ pub record Counted (L : ℕ) (p : PriceCard) (l : Limits) (s : Set) (hs : List �
 
 pub counted : (L : ℕ) (p : PriceCard) (l : Limits) (s : Set) (hs : List ℕ) {layouts bytes n : ℕ} {rules : Rules} {old flags : List Bool} → firstFailed (givenChecks L p l s hs) ≡ 0
     → blocks s ≤ mostListedBlocks → rules ≡ rulesOf p l n → n ≡ blocks s → 1 ≤ blocks s → Marked (s .block) (s .used) (s .growers) n old flags
-    → Sized layouts bytes 0 (rests (okBy flags (rules .longest)) (rules .most) (rules .blocks) 0 0 0) → Counted L p l s hs layouts bytes
+    → LinesSize layouts bytes 0 (rests (okBy flags (rules .longest)) (rules .most) (rules .blocks) 0 0 0) → Counted L p l s hs layouts bytes
 counted L p l s hs given small er eb ok m z =
     let e = the-ones p l s er eb ok m in
     record {
