@@ -2,7 +2,7 @@
 use Prim.Native.Nat.{ℕ, zero, suc, _+_, _-_, _≤_, _<_}
 use mathlib.Core.Path.{_≡_, refl, sym, ap, ap₂, _∙_}
 use mathlib.Core.Logic.{_⊎_, inl, inr}
-use mathlib.Core.Bool.{Bool, true, false, cond, _&&_}
+use mathlib.Core.Bool.{Bool, true, false, cond, _&&_, and-false}
 use mathlib.Core.List.{List, [], _∷_, _++_, map}
 use native.Mathlib.Omega.{arith}
 use borrow.Author.Tests.{ltb-false, leb-false, lt-leb, le-leb}
@@ -66,11 +66,7 @@ module _ (ok : ℕ → ℕ → Bool) (most : ℕ) where
   -- nothing follows where no end may stand from block i on, or where there are ends enough
   none-follows : (c k a i : ℕ) → ((e : ℕ) → i ≤ e → ok a e ≡ false) ⊎ (most ≤ k) → from k a i c ≡ []
   none-follows zero k a i (inl f) = at-last k a i false (rw (f i (omega arith)) refl)
-  none-follows zero k a i (inr h) = at-last k a i false (rw (lt-leb (k + 1) most (omega arith)) (no-more (ok a i)))
-    where
-      no-more : (b : Bool) → b && false ≡ false
-      no-more true = refl
-      no-more false = refl
+  none-follows zero k a i (inr h) = at-last k a i false (rw (lt-leb (k + 1) most (omega arith)) (and-false (ok a i)))
   none-follows (suc c) k a i (inl f) = later-only c k a i (f i (omega arith)) ∙ none-follows c k a (i + 1) (inl (λ e h. f e (omega arith)))
   none-follows (suc c) k a i (inr h) = go (ok a i) refl (none-follows c (k + 1) (i + 1) (i + 1) (inr (omega arith))) (none-follows c k a (i + 1) (inr h))
     where

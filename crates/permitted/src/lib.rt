@@ -57,7 +57,7 @@ fn given_ok(card: PriceCard, limits: Limits) -> bool
     limits_ok(limits)
 }
 
-// Checks 1, 2, 3, 4, 5, 8 and 9 of the planner.
+// Checks 1, 2, 3, 4, 5, 8 and 9 of the planner and of the listing.
 pub fn plan_refusal(
     card: PriceCard,
     limits: Limits,
