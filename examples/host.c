@@ -1,8 +1,8 @@
 /*
  * A C host: first the marked examples, each call on a fresh column of growers
  * 10 to 80; then a week at a mill, from the recorded calls to the next plan, with
- * a payment screen that steps from grower to grower and a settlement sheet; then
- * a weighbridge file.
+ * a payment screen that steps from grower to grower, a settlement sheet and those
+ * of two terms; then a weighbridge file.
  * Prints each step, and exits nonzero if an answer is not the expected one.
  *
  *   cc -std=c11 -Wall -Wextra -Werror -Iinclude examples/host.c \
@@ -26,8 +26,12 @@
 
 #define COUNT_OF(list) (sizeof(list) / sizeof(list)[0])
 
-/* A column's arguments: its three slices, and the same behind the directory. */
-#define SLICES(c) (c)->growers, SLOTS, (c)->weights, SLOTS, (c)->yields, SLOTS
+/* The day number of a day of November 2024. */
+#define NOVEMBER(day) (9070 + (day))
+
+/* A column's arguments: its four slices, and the same behind the directory. */
+#define SLICES(c)                                                                                  \
+    (c)->growers, SLOTS, (c)->weights, SLOTS, (c)->yields, SLOTS, (c)->days, SLOTS
 #define COLUMN(c) (c)->directory, MELTUSK_DIRECTORY, SLICES(c)
 
 typedef struct {
@@ -35,9 +39,11 @@ typedef struct {
     uint32_t growers[SLOTS];
     uint32_t weights[SLOTS];
     uint32_t yields[SLOTS];
+    uint32_t days[SLOTS];
 } column;
 
-typedef enum { FIND, RANGE, INSERT, DELETE, MOVE } kind;
+/* TERM is a range over the days of a settlement term. */
+typedef enum { FIND, RANGE, TERM, INSERT, DELETE, MOVE } kind;
 
 typedef struct {
     kind kind;
@@ -45,6 +51,7 @@ typedef struct {
     uint32_t other;  /* of a range: the highest; of a move: the new grower */
     uint32_t weight;
     uint32_t oil_yield;
+    uint32_t day;     /* of a term: any of its days */
     uint32_t refusal; /* the one that a column is expected to give */
 } call;
 
@@ -69,6 +76,7 @@ static const char *const reasons[] = {
     "the header line lacks a column or has a broken quote",
     "the header line has a column twice",
     "a row has another field count, a broken quote or a number out of range",
+    "a day or a date is out of range, or not one that the text can hold",
 };
 
 /* Answers that are not the expected ones. */
@@ -100,24 +108,41 @@ static void judge_refusal(uint32_t refusal, uint32_t expected)
     judge(refusal == expected);
 }
 
+/* A day as a date. */
+static void print_date(uint32_t day)
+{
+    meltusk_date_answer d = meltusk_date_of(day);
+
+    if (d.refusal == 0)
+        printf("%04" PRIu32 "-%02" PRIu32 "-%02" PRIu32, d.year, d.month, d.day);
+    else
+        printf("day %" PRIu32, day);
+}
+
 static meltusk_answer make(column *c, const call *k)
 {
+    meltusk_term_answer term = meltusk_term_of(k->day);
+
     switch (k->kind) {
     case FIND:
         return meltusk_find(COLUMN(c), k->grower);
     case RANGE:
         return meltusk_range(COLUMN(c), k->grower, k->other);
+    case TERM:
+        return meltusk_range_days(COLUMN(c), k->grower, k->other, term.first, term.last);
     case INSERT:
-        return meltusk_insert(COLUMN(c), k->grower, k->weight, k->oil_yield);
+        return meltusk_insert(COLUMN(c), k->grower, k->weight, k->oil_yield, k->day);
     case DELETE:
-        return meltusk_delete(COLUMN(c), k->grower, k->weight, k->oil_yield);
+        return meltusk_delete(COLUMN(c), k->grower, k->weight, k->oil_yield, k->day);
     default:
-        return meltusk_move(COLUMN(c), k->grower, k->weight, k->oil_yield, k->other);
+        return meltusk_move(COLUMN(c), k->grower, k->weight, k->oil_yield, k->day, k->other);
     }
 }
 
 static uint32_t record(uint32_t *histograms, uint32_t used, const column *set, const call *k)
 {
+    meltusk_term_answer term = meltusk_term_of(k->day);
+
     switch (k->kind) {
     case FIND:
         return meltusk_record_find(histograms, MELTUSK_HISTOGRAMS, BLOCK, used, SLICES(set),
@@ -125,21 +150,24 @@ static uint32_t record(uint32_t *histograms, uint32_t used, const column *set, c
     case RANGE:
         return meltusk_record_range(histograms, MELTUSK_HISTOGRAMS, BLOCK, used, SLICES(set),
                                     k->grower, k->other);
+    case TERM:
+        return meltusk_record_range_days(histograms, MELTUSK_HISTOGRAMS, BLOCK, used, SLICES(set),
+                                         k->grower, k->other, term.first, term.last);
     case INSERT:
         return meltusk_record_insert(histograms, MELTUSK_HISTOGRAMS, BLOCK, used, SLICES(set),
-                                     k->grower, k->weight, k->oil_yield);
+                                     k->grower, k->weight, k->oil_yield, k->day);
     case DELETE:
         return meltusk_record_delete(histograms, MELTUSK_HISTOGRAMS, BLOCK, used, SLICES(set),
-                                     k->grower, k->weight, k->oil_yield);
+                                     k->grower, k->weight, k->oil_yield, k->day);
     default:
         return meltusk_record_move(histograms, MELTUSK_HISTOGRAMS, BLOCK, used, SLICES(set),
-                                   k->grower, k->weight, k->oil_yield, k->other);
+                                   k->grower, k->weight, k->oil_yield, k->day, k->other);
     }
 }
 
 static int reads_only(const call *k)
 {
-    return k->kind == FIND || k->kind == RANGE;
+    return k->kind == FIND || k->kind == RANGE || k->kind == TERM;
 }
 
 /* Oil is kg times hundredths of a per cent, so 10,000 of it are a kg. */
@@ -165,14 +193,18 @@ static void print_answer(const call *k, const meltusk_answer *a)
 
 static void print_call(const call *k)
 {
-    static const char *const names[] = {"find", "range", "insert", "delete", "move"};
+    static const char *const names[] = {"find", "range", "range", "insert", "delete", "move"};
 
     printf("  %s %" PRIu32, names[k->kind], k->grower);
-    if (k->kind == RANGE || k->kind == MOVE)
+    if (k->kind == RANGE || k->kind == TERM || k->kind == MOVE)
         printf(" to %" PRIu32, k->other);
     if (!reads_only(k))
         printf(" (%" PRIu32 " kg, %" PRIu32 ".%02" PRIu32 " %%)", k->weight, k->oil_yield / 100,
                k->oil_yield % 100);
+    if (k->day != 0) {
+        fputs(k->kind == TERM ? ", the term of " : " of ", stdout);
+        print_date(k->day);
+    }
 }
 
 static void print_growers(const column *c, uint32_t used)
@@ -207,19 +239,26 @@ static void print_partitions(const column *c)
 }
 
 /* The totals as a plain list of deliveries has them, whatever the partitions. */
-static meltusk_totals totals_of(const column *c, uint32_t lo, uint32_t hi)
+static meltusk_totals totals_on(const column *c, uint32_t lo, uint32_t hi, uint32_t first,
+                                uint32_t last)
 {
     meltusk_totals t = {0, 0, 0};
     uint32_t used = used_slots(c);
 
     for (uint32_t i = 0; i < used; i++) {
-        if (lo <= c->growers[i] && c->growers[i] <= hi) {
+        if (lo <= c->growers[i] && c->growers[i] <= hi && first <= c->days[i] &&
+            c->days[i] <= last) {
             t.records++;
             t.weight += c->weights[i];
             t.oil += (uint64_t)c->weights[i] * c->yields[i];
         }
     }
     return t;
+}
+
+static meltusk_totals totals_of(const column *c, uint32_t lo, uint32_t hi)
+{
+    return totals_on(c, lo, hi, 0, MELTUSK_MOST_DAY);
 }
 
 static int same_totals(const meltusk_totals *a, const meltusk_totals *b)
@@ -260,14 +299,14 @@ typedef struct {
 #define MARKED_GROWERS 10, 20, 30, 40, 50, 60, 70, 80
 
 static const example examples[] = {
-    {{FIND, 30, 0, 0, 0, 0}, 1, {1, 1, 0}, {MARKED_GROWERS}},
-    {{FIND, 99, 0, 0, 0, 0}, 0, {1, 1, 0}, {MARKED_GROWERS}},
-    {{RANGE, 40, 50, 0, 0, 0}, 2, {1, 3, 0}, {MARKED_GROWERS}},
-    {{INSERT, 15, 0, 100, 2000, 0}, 0, {3, 0, 3}, {10, 20, 30, 40, 15, 60, 70, 80, 50}},
-    {{DELETE, 30, 0, 100, 2000, 0}, 0, {3, 1, 3}, {10, 20, 40, 80, 50, 60, 70}},
-    {{MOVE, 20, 70, 100, 2000, 0}, 0, {3, 1, 3}, {10, 40, 30, 70, 50, 60, 70, 80}},
-    {{MOVE, 70, 20, 100, 2000, 0}, 0, {3, 1, 3}, {10, 20, 30, 40, 20, 60, 50, 80}},
-    {{MOVE, 20, 25, 100, 2000, 0}, 0, {2, 1, 2}, {10, 40, 30, 25, 50, 60, 70, 80}},
+    {{FIND, 30, 0, 0, 0, 0, 0}, 1, {1, 1, 0}, {MARKED_GROWERS}},
+    {{FIND, 99, 0, 0, 0, 0, 0}, 0, {1, 1, 0}, {MARKED_GROWERS}},
+    {{RANGE, 40, 50, 0, 0, 0, 0}, 2, {1, 3, 0}, {MARKED_GROWERS}},
+    {{INSERT, 15, 0, 100, 2000, 0, 0}, 0, {3, 0, 3}, {10, 20, 30, 40, 15, 60, 70, 80, 50}},
+    {{DELETE, 30, 0, 100, 2000, 0, 0}, 0, {3, 1, 3}, {10, 20, 40, 80, 50, 60, 70}},
+    {{MOVE, 20, 70, 100, 2000, 0, 0}, 0, {3, 1, 3}, {10, 40, 30, 70, 50, 60, 70, 80}},
+    {{MOVE, 70, 20, 100, 2000, 0, 0}, 0, {3, 1, 3}, {10, 20, 30, 40, 20, 60, 50, 80}},
+    {{MOVE, 20, 25, 100, 2000, 0, 0}, 0, {2, 1, 2}, {10, 40, 30, 25, 50, 60, 70, 80}},
 };
 
 /* Each example begins with the column as laid. */
@@ -301,48 +340,54 @@ static void make_examples(void)
 }
 
 /* The deliveries at the week's beginning, in the order of their growers. */
-static const uint32_t first_set[][3] = {
-    {101, 420, 2110}, {101, 380, 2050}, {104, 510, 1980}, {107, 295, 2240},
-    {112, 640, 1895}, {112, 610, 1910}, {118, 330, 2075}, {121, 455, 2160},
-    {126, 720, 1840}, {131, 260, 2305}, {131, 275, 2290}, {140, 500, 2000},
+static const uint32_t first_set[][4] = {
+    {101, 420, 2110, NOVEMBER(4)},  {101, 380, 2050, NOVEMBER(6)},
+    {104, 510, 1980, NOVEMBER(6)},  {107, 295, 2240, NOVEMBER(11)},
+    {112, 640, 1895, NOVEMBER(14)}, {112, 610, 1910, NOVEMBER(15)},
+    {118, 330, 2075, NOVEMBER(16)}, {121, 455, 2160, NOVEMBER(18)},
+    {126, 720, 1840, NOVEMBER(19)}, {131, 260, 2305, NOVEMBER(19)},
+    {131, 275, 2290, NOVEMBER(20)}, {140, 500, 2000, NOVEMBER(22)},
 };
 
 /* What was called last week; 104 and 107 are asked for most. */
 static const call last_week[] = {
-    {FIND, 104, 0, 0, 0, 0},
-    {FIND, 104, 0, 0, 0, 0},
-    {FIND, 107, 0, 0, 0, 0},
-    {FIND, 104, 0, 0, 0, 0},
-    {FIND, 107, 0, 0, 0, 0},
-    {FIND, 104, 0, 0, 0, 0},
-    {FIND, 121, 0, 0, 0, 0},
-    {RANGE, 118, 140, 0, 0, 0},
-    {RANGE, 140, 118, 0, 0, 7},
-    {INSERT, 140, 0, 480, 2020, 0},
-    {INSERT, 133, 0, 350, 2130, 0},
-    {DELETE, 112, 0, 610, 1910, 0},
-    {DELETE, 112, 0, 611, 1910, 13},
-    {MOVE, 121, 126, 455, 2160, 0},
-    {MOVE, 131, 118, 260, 2305, 0},
+    {FIND, 104, 0, 0, 0, 0, 0},
+    {FIND, 104, 0, 0, 0, 0, 0},
+    {FIND, 107, 0, 0, 0, 0, 0},
+    {FIND, 104, 0, 0, 0, 0, 0},
+    {FIND, 107, 0, 0, 0, 0, 0},
+    {FIND, 104, 0, 0, 0, 0, 0},
+    {FIND, 121, 0, 0, 0, 0, 0},
+    {TERM, 118, 140, 0, 0, NOVEMBER(16), 0},
+    {RANGE, 140, 118, 0, 0, 0, 7},
+    {INSERT, 140, 0, 480, 2020, NOVEMBER(25), 0},
+    {INSERT, 133, 0, 350, 2130, NOVEMBER(25), 0},
+    {DELETE, 112, 0, 610, 1910, NOVEMBER(15), 0},
+    {DELETE, 112, 0, 611, 1910, NOVEMBER(15), 13},
+    {MOVE, 121, 126, 455, 2160, NOVEMBER(18), 0},
+    {MOVE, 131, 118, 260, 2305, NOVEMBER(19), 0},
 };
 
 /* This week's; the last moves leave the partition of 104 and 107 empty. */
 static const call this_week[] = {
-    {INSERT, 119, 0, 365, 2145, 0},
-    {INSERT, 150, 0, 410, 1975, 0},
-    {INSERT, 102, 0, 290, 2080, 12},
-    {DELETE, 112, 0, 601, 1910, 13},
-    {DELETE, 112, 0, 610, 1910, 0},
-    {INSERT, 102, 0, 290, 2080, 0},
-    {INSERT, 126, 0, 100001, 1900, 8},
-    {FIND, 112, 0, 0, 0, 0},
-    {RANGE, 101, 107, 0, 0, 0},
-    {MOVE, 102, 101, 290, 2080, 0},
-    {MOVE, 104, 131, 510, 1980, 0},
-    {MOVE, 107, 140, 295, 2240, 0},
-    {FIND, 104, 0, 0, 0, 0},
-    {RANGE, 131, 140, 0, 0, 0},
-    {RANGE, 0, UINT32_MAX, 0, 0, 0},
+    {INSERT, 119, 0, 365, 2145, NOVEMBER(26), 0},
+    {INSERT, 150, 0, 410, 1975, NOVEMBER(27), 0},
+    {INSERT, 102, 0, 290, 2080, NOVEMBER(27), 12},
+    {DELETE, 112, 0, 601, 1910, NOVEMBER(15), 13},
+    {DELETE, 112, 0, 610, 1910, NOVEMBER(16), 13},
+    {DELETE, 112, 0, 610, 1910, NOVEMBER(15), 0},
+    {INSERT, 102, 0, 290, 2080, NOVEMBER(27), 0},
+    {INSERT, 126, 0, 100001, 1900, NOVEMBER(28), 8},
+    {INSERT, 126, 0, 700, 1900, MELTUSK_MOST_DAY + 1, 19},
+    {FIND, 112, 0, 0, 0, 0, 0},
+    {RANGE, 101, 107, 0, 0, 0, 0},
+    {TERM, 101, 107, 0, 0, NOVEMBER(1), 0},
+    {MOVE, 102, 101, 290, 2080, NOVEMBER(27), 0},
+    {MOVE, 104, 131, 510, 1980, NOVEMBER(6), 0},
+    {MOVE, 107, 140, 295, 2240, NOVEMBER(11), 0},
+    {FIND, 104, 0, 0, 0, 0, 0},
+    {RANGE, 131, 140, 0, 0, 0, 0},
+    {RANGE, 0, UINT32_MAX, 0, 0, 0, 0},
 };
 
 /* What was recorded: the sum of each histogram. */
@@ -447,7 +492,11 @@ static int is_expected(const call *k, const meltusk_answer *a, const column *bef
                        const column *after)
 {
     meltusk_totals none = {0, 0, 0};
-    meltusk_totals totals = totals_of(before, k->grower, k->kind == FIND ? k->grower : k->other);
+    meltusk_term_answer term = meltusk_term_of(k->day);
+    uint32_t first = k->kind == TERM ? term.first : 0;
+    uint32_t last = k->kind == TERM ? term.last : MELTUSK_MOST_DAY;
+    uint32_t hi = k->kind == FIND ? k->grower : k->other;
+    meltusk_totals totals = totals_on(before, k->grower, hi, first, last);
     int is_read = reads_only(k) && a->refusal == 0;
     int stays = reads_only(k) || a->refusal != 0;
 
@@ -536,18 +585,25 @@ static int same_column(const column *a, const column *b)
 
     return memcmp(a->directory, b->directory, sizeof a->directory) == 0 &&
            memcmp(a->growers, b->growers, size) == 0 &&
-           memcmp(a->weights, b->weights, size) == 0 && memcmp(a->yields, b->yields, size) == 0;
+           memcmp(a->weights, b->weights, size) == 0 &&
+           memcmp(a->yields, b->yields, size) == 0 && memcmp(a->days, b->days, size) == 0;
 }
 
-/* Saves the column and reads it into other slices; a damaged text is refused. */
+/* Saves the column and reads it into other slices; a damaged text is refused. A
+ * snapshot holds no days: the host keeps them elsewhere and puts them back. */
 static void save_and_read(const column *c)
 {
     static uint8_t text[MELTUSK_SNAPSHOT_BYTES(SLOTS, MELTUSK_PARTITIONS)];
     static column other;
+    column undated = *c;
     meltusk_written w = meltusk_write_snapshot(COLUMN(c), text, sizeof text);
     meltusk_applied r;
 
-    printf("Saved, %" PRIu64 " bytes", w.bytes);
+    printf("Saved with its days");
+    judge_refusal(w.refusal, MELTUSK_REFUSED_DAYS);
+    memset(undated.days, 0, sizeof undated.days);
+    w = meltusk_write_snapshot(COLUMN(&undated), text, sizeof text);
+    printf("Saved without them, %" PRIu64 " bytes", w.bytes);
     judge_refusal(w.refusal, 0);
     if (w.refusal != 0)
         return;
@@ -555,8 +611,11 @@ static void save_and_read(const column *c)
 
     r = meltusk_read_snapshot(text, w.bytes, SLICES(&other));
     memcpy(other.directory, r.directory, sizeof other.directory);
-    printf("Read back, %s column", same_column(c, &other) ? "the same" : "another");
-    judge(r.refusal == 0 && same_column(c, &other));
+    printf("Read back, %s column", same_column(&undated, &other) ? "the same" : "another");
+    judge(r.refusal == 0 && same_column(&undated, &other));
+    memcpy(other.days, c->days, sizeof other.days);
+    printf("Its days put back");
+    judge(same_column(c, &other));
 
     text[w.bytes - 2] = '\t';
     r = meltusk_read_snapshot(text, w.bytes, SLICES(&other));
@@ -564,10 +623,12 @@ static void save_and_read(const column *c)
     judge_refusal(r.refusal, 14);
 }
 
-/* The sheet as a plain list of deliveries has it; answers its bytes. */
-static size_t plain_sheet(const column *c, char *text, size_t size)
+/* The sheet of the days first to last as a plain list of deliveries has it;
+ * answers its bytes. */
+static size_t plain_sheet(const column *c, uint32_t first, uint32_t last_day, char *text,
+                          size_t size)
 {
-    meltusk_totals t = totals_of(c, 0, UINT32_MAX);
+    meltusk_totals t = totals_on(c, 0, UINT32_MAX, first, last_day);
     uint32_t used = used_slots(c);
     int64_t last = -1;
     size_t at = 0;
@@ -582,11 +643,13 @@ static size_t plain_sheet(const column *c, char *text, size_t size)
         }
         if (next == INT64_MAX)
             break;
-        of_next = totals_of(c, (uint32_t)next, (uint32_t)next);
+        of_next = totals_on(c, (uint32_t)next, (uint32_t)next, first, last_day);
+        last = next;
+        if (of_next.records == 0)
+            continue;
         at += (size_t)snprintf(text + at, size - at,
                                "%20" PRId64 "%20" PRIu64 "%20" PRIu64 "%20" PRIu64 "\n", next,
                                of_next.records, of_next.weight, of_next.oil);
-        last = next;
     }
     at += (size_t)snprintf(text + at, size - at, "%20" PRIu64 "%20" PRIu64 "%20" PRIu64 "\n",
                            t.records, t.weight, t.oil);
@@ -600,7 +663,7 @@ static void settle(const column *c, uint32_t order[SLOTS])
     static uint8_t text[MELTUSK_SHEET_BYTES(SLOTS)];
     static uint32_t work[SLOTS];
     char plain[sizeof text + 1];
-    size_t size = plain_sheet(c, plain, sizeof plain);
+    size_t size = plain_sheet(c, 0, MELTUSK_MOST_DAY, plain, sizeof plain);
     meltusk_written w =
         meltusk_write_sheet(COLUMN(c), text, sizeof text, order, SLOTS, work, SLOTS);
 
@@ -617,6 +680,43 @@ static void settle(const column *c, uint32_t order[SLOTS])
     judge_refusal(w.refusal, 15);
 }
 
+/* The sheet of the term that holds a date, from that term's deliveries alone. */
+static void settle_term(const column *c, uint32_t year, uint32_t month, uint32_t day)
+{
+    static uint8_t text[MELTUSK_SHEET_BYTES(SLOTS)];
+    static uint32_t order[SLOTS], work[SLOTS];
+    char plain[sizeof text + 1];
+    meltusk_day_answer of_date = meltusk_day_of(year, month, day);
+    meltusk_term_answer term = meltusk_term_of(of_date.day);
+    size_t size = plain_sheet(c, term.first, term.last, plain, sizeof plain);
+    meltusk_written w = meltusk_write_term_sheet(COLUMN(c), of_date.day, text, sizeof text, order,
+                                                 SLOTS, work, SLOTS);
+
+    printf("The term from ");
+    print_date(term.first);
+    printf(" to ");
+    print_date(term.last);
+    printf(", %" PRIu64 " bytes", w.bytes);
+    judge(of_date.refusal == 0 && term.refusal == 0 && w.refusal == 0 && w.bytes == size &&
+          memcmp(text, plain, size) == 0);
+    fwrite(text, 1, w.bytes, stdout);
+}
+
+/* Growers are settled twice a month. */
+static void settle_terms(const column *c)
+{
+    meltusk_day_answer leap = meltusk_day_of(2024, 2, 29);
+    meltusk_day_answer none = meltusk_day_of(2023, 2, 29);
+
+    settle_term(c, 2024, 11, 1);
+    settle_term(c, 2024, 11, 30);
+    settle_term(c, 2024, 12, 1);
+    printf("29 February 2024 is day %" PRIu32, leap.day);
+    judge(leap.refusal == 0 && leap.day == 8825);
+    printf("29 February 2023");
+    judge_refusal(none.refusal, MELTUSK_REFUSED_DAYS);
+}
+
 /* Puts the deliveries in the order of a sheet: a plan is made of a set whose
  * growers never fall. */
 static void put_in_order(column *c, uint32_t used, const uint32_t *order)
@@ -627,6 +727,7 @@ static void put_in_order(column *c, uint32_t used, const uint32_t *order)
         c->growers[i] = before.growers[order[i]];
         c->weights[i] = before.weights[order[i]];
         c->yields[i] = before.yields[order[i]];
+        c->days[i] = before.days[order[i]];
     }
 }
 
@@ -637,6 +738,7 @@ static uint32_t fill(column *c)
         c->growers[i] = first_set[i][0];
         c->weights[i] = first_set[i][1];
         c->yields[i] = first_set[i][2];
+        c->days[i] = first_set[i][3];
     }
     return COUNT_OF(first_set);
 }
@@ -661,13 +763,19 @@ static void import_and_export(void)
     const uint8_t *file = (const uint8_t *)weighbridge;
     size_t size = sizeof weighbridge - 1;
     meltusk_imported i = meltusk_import_csv(file, size, SLICES(&c));
-    meltusk_written w = meltusk_export_csv((uint32_t)i.rows, SLICES(&c), text, sizeof text);
+    meltusk_written w;
 
     printf("Imported, %" PRIu64 " deliveries", i.rows);
     judge_refusal(i.refusal, 0);
-    for (uint64_t j = 0; j < i.rows; j++)
-        printf("  grower %" PRIu32 ", %" PRIu32 " kg, yield %" PRIu32 "\n", c.growers[j],
+    for (uint64_t j = 0; j < i.rows; j++) {
+        /* A file has no days; this one is of 28 November. */
+        c.days[j] = NOVEMBER(28);
+        printf("  grower %" PRIu32 ", %" PRIu32 " kg, yield %" PRIu32 ", ", c.growers[j],
                c.weights[j], c.yields[j]);
+        print_date(c.days[j]);
+        puts("");
+    }
+    w = meltusk_export_csv((uint32_t)i.rows, SLICES(&c), text, sizeof text);
     printf("Exported, %" PRIu64 " bytes", w.bytes);
     judge(w.refusal == 0 && w.bytes == sizeof exported - 1 && memcmp(text, exported, w.bytes) == 0);
 
@@ -697,6 +805,7 @@ int main(void)
     look_up(&mill, 104, 3, 0);
     step_through(&mill, &tally);
     settle(&mill, order);
+    settle_terms(&mill);
     save_and_read(&mill);
 
     puts("\nThe next week, taken to be like this one");

@@ -29,11 +29,12 @@
 #define WIDE 20
 
 /* The set's arguments. */
-#define SET BLOCK, USED, growers, USED, weights, USED, yields, USED
+#define SET BLOCK, USED, growers, USED, weights, USED, yields, USED, days, USED
 
 static const uint32_t growers[USED] = {10, 20, 30, 40, 50, 60, 70, 80};
 static const uint32_t weights[USED] = {100, 100, 100, 100, 100, 100, 100, 100};
 static const uint32_t yields[USED] = {2000, 2000, 2000, 2000, 2000, 2000, 2000, 2000};
+static const uint32_t days[USED] = {0, 0, 0, 0, 0, 0, 0, 0};
 
 /* A layout as its line has it. */
 typedef struct {
@@ -147,7 +148,7 @@ int main(void)
     for (int i = 0; i < 5 && refusal == 0; i++)
         refusal = meltusk_record_find(histograms, MELTUSK_HISTOGRAMS, SET, 30);
     require(refusal == 0, "a find", refusal);
-    refusal = meltusk_record_insert(histograms, MELTUSK_HISTOGRAMS, SET, 15, 100, 2000);
+    refusal = meltusk_record_insert(histograms, MELTUSK_HISTOGRAMS, SET, 15, 100, 2000, 0);
     require(refusal == 0, "the insert", refusal);
 
     teach(histograms, 100, 100, LAYOUTS);

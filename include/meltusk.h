@@ -10,6 +10,10 @@
  * settlement sheet some 220 kB, every other call a few. A call reads and writes
  * only inside the slices that it is lent, and ends on every input.
  *
+ * This is version 2: since version 1 every call that is lent the slots is lent
+ * a fourth slice of them, the days, and a delivery has a day. A host that keeps
+ * no days lends a slice of zeros and gives day 0 with every delivery.
+ *
  * What no call can check: a slice's memory must be valid, aligned for its
  * elements, initialised and of the stated count for the whole call, and A
  * SLICE THAT A CALL WRITES MUST NOT OVERLAP ANOTHER OF ITS SLICES. Slices that
@@ -18,24 +22,26 @@
  *
  * A host's round: record a week's calls against an unpartitioned set; plan a
  * layout; apply it; then find, range, insert, delete and move on the column,
- * step from grower to grower, write its settlement sheet, and write and read
- * snapshots of it. To plan again, put the used slots of the three slices in the
- * order of their growers (the sheet has it): they are an unpartitioned set then,
- * with a longer block length if they have become more than 64 blocks. Deliveries
- * also come from and go to weighbridge files. examples/host.c does all this. To
- * teach on a small set, list every layout that a plan chooses from:
- * examples/lesson.c.
+ * step from grower to grower, write its settlement sheet or a term's, and write
+ * and read snapshots of it. To plan again, put the used slots of all slices in
+ * the order of their growers (the sheet has it): they are an unpartitioned set
+ * then, with a longer block length if they have become more than 64 blocks.
+ * Deliveries also come from and go to weighbridge files. examples/host.c does
+ * all this. To teach on a small set, list every layout that a plan chooses
+ * from: examples/lesson.c.
  *
  * REFUSALS
  *
  * A call first puts its checks, in the order in which they are listed at the
  * call. The number of the first that fails is its refusal; 0 means accepted. A
  * refused call writes to no slice, and its answer is 0 but for the refusal
- * number (13 reports the counts of its scan).
+ * number (13 reports the counts of its scan). MELTUSK_REFUSED_.. names each.
+ * Where a check is of several records, all of them pass it before the next is
+ * put: a bad weight anywhere is 8, whatever the days.
  *
  *    1  each price is 1 to 1,000 and each limit at most 1,000,000
  *    2  the block length is 1 to 4,096
- *    3  the three slices share one length C, 1 to 262,144
+ *    3  the four slices share one length C, 1 to 262,144
  *    4  the used slots of an unpartitioned set are 1 to the smaller of C and
  *       64 block lengths; the slots to be exported are 0 to C
  *    5  its growers never fall
@@ -56,14 +62,23 @@
  *   17  it has no needed name twice
  *   18  each row has as many fields as the header line, no broken quote, and its
  *       three numbers in range
+ *   19  days are at most 36,524; a date exists and lies in 2000 to 2099; of a
+ *       column to be written as a snapshot, every day is 0; put just after 8
  *   23  a set to be listed has at most 12 blocks; put ahead of 11
  *
  * TERMS
  *
- * The slots: three slices of one length C hold the deliveries, slot by slot:
- * growers (any number), weights (kg) and yields (hundredths of a per cent).
- * The first slots are used; the others are free, and what they hold is never
- * asked.
+ * The slots: four slices of one length C hold the deliveries, slot by slot:
+ * growers (any number), weights (kg), yields (hundredths of a per cent) and
+ * days. The first slots are used; the others are free, and what they hold is
+ * never asked.
+ *
+ * The day: the days since 1 January 2000, which is 0, by the Gregorian
+ * calendar; 29 February 2024 is 8,825 and 31 December 2099 is 36,524,
+ * MELTUSK_MOST_DAY.
+ *
+ * The term: days 1 to 15 of a month, or 16 to its last. Growers are settled by
+ * term.
  *
  * The unpartitioned set: used slots whose growers never fall. Block i is the
  * block length's slots from i times the block length on; the last may be short,
@@ -117,7 +132,9 @@
  * the partitions K; K lines have a length and a fence; M lines have a grower, a
  * weight and a yield, partition by partition. That is
  * MELTUSK_SNAPSHOT_BYTES(M, K) bytes and no other text of the same column: what
- * is read and written again is the same to the byte.
+ * is read and written again is the same to the byte. It has no days: a column
+ * is written only if every day of its records is 0 (19), and is read with day
+ * 0.
  *
  * The listing: a line a permitted layout, each layout once, with its count of
  * partitions K, its cost and its K end blocks; of two layouts the one with the
@@ -127,12 +144,13 @@
  * number in 11. LF ends a line, of 32 + 11 * K bytes then, and no byte 0 the text.
  *
  * The settlement sheet: a line a grower who has a record, growers rising, with
- * the grower, his records, their kg and their oil; then a line with the records,
- * kg and oil of all, which are the sums of the lines above it. Oil is the sum of
- * weight times yield, of which 10,000 are 1 kg. Every number is decimal,
- * right-justified in 20 columns with blanks, zero as 0; LF ends a line, and no
- * byte 0 the text. Of n growers that is MELTUSK_SHEET_BYTES(n) bytes; of a
- * column without records one line of zeros.
+ * the grower, his records, their kg and their oil; then a line with the
+ * records, kg and oil of all, which are the sums of the lines above it. Oil is
+ * the sum of weight times yield, of which 10,000 are 1 kg. Every number is
+ * decimal, right-justified in 20 columns with blanks, zero as 0; LF ends a
+ * line, and no byte 0 the text. Of n growers that is MELTUSK_SHEET_BYTES(n)
+ * bytes; of a column without records one line of zeros. The sheet of a term is
+ * of the records on its days alone.
  *
  * The weighbridge file: deliveries as comma-separated text by RFC 4180, a
  * header line and a row a delivery, without a byte 0 at its end. CRLF or LF
@@ -145,7 +163,7 @@
  * numbers are plain digits with any leading zeros: a grower is at most
  * 4,294,967,295, a weight 100,000, a yield 10,000. A CR that no LF follows, and
  * any other byte, is part of its field; an empty line is a row of one empty
- * field.
+ * field. A file has no days.
  */
 #ifndef MELTUSK_H
 #define MELTUSK_H
@@ -157,10 +175,15 @@
 extern "C" {
 #endif
 
+/* The version: a host made for another major one does not fit. */
+#define MELTUSK_VERSION_MAJOR 2
+#define MELTUSK_VERSION_MINOR 0
 /* The numbers of a directory, the counts of the histograms, the most partitions. */
 #define MELTUSK_DIRECTORY 130
 #define MELTUSK_HISTOGRAMS 640
 #define MELTUSK_PARTITIONS 64
+/* The last day: 31 December 2099. */
+#define MELTUSK_MOST_DAY 36524
 /* Where a directory's numbers stand: block length, partition count, lengths, fences. */
 #define MELTUSK_BLOCK 0
 #define MELTUSK_COUNT 1
@@ -175,6 +198,31 @@ extern "C" {
 #define MELTUSK_SHEET_BYTES(n) (61 + 81 * (size_t)(n))
 /* Bytes that are enough for a weighbridge file of m deliveries. */
 #define MELTUSK_CSV_BYTES(m) (21 + 25 * (size_t)(m))
+
+/* The refusals, by what has failed. */
+enum {
+    MELTUSK_ACCEPTED = 0,
+    MELTUSK_REFUSED_PRICES = 1,
+    MELTUSK_REFUSED_BLOCK_LENGTH = 2,
+    MELTUSK_REFUSED_SLICES = 3,
+    MELTUSK_REFUSED_USED_SLOTS = 4,
+    MELTUSK_REFUSED_ORDER = 5,
+    MELTUSK_REFUSED_SHAPE = 6,
+    MELTUSK_REFUSED_RANGE = 7,
+    MELTUSK_REFUSED_VALUES = 8,
+    MELTUSK_REFUSED_HISTOGRAMS = 9,
+    MELTUSK_REFUSED_OVERFLOW = 10,
+    MELTUSK_REFUSED_NO_LAYOUT = 11,
+    MELTUSK_REFUSED_FULL = 12,
+    MELTUSK_REFUSED_ABSENT = 13,
+    MELTUSK_REFUSED_SNAPSHOT = 14,
+    MELTUSK_REFUSED_ROOM = 15,
+    MELTUSK_REFUSED_NAME_ABSENT = 16,
+    MELTUSK_REFUSED_NAME_TWICE = 17,
+    MELTUSK_REFUSED_ROW = 18,
+    MELTUSK_REFUSED_DAYS = 19,
+    MELTUSK_REFUSED_LISTED_BLOCKS = 23
+};
 
 /* Matching records, their weight in kg, and their oil: the sum of weight times
  * yield, of which 10,000 are 1 kg. */
@@ -260,39 +308,78 @@ typedef struct {
     uint64_t rows;
 } meltusk_imported;
 
+/* The day number of a date; 0 when refused. */
+typedef struct {
+    uint32_t refusal;
+    uint32_t day;
+} meltusk_day_answer;
+
+/* The date of a day number, 1 March 2024 as 2024, 3, 1; all 0 when refused. */
+typedef struct {
+    uint32_t refusal;
+    uint32_t year;
+    uint32_t month;
+    uint32_t day;
+} meltusk_date_answer;
+
+/* The first and the last day of a term, both counted; 0 and 0 when refused. */
+typedef struct {
+    uint32_t refusal;
+    uint32_t first;
+    uint32_t last;
+} meltusk_term_answer;
+
 /*
- * Applies a layout to an unpartitioned set: block length, used slots, the
- * three slices, and the end block of each partition. Checks 2 3 4 5 6 8.
- * Writes to no slice: the directory is answered by value, and no record moves.
+ * Applies a layout to an unpartitioned set: block length, used slots, the four
+ * slices, and the end block of each partition. Checks 2 3 4 5 6 8 19 (8 and 19:
+ * the set). Writes to no slice: the directory is answered by value, and no
+ * record moves.
  */
 meltusk_applied meltusk_apply_layout(uint32_t block, uint32_t used,
                                      const uint32_t *growers, size_t growers_count,
                                      const uint32_t *weights, size_t weights_count,
                                      const uint32_t *yields, size_t yields_count,
+                                     const uint32_t *days, size_t days_count,
                                      const uint32_t *ends, size_t ends_count);
 
 /*
- * The records of one grower, which may be none. Checks 2 3 6 8 (8: the
- * partition scanned, which is the grower's). Writes to no slice.
+ * The records of one grower, which may be none. Checks 2 3 6 8 19 (8 and 19:
+ * the partition scanned, which is the grower's). Writes to no slice.
  */
 meltusk_answer meltusk_find(const uint32_t *directory, size_t directory_count,
                             const uint32_t *growers, size_t growers_count,
                             const uint32_t *weights, size_t weights_count,
                             const uint32_t *yields, size_t yields_count,
+                            const uint32_t *days, size_t days_count,
                             uint32_t grower);
 
 /*
- * The records of the growers lo to hi, both included. Checks 2 3 6 7 8 (8:
- * the partitions scanned, which are lo's to hi's). Writes to no slice.
+ * The records of the growers lo to hi, both included. Checks 2 3 6 7 8 19 (8
+ * and 19: the partitions scanned, which are lo's to hi's). Writes to no slice.
  */
 meltusk_answer meltusk_range(const uint32_t *directory, size_t directory_count,
                              const uint32_t *growers, size_t growers_count,
                              const uint32_t *weights, size_t weights_count,
                              const uint32_t *yields, size_t yields_count,
+                             const uint32_t *days, size_t days_count,
                              uint32_t lo, uint32_t hi);
 
 /*
- * Inserts a delivery. Checks 2 3 6 8 12 (8: the delivery). Writes the
+ * The records of the growers lo to hi on the days first to last, all four
+ * included; none if last is earlier than first. Checks as range (19: both days
+ * too). Scans and counts what range does, whatever the days. Writes to no
+ * slice.
+ */
+meltusk_answer meltusk_range_days(const uint32_t *directory, size_t directory_count,
+                                  const uint32_t *growers, size_t growers_count,
+                                  const uint32_t *weights, size_t weights_count,
+                                  const uint32_t *yields, size_t yields_count,
+                                  const uint32_t *days, size_t days_count,
+                                  uint32_t lo, uint32_t hi,
+                                  uint32_t first, uint32_t last);
+
+/*
+ * Inserts a delivery. Checks 2 3 6 8 19 12 (8 and 19: the delivery). Writes the
  * partition's length and, in each slice, one slot a partition from the
  * grower's on: the first record of each later partition goes just past its
  * end, and the delivery just past the end of its own. Scans nothing; counts 1
@@ -302,43 +389,49 @@ meltusk_answer meltusk_insert(uint32_t *directory, size_t directory_count,
                               uint32_t *growers, size_t growers_count,
                               uint32_t *weights, size_t weights_count,
                               uint32_t *yields, size_t yields_count,
-                              uint32_t grower, uint32_t weight, uint32_t oil_yield);
+                              uint32_t *days, size_t days_count,
+                              uint32_t grower, uint32_t weight, uint32_t oil_yield,
+                              uint32_t day);
 
 /*
- * Deletes the first equal delivery of the grower's partition. Checks 2 3 6 8
- * 13 (8: the delivery and the partition). Writes the partition's length and,
- * in each slice, one slot a partition from the grower's on: the partition's
- * last record fills the gap, the last record of each later one goes just before
- * its start, and the freed slot becomes 0, 0, 0. Equal is equal in grower,
- * weight and yield; first is the lowest slot. Counts the scan of the partition,
- * 1 rw, and 1 rr and 1 rw for each partition from the grower's to the last.
+ * Deletes the first equal delivery of the grower's partition. Checks 2 3 6 8 19
+ * 13 (8 and 19: the delivery and the partition). Writes the partition's length
+ * and, in each slice, one slot a partition from the grower's on: the
+ * partition's last record fills the gap, the last record of each later one goes
+ * just before its start, and the freed slot becomes 0, 0, 0, 0. Equal is equal
+ * in grower, weight, yield and day; first is the lowest slot. Counts the scan
+ * of the partition, 1 rw, and 1 rr and 1 rw for each partition from the
+ * grower's to the last.
  */
 meltusk_answer meltusk_delete(uint32_t *directory, size_t directory_count,
                               uint32_t *growers, size_t growers_count,
                               uint32_t *weights, size_t weights_count,
                               uint32_t *yields, size_t yields_count,
-                              uint32_t grower, uint32_t weight, uint32_t oil_yield);
+                              uint32_t *days, size_t days_count,
+                              uint32_t grower, uint32_t weight, uint32_t oil_yield,
+                              uint32_t day);
 
 /*
- * Moves the first equal delivery of the grower's partition to a new grower.
- * Checks as delete; the new grower's partition is not scanned. Writes the two
- * partitions' lengths and, in each slice, at most two slots of the old partition
- * and one of each partition passed. Needs no free slot. Counts the scan of the
- * old partition, 1 rr and 2 rw, and 1 rr and 1 rw for each partition from the old
- * to the new, the old not counted.
+ * Moves the first equal delivery of the grower's partition to a new grower; its
+ * weight, yield and day stay. Checks as delete; the new grower's partition is
+ * not scanned. Writes the two partitions' lengths and, in each slice, at most
+ * two slots of the old partition and one of each partition passed. Needs no
+ * free slot. Counts the scan of the old partition, 1 rr and 2 rw, and 1 rr and
+ * 1 rw for each partition from the old to the new, the old not counted.
  */
 meltusk_answer meltusk_move(uint32_t *directory, size_t directory_count,
                             uint32_t *growers, size_t growers_count,
                             uint32_t *weights, size_t weights_count,
                             uint32_t *yields, size_t yields_count,
+                            uint32_t *days, size_t days_count,
                             uint32_t grower, uint32_t weight, uint32_t oil_yield,
-                            uint32_t new_grower);
+                            uint32_t day, uint32_t new_grower);
 
 /*
- * The smallest grower at or above `grower` who has a record. Checks 2 3 6 8 (8:
- * the partitions scanned). Scans from `grower`'s partition to the first that
- * holds such a record, or to the last partition if there is none; counts as a
- * range over the partitions scanned. Writes to no slice.
+ * The smallest grower at or above `grower` who has a record. Checks 2 3 6 8 19
+ * (8 and 19: the partitions scanned). Scans from `grower`'s partition to the
+ * first that holds such a record, or to the last partition if there is none;
+ * counts as a range over the partitions scanned. Writes to no slice.
  *
  * To step through all growers, begin with 0 and go on with the grower answered
  * plus 1, until records is 0; stop at 4,294,967,295, which has no successor.
@@ -347,6 +440,7 @@ meltusk_grower_answer meltusk_next_grower(const uint32_t *directory, size_t dire
                                           const uint32_t *growers, size_t growers_count,
                                           const uint32_t *weights, size_t weights_count,
                                           const uint32_t *yields, size_t yields_count,
+                                          const uint32_t *days, size_t days_count,
                                           uint32_t grower);
 
 /*
@@ -359,6 +453,7 @@ meltusk_grower_answer meltusk_previous_grower(const uint32_t *directory, size_t 
                                               const uint32_t *growers, size_t growers_count,
                                               const uint32_t *weights, size_t weights_count,
                                               const uint32_t *yields, size_t yields_count,
+                                              const uint32_t *days, size_t days_count,
                                               uint32_t grower);
 
 /*
@@ -371,12 +466,14 @@ meltusk_partition_slice meltusk_partition(const uint32_t *directory, size_t dire
 
 /*
  * Records a call against an unpartitioned set (block length, used slots, the
- * three slices) into the histograms, and answers its refusal. Checks 2 3 4 5 7
- * 8 9 10 (7: range; 8: the set, and the delivery). Writes only the counts that
- * the call raises, each by 1; the set stays as it is:
+ * four slices) into the histograms, and answers its refusal. Checks 2 3 4 5 7 8
+ * 19 9 10 (7: the ranges; 8 and 19: the set, and the delivery; 19: both days of
+ * a range over days). Writes only the counts that the call raises, each by 1;
+ * the set stays as it is:
  *
  *   find    pq at the grower's block
- *   range   rs at lo's block, re at hi's, sc at each between; pq if they are one
+ *   range   rs at lo's block, re at hi's, sc at each between; pq if they are
+ *           one; a range over days likewise, whatever the days
  *   insert  in at the grower's block
  *   delete  de at the grower's block
  *   move    udf at the old grower's block and utf at the new one's, or, to a
@@ -389,6 +486,7 @@ uint32_t meltusk_record_find(uint32_t *histograms, size_t histograms_count,
                               const uint32_t *growers, size_t growers_count,
                               const uint32_t *weights, size_t weights_count,
                               const uint32_t *yields, size_t yields_count,
+                              const uint32_t *days, size_t days_count,
                               uint32_t grower);
 
 uint32_t meltusk_record_range(uint32_t *histograms, size_t histograms_count,
@@ -396,49 +494,65 @@ uint32_t meltusk_record_range(uint32_t *histograms, size_t histograms_count,
                               const uint32_t *growers, size_t growers_count,
                               const uint32_t *weights, size_t weights_count,
                               const uint32_t *yields, size_t yields_count,
+                              const uint32_t *days, size_t days_count,
                               uint32_t lo, uint32_t hi);
+
+uint32_t meltusk_record_range_days(uint32_t *histograms, size_t histograms_count,
+                              uint32_t block, uint32_t used,
+                              const uint32_t *growers, size_t growers_count,
+                              const uint32_t *weights, size_t weights_count,
+                              const uint32_t *yields, size_t yields_count,
+                              const uint32_t *days, size_t days_count,
+                              uint32_t lo, uint32_t hi,
+                              uint32_t first, uint32_t last);
 
 uint32_t meltusk_record_insert(uint32_t *histograms, size_t histograms_count,
                               uint32_t block, uint32_t used,
                               const uint32_t *growers, size_t growers_count,
                               const uint32_t *weights, size_t weights_count,
                               const uint32_t *yields, size_t yields_count,
-                              uint32_t grower, uint32_t weight, uint32_t oil_yield);
+                              const uint32_t *days, size_t days_count,
+                              uint32_t grower, uint32_t weight, uint32_t oil_yield,
+                              uint32_t day);
 
 uint32_t meltusk_record_delete(uint32_t *histograms, size_t histograms_count,
                               uint32_t block, uint32_t used,
                               const uint32_t *growers, size_t growers_count,
                               const uint32_t *weights, size_t weights_count,
                               const uint32_t *yields, size_t yields_count,
-                              uint32_t grower, uint32_t weight, uint32_t oil_yield);
+                              const uint32_t *days, size_t days_count,
+                              uint32_t grower, uint32_t weight, uint32_t oil_yield,
+                              uint32_t day);
 
 uint32_t meltusk_record_move(uint32_t *histograms, size_t histograms_count,
                               uint32_t block, uint32_t used,
                               const uint32_t *growers, size_t growers_count,
                               const uint32_t *weights, size_t weights_count,
                               const uint32_t *yields, size_t yields_count,
+                              const uint32_t *days, size_t days_count,
                               uint32_t grower, uint32_t weight, uint32_t oil_yield,
-                              uint32_t new_grower);
+                              uint32_t day, uint32_t new_grower);
 
 /*
  * The cost of a layout, given as the end block of each partition, under the
- * prices rr, sr and rw. Checks 1 2 3 4 5 6 8 9 (1: the prices). Writes to no
- * slice.
+ * prices rr, sr and rw. Checks 1 2 3 4 5 6 8 19 9 (1: the prices; 8 and 19: the
+ * set). Writes to no slice.
  */
 meltusk_costed meltusk_cost(uint32_t rr, uint32_t sr, uint32_t rw,
                             uint32_t block, uint32_t used,
                             const uint32_t *growers, size_t growers_count,
                             const uint32_t *weights, size_t weights_count,
                             const uint32_t *yields, size_t yields_count,
+                            const uint32_t *days, size_t days_count,
                             const uint32_t *ends, size_t ends_count,
                             const uint32_t *histograms, size_t histograms_count);
 
 /*
- * The cheapest layout that the read limit and the insert limit permit under
- * the prices rr, sr and rw; of equal costs the fewest partitions, then the
- * smaller end at the first difference. Checks 1 2 3 4 5 8 9 11 15. Writes the
- * end block of each partition to `ends` (64 are always enough); what lies past
- * them stays.
+ * The cheapest layout that the read limit and the insert limit permit under the
+ * prices rr, sr and rw; of equal costs the fewest partitions, then the smaller
+ * end at the first difference. Checks 1 2 3 4 5 8 19 9 11 15. Writes the end
+ * block of each partition to `ends` (64 are always enough); what lies past them
+ * stays.
  *
  * Permitted are partitions of at most (read - rr) / sr, rounded down, plus 1
  * blocks, and none if read is less than rr; and at most insert / (rr + rw),
@@ -453,15 +567,16 @@ meltusk_planned meltusk_plan(uint32_t rr, uint32_t sr, uint32_t rw,
                              const uint32_t *growers, size_t growers_count,
                              const uint32_t *weights, size_t weights_count,
                              const uint32_t *yields, size_t yields_count,
+                             const uint32_t *days, size_t days_count,
                              const uint32_t *histograms, size_t histograms_count,
                              uint32_t *ends, size_t ends_count);
 
 /*
- * Writes the listing of a set of at most 12 blocks: every layout that meltusk_plan
- * chooses from, and no other. Checks 1 2 3 4 5 8 9 23 11 15. Writes 32 + 11 * K
- * bytes a layout of K partitions to `text`; what lies past them stays.
- * MELTUSK_LISTING_BYTES of the set's blocks are always enough: 43 for one block,
- * 211,968 for 12.
+ * Writes the listing of a set of at most 12 blocks: every layout that
+ * meltusk_plan chooses from, and no other. Checks 1 2 3 4 5 8 19 9 23 11 15.
+ * Writes 32 + 11 * K bytes a layout of K partitions to `text`; what lies past
+ * them stays. MELTUSK_LISTING_BYTES of the set's blocks are always enough: 43
+ * for one block, 211,968 for 12.
  *
  * The line of the least cost, of equal costs of the fewest partitions, then of the
  * smaller end at the first difference, is what meltusk_plan answers. Where there
@@ -473,6 +588,7 @@ meltusk_listed meltusk_list_layouts(uint32_t rr, uint32_t sr, uint32_t rw,
                                     const uint32_t *growers, size_t growers_count,
                                     const uint32_t *weights, size_t weights_count,
                                     const uint32_t *yields, size_t yields_count,
+                                    const uint32_t *days, size_t days_count,
                                     const uint32_t *histograms, size_t histograms_count,
                                     uint8_t *text, size_t text_count);
 
@@ -490,68 +606,112 @@ uint32_t meltusk_tally_add(uint64_t *rr, uint64_t *sr, uint64_t *rw,
                            uint64_t more_rr, uint64_t more_sr, uint64_t more_rw);
 
 /*
- * Writes a column as a snapshot. Checks 2 3 6 8 15 (8: all records). Writes
- * MELTUSK_SNAPSHOT_BYTES(M, K) bytes to `text`; what lies past them stays.
+ * Writes a column as a snapshot. Checks 2 3 6 8 19 15 (8: all records; 19: the
+ * day of each is 0). Writes MELTUSK_SNAPSHOT_BYTES(M, K) bytes to `text`; what
+ * lies past them stays.
  */
 meltusk_written meltusk_write_snapshot(const uint32_t *directory, size_t directory_count,
                                        const uint32_t *growers, size_t growers_count,
                                        const uint32_t *weights, size_t weights_count,
                                        const uint32_t *yields, size_t yields_count,
+                                       const uint32_t *days, size_t days_count,
                                        uint8_t *text, size_t text_count);
 
 /*
- * Writes the settlement sheet of a column. Checks 2 3 6 8 15 (8: all records;
- * 15: `text` has as many bytes as the sheet, `order` and `work` a number for each
- * of the M used slots). Writes MELTUSK_SHEET_BYTES of the growers who have a
- * record to `text`; the used slots, in rising order of grower and those of one
- * grower in rising order, to the first M numbers of `order`; and 0 to the first M
- * of `work`, which the call needs to sort. What lies past them stays. With room
- * for MELTUSK_SHEET_BYTES(M) it is faster: with less, the growers are counted
- * first, so that a text that is too short is refused before anything is written.
+ * Writes the settlement sheet of a column. Checks 2 3 6 8 19 15 (8 and 19: all
+ * records; 15: `text` has as many bytes as the sheet, `order` and `work` a
+ * number for each of the M used slots). Writes MELTUSK_SHEET_BYTES of the
+ * growers who have a record to `text`; the used slots, in rising order of
+ * grower and those of one grower in rising order, to the first M numbers of
+ * `order`; and 0 to the first M of `work`, which the call needs to sort. What
+ * lies past them stays. With room for MELTUSK_SHEET_BYTES(M) it is faster: with
+ * less, the growers are counted first, so that a text that is too short is
+ * refused before anything is written.
  */
 meltusk_written meltusk_write_sheet(const uint32_t *directory, size_t directory_count,
                                     const uint32_t *growers, size_t growers_count,
                                     const uint32_t *weights, size_t weights_count,
                                     const uint32_t *yields, size_t yields_count,
+                                    const uint32_t *days, size_t days_count,
                                     uint8_t *text, size_t text_count,
                                     uint32_t *order, size_t order_count,
                                     uint32_t *work, size_t work_count);
+
+/*
+ * Writes the settlement sheet of the term that holds `day`, from that term's
+ * records alone. Checks 2 3 6 8 19 15 (8: all records, whatever their days; 19:
+ * these and `day`; 15: as for the sheet of the column, but `order` and `work`
+ * have a number for each of the term's records). Writes to `text`, `order` and
+ * `work` as the sheet of the column does, of the term's slots alone. A term
+ * without records has one line of zeros. To settle a month, write the sheets of
+ * its days 1 and 16.
+ */
+meltusk_written meltusk_write_term_sheet(const uint32_t *directory, size_t directory_count,
+                                         const uint32_t *growers, size_t growers_count,
+                                         const uint32_t *weights, size_t weights_count,
+                                         const uint32_t *yields, size_t yields_count,
+                                         const uint32_t *days, size_t days_count,
+                                         uint32_t day,
+                                         uint8_t *text, size_t text_count,
+                                         uint32_t *order, size_t order_count,
+                                         uint32_t *work, size_t work_count);
 
 /*
  * Reads a snapshot. Checks 3 12 14; 12 goes ahead of 14 only where line 1 is
  * three numbers in range. 14 also refuses values out of range, fences that do
  * not rise, a grower outside its partition, an M that is not the sum of the
  * lengths, and a text that is shorter or longer. Writes the first M slots of
- * each slice, once the whole text is judged; what lies past them stays. The
- * directory is answered by value.
+ * each slice, 0 as the days, once the whole text is judged; what lies past them
+ * stays. The directory is answered by value.
  */
 meltusk_applied meltusk_read_snapshot(const uint8_t *text, size_t text_count,
                                       uint32_t *growers, size_t growers_count,
                                       uint32_t *weights, size_t weights_count,
-                                      uint32_t *yields, size_t yields_count);
+                                      uint32_t *yields, size_t yields_count,
+                                      uint32_t *days, size_t days_count);
 
 /*
  * Imports a weighbridge file. Checks 3 16 17 18 12 (18: all rows). Writes the
- * rows, in their order, to the first slots of each slice, once the whole text
- * is judged; what lies past them stays.
+ * rows, in their order, to the first slots of each slice, 0 as the days, once
+ * the whole text is judged; what lies past them stays.
  */
 meltusk_imported meltusk_import_csv(const uint8_t *text, size_t text_count,
                                     uint32_t *growers, size_t growers_count,
                                     uint32_t *weights, size_t weights_count,
-                                    uint32_t *yields, size_t yields_count);
+                                    uint32_t *yields, size_t yields_count,
+                                    uint32_t *days, size_t days_count);
 
 /*
- * Exports the first `used` slots as a weighbridge file. Checks 3 4 8 15 (8: the
- * slots to be exported). Writes the header line grower,weight,yield and a row a
- * slot to `text`, with CRLF and neither quotes nor leading zeros; what lies
- * past them stays. MELTUSK_CSV_BYTES(used) bytes are always enough. Importing
- * what was written gives the same deliveries.
+ * Exports the first `used` slots as a weighbridge file. Checks 3 4 8 19 15 (8
+ * and 19: the slots to be exported). Writes the header line grower,weight,yield
+ * and a row a slot to `text`, with CRLF and neither quotes nor leading zeros;
+ * what lies past them stays. MELTUSK_CSV_BYTES(used) bytes are always enough.
+ * Importing what was written gives the same deliveries but for the days, which
+ * are 0.
  */
 meltusk_written meltusk_export_csv(uint32_t used,
                                    const uint32_t *growers, size_t growers_count,
                                    const uint32_t *weights, size_t weights_count,
                                    const uint32_t *yields, size_t yields_count,
+                                   const uint32_t *days, size_t days_count,
                                    uint8_t *text, size_t text_count);
+
+/*
+ * The day number of a date, year, month and day of the month as they are
+ * written: 2024, 2, 29 is 8,825. Check 19.
+ */
+meltusk_day_answer meltusk_day_of(uint32_t year, uint32_t month, uint32_t day);
+
+/*
+ * The date of a day number, whose day number it is. Check 19.
+ */
+meltusk_date_answer meltusk_date_of(uint32_t day);
+
+/*
+ * The term that holds a day. Check 19. The next term begins the day after its
+ * last.
+ */
+meltusk_term_answer meltusk_term_of(uint32_t day);
 
 #ifdef __cplusplus
 }

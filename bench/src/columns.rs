@@ -1,11 +1,12 @@
-//! The five calls on a column of 262,144 slots.
+//! The calls on a column of 262,144 slots.
 
+use crate::sets::{delivery, HARVEST};
 use crate::timing::{timed, Times, REPETITIONS, ROUNDS};
 use meltusk::{
     call_second, even_ends, spread_growers, Answer, Call, Column, Empty, Library, Set, Slots,
 };
 use second::random::{case_seed, Random};
-use second::{Delivery, BLOCK_LENGTH_LIMIT, SLOT_LIMIT};
+use second::{Delivery, Span, BLOCK_LENGTH_LIMIT, SLOT_LIMIT};
 
 /// Slots left free.
 const FREE: usize = 256;
@@ -66,12 +67,15 @@ pub fn make(side: usize, c: &mut Column, calls: &[Call], answers: &mut Vec<Answe
 /// Growers spread evenly over all numbers, in the order of the unpartitioned
 /// set, laid in partitions of equal blocks.
 pub fn laid(r: &mut Random, partitions: usize, used: usize) -> Column {
+    let growers = spread_growers(r, used);
+    let drawn: Vec<Delivery> = growers.iter().map(|&g| delivery(r, g)).collect();
     let mut set = Set {
         block: BLOCK_LENGTH_LIMIT,
         used: used as u32,
-        growers: spread_growers(r, used),
-        weights: (0..used).map(|_| r.within(0, 100_000) as u32).collect(),
-        yields: (0..used).map(|_| r.within(0, 10_000) as u32).collect(),
+        growers,
+        weights: drawn.iter().map(|d| d.weight).collect(),
+        yields: drawn.iter().map(|d| d.oil_yield).collect(),
+        days: drawn.iter().map(|d| d.day).collect(),
     };
     set.resize(SLOT_LIMIT);
     let applied = LIBRARY.apply_layout(&set.view(), &even_ends(partitions));
@@ -105,8 +109,7 @@ impl Bench {
 }
 
 fn used_delivery(r: &mut Random, c: &Column) -> Delivery {
-    let i = r.below(USED);
-    Delivery::new(c.growers[i], c.weights[i], c.yields[i])
+    c.view().slot(r.below(USED))
 }
 
 pub fn run(partitions: usize) {
@@ -117,7 +120,10 @@ pub fn run(partitions: usize) {
         columns: [column.clone(), column],
         answers: [Vec::with_capacity(WRITES), Vec::with_capacity(WRITES)],
     };
-    let [mut find, mut range, mut insert, mut delete, mut moved]: [Times; 5] = Default::default();
+    let [mut find, mut range, mut of_term, mut all_days]: [Times; 4] = Default::default();
+    let [mut insert, mut delete, mut moved]: [Times; 3] = Default::default();
+    // The first term of the harvest: a sixth of the records.
+    let term = Span::new(HARVEST.first, HARVEST.first + 14);
     for _ in 0..REPETITIONS {
         for round in 0..ROUNDS {
             let first = round % 2;
@@ -133,14 +139,20 @@ pub fn run(partitions: usize) {
                 })
                 .collect();
             bench.batch(first, &ranges, &mut range);
+            for (span, times) in [(term, &mut of_term), (Span::ALL, &mut all_days)] {
+                let dated: Vec<Call> = (0..READS)
+                    .map(|_| {
+                        let lo = r.below(USED - eighth);
+                        Call::RangeDays(sorted[lo], sorted[lo + eighth - 1], span)
+                    })
+                    .collect();
+                bench.batch(first, &dated, times);
+            }
             // The deliveries of a batch are inserted, then deleted.
             let new: Vec<Delivery> = (0..WRITES)
                 .map(|_| {
-                    Delivery::new(
-                        r.next() as u32,
-                        r.within(0, 100_000) as u32,
-                        r.within(0, 10_000) as u32,
-                    )
+                    let grower = r.next() as u32;
+                    delivery(&mut r, grower)
                 })
                 .collect();
             let inserts: Vec<Call> = new.iter().map(|&d| Call::Insert(d)).collect();
@@ -169,7 +181,10 @@ pub fn run(partitions: usize) {
             bench.columns[OURS] == bench.columns[SECOND],
             "the columns differ"
         );
-        for times in [&mut find, &mut range, &mut insert, &mut delete, &mut moved] {
+        for times in [&mut find, &mut range, &mut of_term, &mut all_days] {
+            times.close();
+        }
+        for times in [&mut insert, &mut delete, &mut moved] {
             times.close();
         }
         // The columns are equal and lie elsewhere in memory. Each side is timed
@@ -178,6 +193,8 @@ pub fn run(partitions: usize) {
     }
     find.print("find", partitions);
     range.print("range 1/8", partitions);
+    of_term.print("term, 1/8", partitions);
+    all_days.print("all days, 1/8", partitions);
     insert.print("insert", partitions);
     delete.print("delete", partitions);
     moved.print("move", partitions);

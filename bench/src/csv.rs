@@ -13,8 +13,8 @@ const ROUNDS: usize = 5;
 const NARROW: usize = 3;
 const WIDE: usize = 8;
 
-/// Growers, weights and yields.
-type Slots = [Vec<u32>; 3];
+/// Growers, weights, yields and days, which are 0 as an import gives them.
+type Slots = [Vec<u32>; 4];
 
 /// What one side writes to and reads into; exchanged after each repetition.
 struct Side {
@@ -26,36 +26,36 @@ impl Side {
     fn new(bytes: usize) -> Side {
         Side {
             text: vec![0; bytes],
-            slots: [0; 3].map(|n| vec![n; SLOT_LIMIT]),
+            slots: [0; 4].map(|n| vec![n; SLOT_LIMIT]),
         }
     }
 
     /// Refusal and bytes.
-    fn export(&mut self, side: usize, [g, w, y]: &Slots) -> (u32, usize) {
+    fn export(&mut self, side: usize, [g, w, y, n]: &Slots) -> (u32, usize) {
         if side == OURS {
-            let a = LIBRARY.export_csv(SLOT_LIMIT as u32, g, w, y, &mut self.text);
+            let a = LIBRARY.export_csv(SLOT_LIMIT as u32, g, w, y, n, &mut self.text);
             (a.refusal, a.bytes as usize)
         } else {
-            let a = csv_export(SLOT_LIMIT, g, w, y, &mut self.text);
+            let a = csv_export(SLOT_LIMIT, g, w, y, n, &mut self.text);
             (a.refusal, a.written)
         }
     }
 
     /// Refusal and rows.
     fn import(&mut self, side: usize) -> (u32, usize) {
-        let [g, w, y] = &mut self.slots;
+        let [g, w, y, n] = &mut self.slots;
         if side == OURS {
-            let a = LIBRARY.import_csv(&self.text, g, w, y);
+            let a = LIBRARY.import_csv(&self.text, g, w, y, n);
             (a.refusal, a.rows as usize)
         } else {
-            let a = csv_import(&self.text, g, w, y);
+            let a = csv_import(&self.text, g, w, y, n);
             (a.refusal, a.rows)
         }
     }
 }
 
 /// The file of these deliveries with other columns, some of them quoted.
-fn wide_text([growers, weights, yields]: &Slots) -> Vec<u8> {
+fn wide_text([growers, weights, yields, _]: &Slots) -> Vec<u8> {
     let mut text = String::from("ticket,time,mill,yield,\"grower\",name,weight,remarks\r\n");
     for i in 0..SLOT_LIMIT {
         let (grower, weight, oil_yield) = (growers[i], weights[i], yields[i]);
@@ -115,6 +115,7 @@ pub fn run() {
         (0..SLOT_LIMIT)
             .map(|_| r.within(0, YIELD_LIMIT as usize) as u32)
             .collect(),
+        vec![0; SLOT_LIMIT],
     ];
     let bytes = csv_size(&slots[0], &slots[1], &slots[2]);
     let mut sides = [Side::new(bytes), Side::new(bytes)];

@@ -22,6 +22,7 @@ pub fn set(blocks: usize) -> Set {
         growers: (0..used as u32).map(|i| 10 * i).collect(),
         weights: vec![100; used],
         yields: vec![2_000; used],
+        days: vec![0; used],
     }
 }
 

@@ -22,7 +22,7 @@ const NAME: usize = 36;
 
 /// What stands beside ours, in the order of `others`.
 const OTHERS: [&str; 3] = [
-    "three sorted vectors",
+    "four sorted vectors",
     "balanced tree (BTreeMap)",
     "SQLite in memory, covering index",
 ];
@@ -111,7 +111,7 @@ const CALLS: [&str; 5] = ["find", "range", "insert", "delete", "move"];
 fn kind(call: &Call) -> usize {
     match call {
         Call::Find(_) => 0,
-        Call::Range(..) => 1,
+        Call::Range(..) | Call::RangeDays(..) => 1,
         Call::Insert(_) => 2,
         Call::Delete(_) => 3,
         Call::Move(..) => 4,

@@ -4,7 +4,7 @@ use crate::columns::LIBRARY;
 use meltusk::{Column, Set, Slots};
 use second::random::Random;
 use second::{
-    Delivery, Limits, PriceCard, BLOCK_LENGTH_LIMIT, BLOCK_LIMIT, LIMIT_LIMIT, WEIGHT_LIMIT,
+    Delivery, Limits, PriceCard, Span, BLOCK_LENGTH_LIMIT, BLOCK_LIMIT, LIMIT_LIMIT, WEIGHT_LIMIT,
     YIELD_LIMIT,
 };
 
@@ -17,17 +17,20 @@ pub fn drawn(r: &mut Random, block: u32, growers: Vec<u32>, slots: usize) -> Set
         growers,
         weights: deliveries.iter().map(|d| d.weight).collect(),
         yields: deliveries.iter().map(|d| d.oil_yield).collect(),
+        days: deliveries.iter().map(|d| d.day).collect(),
     };
     set.resize(slots);
     set
 }
 
+/// The days of a harvest: 1 October to 31 December 2024, six terms.
+pub const HARVEST: Span = Span::new(9_040, 9_131);
+
 pub fn delivery(r: &mut Random, grower: u32) -> Delivery {
-    Delivery::new(
-        grower,
-        r.within(0, WEIGHT_LIMIT as usize) as u32,
-        r.within(0, YIELD_LIMIT as usize) as u32,
-    )
+    let weight = r.within(0, WEIGHT_LIMIT as usize) as u32;
+    let oil_yield = r.within(0, YIELD_LIMIT as usize) as u32;
+    let day = r.within(HARVEST.first as usize, HARVEST.last as usize);
+    Delivery::new(grower, weight, oil_yield).on(day as u32)
 }
 
 /// Where a set can be cut, and the columns that this gives.
@@ -49,7 +52,7 @@ impl Layouts for Set {
     }
 
     fn delivery(&self, slot: usize) -> Delivery {
-        Delivery::new(self.growers[slot], self.weights[slot], self.yields[slot])
+        self.slot(slot)
     }
 
     /// The shortest blocks that the set can have.

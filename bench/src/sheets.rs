@@ -1,9 +1,9 @@
 //! Settlement sheets of 250,000 deliveries of 6,000 growers.
 
 use crate::columns::{LIBRARY, OURS, SECOND};
-use crate::sets::{drawn, Layouts};
+use crate::sets::{drawn, Layouts, HARVEST};
 use crate::timing::{timed, Times, REPETITIONS};
-use meltusk::{even_ends, sheet_second, spread_growers, Column, Slots};
+use meltusk::{even_ends, sheet_second, spread_growers, term_sheet_second, Column, Slots};
 use second::random::{case_seed, Random};
 use second::{sheet_size, BLOCK_LIMIT, SLOT_LIMIT};
 
@@ -86,27 +86,28 @@ impl Side {
         }
     }
 
-    /// Refusal and bytes.
-    fn write(&mut self, side: usize, c: &Column) -> (u32, usize) {
+    /// The refusal of the whole sheet, or of that of a day's term.
+    fn write(&mut self, side: usize, c: &Column, day: Option<u32>) -> u32 {
         let Side { text, order, work } = self;
-        let a = match side {
-            OURS => LIBRARY.write_sheet(&c.view(), text, order, work),
-            _ => sheet_second(&c.view(), text, order, work),
+        let a = match (side, day) {
+            (OURS, None) => LIBRARY.write_sheet(&c.view(), text, order, work),
+            (OURS, Some(day)) => LIBRARY.write_term_sheet(&c.view(), day, text, order, work),
+            (_, None) => sheet_second(&c.view(), text, order, work),
+            (_, Some(day)) => term_sheet_second(&c.view(), day, text, order, work),
         };
-        (a.refusal, a.bytes as usize)
+        a.refusal
     }
 }
 
-/// Times the sheet of a column in a text of so many bytes.
-fn time(name: &str, partitions: usize, column: &Column, bytes: usize) {
-    let exact = sheet_size(GROWERS);
+/// Times the sheet of a column, or that of a term, in a text of so many bytes.
+fn time(name: &str, partitions: usize, column: &Column, bytes: usize, day: Option<u32>) {
     let mut sides = [Side::new(bytes), Side::new(bytes)];
     let mut times = Times::default();
     for _ in 0..REPETITIONS {
         for round in 0..ROUNDS {
             for side in [round % 2, 1 - round % 2] {
-                let (ns, answer) = timed(1, || sides[side].write(side, column));
-                assert_eq!(answer, (0, exact), "the sheet is refused");
+                let (ns, refusal) = timed(1, || sides[side].write(side, column, day));
+                assert_eq!(refusal, 0, "the sheet is refused");
                 times.add(side, ns);
             }
             let [ours, second] = &sides;
@@ -124,12 +125,15 @@ pub fn run(partitions: usize) {
     let fresh = laid(r, partitions);
     let [mixed, worked] = [shuffled(r, fresh.clone()), rotated(r, fresh.clone())];
     for (column, names) in [
-        (&fresh, ["laid", "laid, exact"]),
-        (&mixed, ["shuffled", "shuffled, exact"]),
-        (&worked, ["rotated", "rotated, exact"]),
+        (&fresh, ["laid", "laid, exact", "laid, a term"]),
+        (&mixed, ["shuffled", "shuffled, exact", "shuffled, term"]),
+        (&worked, ["rotated", "rotated, exact", "rotated, a term"]),
     ] {
         // Room for a line a slot, and for the lines that there are.
-        time(names[0], partitions, column, sheet_size(SLOT_LIMIT));
-        time(names[1], partitions, column, sheet_size(GROWERS));
+        let [all, exact] = [SLOT_LIMIT, GROWERS].map(sheet_size);
+        time(names[0], partitions, column, all, None);
+        time(names[1], partitions, column, exact, None);
+        // A sixth of the records.
+        time(names[2], partitions, column, all, Some(HARVEST.first));
     }
 }

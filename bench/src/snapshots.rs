@@ -15,6 +15,7 @@ struct Side {
     growers: Vec<u32>,
     weights: Vec<u32>,
     yields: Vec<u32>,
+    days: Vec<u32>,
 }
 
 impl Side {
@@ -24,6 +25,7 @@ impl Side {
             growers: vec![0; SLOT_LIMIT],
             weights: vec![0; SLOT_LIMIT],
             yields: vec![0; SLOT_LIMIT],
+            days: vec![0; SLOT_LIMIT],
         }
     }
 
@@ -33,25 +35,26 @@ impl Side {
             let a = LIBRARY.write_snapshot(&c.view(), &mut self.text);
             (a.refusal, a.bytes as usize)
         } else {
-            let (g, w, y) = (&c.growers, &c.weights, &c.yields);
-            let a = snapshot_write(g, w, y, &c.directory, &mut self.text);
+            let (g, w, y, n) = (&c.growers, &c.weights, &c.yields, &c.days);
+            let a = snapshot_write(g, w, y, n, &c.directory, &mut self.text);
             (a.refusal, a.written)
         }
     }
 
     /// Refusal and directory.
     fn read(&mut self, side: usize) -> (u32, Vec<u32>) {
-        let (t, g, w, y) = (
+        let (t, g, w, y, n) = (
             &self.text,
             &mut self.growers,
             &mut self.weights,
             &mut self.yields,
+            &mut self.days,
         );
         if side == OURS {
-            let a = LIBRARY.read_snapshot(t, g, w, y);
+            let a = LIBRARY.read_snapshot(t, g, w, y, n);
             (a.refusal, a.directory.to_vec())
         } else {
-            let a = snapshot_read(t, g, w, y);
+            let a = snapshot_read(t, g, w, y, n);
             (a.refusal, a.directory.to_vec())
         }
     }
@@ -59,7 +62,7 @@ impl Side {
 
 pub fn run(partitions: usize) {
     let mut r = Random::new(case_seed(101, partitions as u64));
-    let column = laid(&mut r, partitions, SLOT_LIMIT);
+    let column = laid(&mut r, partitions, SLOT_LIMIT).undated();
     let bytes = snapshot_size(SLOT_LIMIT, partitions);
     let mut sides = [Side::new(bytes), Side::new(bytes)];
     let [mut written, mut read, mut copied]: [Times; 3] = Default::default();
@@ -79,7 +82,8 @@ pub fn run(partitions: usize) {
                 assert!(
                     s.growers == column.growers
                         && s.weights == column.weights
-                        && s.yields == column.yields,
+                        && s.yields == column.yields
+                        && s.days == column.days,
                     "another column is read"
                 );
             }

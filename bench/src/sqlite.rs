@@ -93,23 +93,27 @@ pub fn version() -> Option<String> {
     )
 }
 
-const TABLE: &str = "CREATE TABLE deliveries (grower INTEGER, weight INTEGER, oil_yield INTEGER);
-    CREATE INDEX by_grower ON deliveries (grower, weight, oil_yield);";
+const TABLE: &str =
+    "CREATE TABLE deliveries (grower INTEGER, weight INTEGER, oil_yield INTEGER, day INTEGER);
+    CREATE INDEX by_grower ON deliveries (grower, weight, oil_yield, day);";
 const RANGE: &str = "SELECT count(*), sum(weight), sum(weight * oil_yield) FROM deliveries
     WHERE grower BETWEEN ?1 AND ?2";
+const RANGE_DAYS: &str = "SELECT count(*), sum(weight), sum(weight * oil_yield) FROM deliveries
+    WHERE grower BETWEEN ?1 AND ?2 AND day BETWEEN ?3 AND ?4";
 const FIND: &str = "SELECT count(*), sum(weight), sum(weight * oil_yield) FROM deliveries
     WHERE grower = ?1";
-const INSERT: &str = "INSERT INTO deliveries VALUES (?1, ?2, ?3)";
+const INSERT: &str = "INSERT INTO deliveries VALUES (?1, ?2, ?3, ?4)";
 const DELETE: &str = "DELETE FROM deliveries WHERE rowid = (SELECT rowid FROM deliveries
-    WHERE grower = ?1 AND weight = ?2 AND oil_yield = ?3 LIMIT 1)";
-const MOVE: &str = "UPDATE deliveries SET grower = ?4 WHERE rowid = (SELECT rowid FROM deliveries
-    WHERE grower = ?1 AND weight = ?2 AND oil_yield = ?3 LIMIT 1)";
+    WHERE grower = ?1 AND weight = ?2 AND oil_yield = ?3 AND day = ?4 LIMIT 1)";
+const MOVE: &str = "UPDATE deliveries SET grower = ?5 WHERE rowid = (SELECT rowid FROM deliveries
+    WHERE grower = ?1 AND weight = ?2 AND oil_yield = ?3 AND day = ?4 LIMIT 1)";
 
 pub struct Sqlite {
     api: Api,
     database: Database,
     find: Statement,
     range: Statement,
+    range_days: Statement,
     insert: Statement,
     delete: Statement,
     moved: Statement,
@@ -128,6 +132,7 @@ impl Sqlite {
             database,
             find: null_mut(),
             range: null_mut(),
+            range_days: null_mut(),
             insert: null_mut(),
             delete: null_mut(),
             moved: null_mut(),
@@ -135,6 +140,7 @@ impl Sqlite {
         sqlite.execute(TABLE);
         sqlite.find = sqlite.prepared(FIND);
         sqlite.range = sqlite.prepared(RANGE);
+        sqlite.range_days = sqlite.prepared(RANGE_DAYS);
         sqlite.insert = sqlite.prepared(INSERT);
         sqlite.delete = sqlite.prepared(DELETE);
         sqlite.moved = sqlite.prepared(MOVE);
@@ -205,10 +211,11 @@ impl Sqlite {
 
 impl Drop for Sqlite {
     fn drop(&mut self) {
-        let prepared = [self.find, self.range, self.insert, self.delete, self.moved];
+        let reads = [self.find, self.range, self.range_days];
+        let writes = [self.insert, self.delete, self.moved];
         // SAFETY: each statement is prepared once and used no more.
         unsafe {
-            for statement in prepared {
+            for statement in reads.into_iter().chain(writes) {
                 (self.api.finalize)(statement);
             }
             (self.api.close)(self.database);
@@ -224,18 +231,22 @@ impl Structure for Sqlite {
 
     fn call(&mut self, call: Call) -> Answered {
         let absent = |changes| if changes == 1 { 0 } else { ABSENT };
-        let values = |d: Delivery| [d.grower, d.weight, d.oil_yield];
+        let values = |d: Delivery| [d.grower, d.weight, d.oil_yield, d.day];
         match call {
             Call::Find(grower) => (0, self.totals(self.find, &[grower])),
             Call::Range(lo, hi) => (0, self.totals(self.range, &[lo, hi])),
+            Call::RangeDays(lo, hi, span) => {
+                let values = [lo, hi, span.first, span.last];
+                (0, self.totals(self.range_days, &values))
+            }
             Call::Insert(d) => {
                 self.change(self.insert, &values(d));
                 (0, NONE)
             }
             Call::Delete(d) => (absent(self.change(self.delete, &values(d))), NONE),
             Call::Move(d, new) => {
-                let [grower, weight, oil_yield] = values(d);
-                let changes = self.change(self.moved, &[grower, weight, oil_yield, new]);
+                let [grower, weight, oil_yield, day] = values(d);
+                let changes = self.change(self.moved, &[grower, weight, oil_yield, day, new]);
                 (absent(changes), NONE)
             }
         }

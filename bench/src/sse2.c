@@ -35,7 +35,40 @@ static inline int outside(struct seen seen)
     return _mm_movemask_ps(_mm_castsi128_ps(_mm_or_si128(seen.as_is, seen.added)));
 }
 
-/* The records of `grower`, or -1 if a value is out of range. */
+/* The records of `grower`, or -1 if a value or a day is out of range. */
+int64_t sse2_count_days(const uint32_t *growers, const uint32_t *weights, const uint32_t *yields,
+                        const uint32_t *days, size_t count, uint32_t grower, uint32_t most_weight,
+                        uint32_t most_yield, uint32_t most_day)
+{
+    const __m128i zero = _mm_setzero_si128(), wanted = _mm_set1_epi32((int)grower);
+    const __m128i weight_room = _mm_set1_epi32(INT32_MAX - (int)most_weight);
+    const __m128i yield_room = _mm_set1_epi32(INT32_MAX - (int)most_yield);
+    const __m128i day_room = _mm_set1_epi32(INT32_MAX - (int)most_day);
+    struct seen weight = {zero, zero}, yield = {zero, zero}, day = {zero, zero};
+    __m128i found = zero;
+    size_t i = 0;
+    for (; i + STEP <= count; i += STEP) {
+        found = _mm_sub_epi32(found, _mm_cmpeq_epi32(load(growers + i), wanted));
+        judge(&weight, weight_room, weights + i);
+        judge(&yield, yield_room, yields + i);
+        judge(&day, day_room, days + i);
+        found = _mm_sub_epi32(found, _mm_cmpeq_epi32(load(growers + i + LANES), wanted));
+        judge(&weight, weight_room, weights + i + LANES);
+        judge(&yield, yield_room, yields + i + LANES);
+        judge(&day, day_room, days + i + LANES);
+    }
+    uint32_t lanes[LANES];
+    _mm_storeu_si128((__m128i *)lanes, found);
+    int64_t records = (int64_t)lanes[0] + lanes[1] + lanes[2] + lanes[3];
+    int bad = outside(weight) | outside(yield) | outside(day);
+    for (; i < count; i++) {
+        records += growers[i] == grower;
+        bad |= weights[i] > most_weight || yields[i] > most_yield || days[i] > most_day;
+    }
+    return bad ? -1 : records;
+}
+
+/* The same without the days. */
 int64_t sse2_count(const uint32_t *growers, const uint32_t *weights, const uint32_t *yields,
                    size_t count, uint32_t grower, uint32_t most_weight, uint32_t most_yield)
 {

@@ -1,10 +1,10 @@
 //! Find beside a loop written by hand (`sse2.c`) over the same partition.
 
-use crate::columns::{laid, LIBRARY, OURS};
+use crate::columns::{laid, LIBRARY};
 use crate::timing::{timed, Times, REPETITIONS, ROUNDS};
 use meltusk::Column;
 use second::random::{case_seed, Random};
-use second::{LENGTHS, SLOT_LIMIT, WEIGHT_LIMIT, YIELD_LIMIT};
+use second::{DAY_LIMIT, LENGTHS, SLOT_LIMIT, WEIGHT_LIMIT, YIELD_LIMIT};
 
 /// Finds of a batch.
 const READS: usize = 8;
@@ -18,6 +18,18 @@ extern "C" {
         grower: u32,
         most_weight: u32,
         most_yield: u32,
+    ) -> i64;
+
+    fn sse2_count_days(
+        growers: *const u32,
+        weights: *const u32,
+        yields: *const u32,
+        days: *const u32,
+        count: usize,
+        grower: u32,
+        most_weight: u32,
+        most_yield: u32,
+        most_day: u32,
     ) -> i64;
 }
 
@@ -45,7 +57,28 @@ fn drawn(r: &mut Random, sorted: &[u32], lengths: &[u32]) -> Wanted {
     }
 }
 
-/// The loop is handed the partition: it looks for none.
+/// The loop over the four slices is handed the partition: it looks for none.
+fn counted_days(c: &Column, w: &Wanted) -> i64 {
+    let [growers, weights, yields, days] = [&c.growers, &c.weights, &c.yields, &c.days]
+        .map(|s| s[w.start..w.start + w.count].as_ptr());
+    let (most_weight, most_yield, most_day) = (WEIGHT_LIMIT, YIELD_LIMIT, DAY_LIMIT);
+    // SAFETY: each pointer is to `count` numbers.
+    unsafe {
+        sse2_count_days(
+            growers,
+            weights,
+            yields,
+            days,
+            w.count,
+            w.grower,
+            most_weight,
+            most_yield,
+            most_day,
+        )
+    }
+}
+
+/// The loop without the days.
 fn counted(c: &Column, w: &Wanted) -> i64 {
     let [growers, weights, yields] =
         [&c.growers, &c.weights, &c.yields].map(|s| s[w.start..w.start + w.count].as_ptr());
@@ -64,17 +97,21 @@ fn counted(c: &Column, w: &Wanted) -> i64 {
     }
 }
 
-/// The records of each grower, and nanoseconds a find.
-fn found(side: usize, c: &Column, wanted: &[Wanted]) -> (f64, Vec<i64>) {
-    let ours = |w: &Wanted| LIBRARY.find(&c.view(), w.grower).totals.records as i64;
-    if side == OURS {
-        timed(READS, || wanted.iter().map(ours).collect())
-    } else {
-        timed(READS, || wanted.iter().map(|w| counted(c, w)).collect())
-    }
+fn found(c: &Column, w: &Wanted) -> i64 {
+    LIBRARY.find(&c.view(), w.grower).totals.records as i64
 }
 
+/// One grower's records of a partition.
+type Count = fn(&Column, &Wanted) -> i64;
+
+/// Find beside the loop over four slices, and that loop beside the one over
+/// three: what judging the days costs.
 pub fn run(partitions: usize) {
+    time("find", partitions, [found, counted_days]);
+    time("loop, 4 and 3", partitions, [counted_days, counted]);
+}
+
+fn time(name: &str, partitions: usize, counts: [Count; 2]) {
     let mut r = Random::new(case_seed(107, partitions as u64));
     let column = laid(&mut r, partitions, SLOT_LIMIT);
     let sorted = column.growers.clone();
@@ -89,7 +126,9 @@ pub fn run(partitions: usize) {
                 let wanted: Vec<Wanted> = (0..READS)
                     .map(|_| drawn(&mut r, &sorted, &lengths))
                     .collect();
-                let (ns, found) = found(side, &columns[side], &wanted);
+                let (column, count) = (&columns[side], counts[side]);
+                let (ns, found): (f64, Vec<i64>) =
+                    timed(READS, || wanted.iter().map(|w| count(column, w)).collect());
                 find.add(side, ns);
                 // Growers are spread so that no two records have the same.
                 assert!(found.iter().all(|&n| n == 1), "another count");
@@ -98,5 +137,5 @@ pub fn run(partitions: usize) {
         find.close();
         columns.swap(0, 1);
     }
-    find.print("find", partitions);
+    find.print(name, partitions);
 }

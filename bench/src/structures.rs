@@ -1,11 +1,11 @@
-//! What a user could keep deliveries in, each with the five calls and the
-//! ledger's answers: refusal and totals.
+//! What a user could keep deliveries in, each with the calls and the ledger's
+//! answers: refusal and totals.
 
 use crate::columns::LIBRARY;
 use crate::sets::Layouts;
 use meltusk::{Call, Column, Set, Totals};
 use second::check::ABSENT;
-use second::Delivery;
+use second::{Delivery, Span};
 use std::cell::RefCell;
 use std::collections::BTreeMap;
 use std::rc::Rc;
@@ -63,6 +63,7 @@ impl Structure for Ours<'_> {
         column.growers.copy_from_slice(&self.set.growers);
         column.weights.copy_from_slice(&self.set.weights);
         column.yields.copy_from_slice(&self.set.yields);
+        column.days.copy_from_slice(&self.set.days);
     }
 
     fn call(&mut self, made: Call) -> Answered {
@@ -89,13 +90,14 @@ fn add(totals: &mut Totals, weight: u32, oil_yield: u32, records: u64) {
     totals.oil += records * u64::from(weight) * u64::from(oil_yield);
 }
 
-/// Three vectors sorted by grower, searched by halves; an insert shifts what
+/// Four vectors sorted by grower, searched by halves; an insert shifts what
 /// lies behind it.
 pub struct Sorted<'a> {
     set: &'a Set,
     growers: Vec<u32>,
     weights: Vec<u32>,
     yields: Vec<u32>,
+    days: Vec<u32>,
 }
 
 impl<'a> Sorted<'a> {
@@ -106,11 +108,19 @@ impl<'a> Sorted<'a> {
             growers: Vec::with_capacity(slots),
             weights: Vec::with_capacity(slots),
             yields: Vec::with_capacity(slots),
+            days: Vec::with_capacity(slots),
         }
     }
 
-    fn slices(&mut self) -> [&mut Vec<u32>; 3] {
-        [&mut self.growers, &mut self.weights, &mut self.yields]
+    fn slices(&mut self) -> [&mut Vec<u32>; 4] {
+        let Sorted {
+            growers,
+            weights,
+            yields,
+            days,
+            ..
+        } = self;
+        [growers, weights, yields, days]
     }
 
     /// The first slot whose grower is at least `grower`.
@@ -122,8 +132,10 @@ impl<'a> Sorted<'a> {
         let first = self.first(d.grower);
         let same = self.growers[first..].iter();
         let same = same.take_while(|&&held| held == d.grower).count();
-        (first..first + same)
-            .find(|&i| self.weights[i] == d.weight && self.yields[i] == d.oil_yield)
+        let is_equal = |&i: &usize| {
+            self.weights[i] == d.weight && self.yields[i] == d.oil_yield && self.days[i] == d.day
+        };
+        (first..first + same).find(is_equal)
     }
 
     fn range(&self, lo: u32, hi: u32) -> Totals {
@@ -146,15 +158,24 @@ impl<'a> Sorted<'a> {
         }
         totals
     }
+
+    fn range_days(&self, lo: u32, hi: u32, span: Span) -> Totals {
+        let mut totals = NONE;
+        let past = self.growers.partition_point(|&held| held <= hi);
+        for i in (self.first(lo)..past).filter(|&i| span.holds(self.days[i])) {
+            add(&mut totals, self.weights[i], self.yields[i], 1);
+        }
+        totals
+    }
 }
 
 impl Structure for Sorted<'_> {
     fn fresh(&mut self) {
         let (set, used) = (self.set, self.set.records());
-        for (held, from) in self
-            .slices()
-            .into_iter()
-            .zip([&set.growers, &set.weights, &set.yields])
+        for (held, from) in
+            self.slices()
+                .into_iter()
+                .zip([&set.growers, &set.weights, &set.yields, &set.days])
         {
             held.clear();
             held.extend_from_slice(&from[..used]);
@@ -165,11 +186,13 @@ impl Structure for Sorted<'_> {
         match call {
             Call::Find(grower) => (0, self.range(grower, grower)),
             Call::Range(lo, hi) => (0, self.range(lo, hi)),
+            Call::RangeDays(lo, hi, span) => (0, self.range_days(lo, hi, span)),
             Call::Insert(d) => {
                 let slot = self.first(d.grower);
                 self.growers.insert(slot, d.grower);
                 self.weights.insert(slot, d.weight);
                 self.yields.insert(slot, d.oil_yield);
+                self.days.insert(slot, d.day);
                 (0, NONE)
             }
             Call::Delete(d) => {
@@ -233,13 +256,14 @@ impl Tree {
         0
     }
 
-    fn range(&self, lo: u32, hi: u32) -> Totals {
+    fn range(&self, lo: u32, hi: u32, span: Span) -> Totals {
         let mut totals = NONE;
         let (from, to) = (
             Delivery::new(lo, 0, 0),
-            Delivery::new(hi, u32::MAX, u32::MAX),
+            Delivery::new(hi, u32::MAX, u32::MAX).on(u32::MAX),
         );
-        for (d, &count) in self.held.range(from..=to) {
+        let held = self.held.range(from..=to);
+        for (d, &count) in held.filter(|(d, _)| span.holds(d.day)) {
             add(&mut totals, d.weight, d.oil_yield, u64::from(count));
         }
         totals
@@ -253,8 +277,9 @@ impl Structure for Tree {
 
     fn call(&mut self, call: Call) -> Answered {
         match call {
-            Call::Find(grower) => (0, self.range(grower, grower)),
-            Call::Range(lo, hi) => (0, self.range(lo, hi)),
+            Call::Find(grower) => (0, self.range(grower, grower, Span::ALL)),
+            Call::Range(lo, hi) => (0, self.range(lo, hi, Span::ALL)),
+            Call::RangeDays(lo, hi, span) => (0, self.range(lo, hi, span)),
             Call::Insert(d) => {
                 self.insert(d);
                 (0, NONE)

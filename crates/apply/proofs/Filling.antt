@@ -10,6 +10,7 @@ use lib.ListN.{length, getD, take, drop, length-map}
 use lib.Seq.{length-take-le, take-suc, take-all, drop-cons}
 use Rattle.model.specs.declared.Applied.{Applied}
 use Rattle.model.specs.Checks.{firstFailed}
+use Rattle.model.specs.Deliveries.{Slices}
 use Rattle.model.specs.Blocks.{Set, blocks, blockStop, lastGrower}
 use Rattle.model.specs.Layouts.{layoutOk}
 use Rattle.model.specs.Directory.{directorySize, directoryNumbers, noDirectory}
@@ -21,7 +22,6 @@ use Rattle.model.proofs.ListLaws.{at-map}
 use Rattle.model.proofs.LayoutLaws.{laid, cut-first, cut-count}
 use Rattle.model.proofs.SetLaws.{stop-mono}
 use Rattle.model.proofs.Fresh.{length-lengths}
-use Rattle.model.specs.Lent.{setOf}
 use Rattle.directory.specs.Numbers.{blank, withPartition}
 use Rattle.directory.proofs.Putting.{partsPut, put-none, blank-size, put-size, put-next, put-all}
 use Rattle.sets.specs.Sized.{Sized}
@@ -104,12 +104,13 @@ module _ (L : ℕ) where
   -- The answer.
 
   -- check 6 looks at the growers alone
-  pub layout-same : (b m : ℕ) (gs ws ys vs us ends : List ℕ) → T (layoutOk (setOf b m gs ws ys) ends) → T (layoutOk (setOf b m gs vs us) ends)
+  pub layout-same : (b m : ℕ) (s t : Slices) (ends : List ℕ) → s .growers ≡ t .growers → T (layoutOk (record { block = b; used = m; slices = s }) ends)
+      → T (layoutOk (record { block = b; used = m; slices = t }) ends)
   unfolding layoutOk
-  layout-same b m gs ws ys vs us ends t = t
+  layout-same b m s t ends e h = rw (sym e) h
 
-  pub few-ends : (b m c : ℕ) (gs ws ys ends : List ℕ) → Sized L b m c → T (layoutOk (setOf b m gs ws ys) ends) → length ends ≤ L
-  few-ends b m c gs ws ys ends z t = omega (arith, cut-count 0 ends (blocks (setOf b m gs ws ys)) (laid (setOf b m gs ws ys) ends t .cut), blocks-most z)
+  pub few-ends : (s : Set) (c : ℕ) (ends : List ℕ) → Sized L (s .block) (s .used) c → T (layoutOk s ends) → length ends ≤ L
+  few-ends s c ends z t = omega (arith, cut-count 0 ends (blocks s) (laid s ends t .cut), blocks-most z)
 
   module _ (s : Set) (ends : List ℕ) where
     pub accepted : firstFailed (applyChecks L s ends) ≡ 0 → Whole L s × T (layoutOk s ends)

@@ -17,9 +17,9 @@ use model::DIRECTORY_SIZE;
 // The directory of a layout: a partition's length is from the slot where the one before it stops to its own, its fence its last grower.
 fn directory_of(block: u32, used: u32, g: &[u32], ends: &[u32]) -> [u32; DIRECTORY_SIZE]
     requires { ⌜ Sized blockLimit block used (length (now g)) ⌝ }
-    requires { ⌜ T (layoutOk (setOf block used (now g) [] []) (now ends)) ⌝ }
-    ensures { λ r. ⌜ ((ws ys : List ℕ)
-        → r ≡ directoryNumbers blockLimit (directoryFor (setOf block used (now (g .entry)) ws ys) (now (ends .entry)))) ⌝ }
+    requires { ⌜ T (layoutOk (setOf block used (now g) [] [] []) (now ends)) ⌝ }
+    ensures { λ r. ⌜ ((ws ys ns : List ℕ)
+        → r ≡ directoryNumbers blockLimit (directoryFor (setOf block used (now (g .entry)) ws ys ns) (now (ends .entry)))) ⌝ }
 {
     let mut d = directory::blank(block, ends.len());
     let mut start: u32 = 0;
@@ -42,11 +42,12 @@ pub fn apply_layout(
     growers: &[u32],
     weights: &[u32],
     yields: &[u32],
+    days: &[u32],
     ends: &[u32],
 ) -> Applied
-    ensures { λ r. ⌜ r ≡ applyCall blockLimit (setIn block used growers weights yields) (now (ends .entry)) ⌝ }
+    ensures { λ r. ⌜ r ≡ applyCall blockLimit (setIn block used growers weights yields days) (now (ends .entry)) ⌝ }
 {
-    let n = sets::layout_refusal(block, used, growers, weights, yields, ends);
+    let n = sets::layout_refusal(block, used, growers, weights, yields, days, ends);
     if n != 0 {
         return Applied {
             refusal: n,

@@ -3,7 +3,8 @@ ghost use mathlib.Core.Path.{_≡_};
 ghost use Rattle.model.specs.Bounds.{blockLimit};
 ghost use Rattle.model.specs.Prices.{prices, limits};
 ghost use Rattle.model.specs.Deliveries.{delivery};
-ghost use Rattle.model.specs.Calls.{find, range, insert, delete, move};
+ghost use Rattle.model.specs.Calendar.{span};
+ghost use Rattle.model.specs.Calls.{find, range, rangeDays, insert, delete, move};
 ghost use Rattle.model.specs.Recorder.{recordCall};
 ghost use Rattle.model.specs.Planner.{costCall, planCall};
 ghost use Rattle.model.specs.ListingCalls.{listCall};
@@ -12,11 +13,15 @@ ghost use Rattle.model.specs.Growers.{up, down};
 ghost use Rattle.model.specs.GrowerCalls.{growerCall};
 ghost use Rattle.model.specs.CsvCalls.{importCall, exportCall};
 ghost use Rattle.model.specs.SnapshotCalls.{writeCall, readCall};
-ghost use Rattle.model.specs.SheetCalls.{sheetCall};
-ghost use Rattle.model.specs.Lent.{columnIn, columnOut, setIn};
+ghost use Rattle.model.specs.SheetCalls.{sheetCall, termSheetCall};
+ghost use Rattle.model.specs.Lent.{columnIn, columnOut, setIn, slicesIn, slicesOut};
 ghost use Rattle.model.specs.Accesses.{counts};
 ghost use Rattle.model.specs.Tallies.{tally, addCall};
 ghost use Rattle.snapshot.specs.Answers.{readOut};
+ghost use Rattle.dates.specs.DateCalls.{dayCall, dateCall, termCall};
+use dates::DateAnswer;
+use dates::DayAnswer;
+use dates::TermAnswer;
 use model::Answer;
 use model::Applied;
 use model::Costed;
@@ -40,11 +45,12 @@ pub extern "C" fn meltusk_apply_layout(
     growers: &[u32],
     weights: &[u32],
     yields: &[u32],
+    days: &[u32],
     ends: &[u32],
 ) -> Applied
-    ensures { λ r. ⌜ r ≡ applyCall blockLimit (setIn block used growers weights yields) (now (ends .entry)) ⌝ }
+    ensures { λ r. ⌜ r ≡ applyCall blockLimit (setIn block used growers weights yields days) (now (ends .entry)) ⌝ }
 {
-    apply::apply_layout(block, used, growers, weights, yields, ends)
+    apply::apply_layout(block, used, growers, weights, yields, days, ends)
 }
 
 // The records of one grower.
@@ -54,11 +60,12 @@ pub extern "C" fn meltusk_find(
     growers: &[u32],
     weights: &[u32],
     yields: &[u32],
+    days: &[u32],
     grower: u32,
 ) -> Answer
-    ensures { λ r. ⌜ r ≡ columnCall blockLimit (columnIn directory growers weights yields) (find grower) .answer ⌝ }
+    ensures { λ r. ⌜ r ≡ columnCall blockLimit (columnIn directory growers weights yields days) (find grower) .answer ⌝ }
 {
-    column::find(directory, growers, weights, yields, grower)
+    column::find(directory, growers, weights, yields, days, grower)
 }
 
 // The records of the growers lo to hi.
@@ -68,12 +75,41 @@ pub extern "C" fn meltusk_range(
     growers: &[u32],
     weights: &[u32],
     yields: &[u32],
+    days: &[u32],
     lo: u32,
     hi: u32,
 ) -> Answer
-    ensures { λ r. ⌜ r ≡ columnCall blockLimit (columnIn directory growers weights yields) (range lo hi) .answer ⌝ }
+    ensures { λ r. ⌜ r ≡ columnCall blockLimit (columnIn directory growers weights yields days) (range lo hi) .answer ⌝ }
 {
-    column::range(directory, growers, weights, yields, lo, hi)
+    column::range(directory, growers, weights, yields, days, lo, hi)
+}
+
+// The records of the growers lo to hi on the days first to last.
+#[no_mangle]
+pub extern "C" fn meltusk_range_days(
+    directory: &[u32],
+    growers: &[u32],
+    weights: &[u32],
+    yields: &[u32],
+    days: &[u32],
+    lo: u32,
+    hi: u32,
+    first: u32,
+    last: u32,
+) -> Answer
+    ensures { λ r. ⌜ r ≡ columnCall blockLimit (columnIn directory growers weights yields days) (rangeDays lo hi (span first last)) .answer ⌝ }
+{
+    column::range_days(
+        directory,
+        growers,
+        weights,
+        yields,
+        days,
+        lo,
+        hi,
+        first,
+        last,
+    )
 }
 
 // Inserts a delivery.
@@ -83,19 +119,22 @@ pub extern "C" fn meltusk_insert(
     growers: &mut [u32],
     weights: &mut [u32],
     yields: &mut [u32],
+    days: &mut [u32],
     grower: u32,
     weight: u32,
     oil_yield: u32,
+    day: u32,
 ) -> Answer
-    ensures { λ r. ⌜ record { answer = r; column = columnOut directory growers weights yields }
-        ≡ columnCall blockLimit (columnIn directory growers weights yields) (insert (delivery grower weight «oil_yield»)) ⌝ }
+    ensures { λ r. ⌜ record { answer = r; column = columnOut directory growers weights yields days }
+        ≡ columnCall blockLimit (columnIn directory growers weights yields days) (insert (delivery grower weight «oil_yield» day)) ⌝ }
 {
     let d = Delivery {
         grower,
         weight,
         oil_yield,
+        day,
     };
-    column::insert(directory, growers, weights, yields, d)
+    column::insert(directory, growers, weights, yields, days, d)
 }
 
 // Deletes a delivery.
@@ -105,19 +144,22 @@ pub extern "C" fn meltusk_delete(
     growers: &mut [u32],
     weights: &mut [u32],
     yields: &mut [u32],
+    days: &mut [u32],
     grower: u32,
     weight: u32,
     oil_yield: u32,
+    day: u32,
 ) -> Answer
-    ensures { λ r. ⌜ record { answer = r; column = columnOut directory growers weights yields }
-        ≡ columnCall blockLimit (columnIn directory growers weights yields) (delete (delivery grower weight «oil_yield»)) ⌝ }
+    ensures { λ r. ⌜ record { answer = r; column = columnOut directory growers weights yields days }
+        ≡ columnCall blockLimit (columnIn directory growers weights yields days) (delete (delivery grower weight «oil_yield» day)) ⌝ }
 {
     let d = Delivery {
         grower,
         weight,
         oil_yield,
+        day,
     };
-    column::delete(directory, growers, weights, yields, d)
+    column::delete(directory, growers, weights, yields, days, d)
 }
 
 // Moves a delivery to a new grower.
@@ -127,20 +169,23 @@ pub extern "C" fn meltusk_move(
     growers: &mut [u32],
     weights: &mut [u32],
     yields: &mut [u32],
+    days: &mut [u32],
     grower: u32,
     weight: u32,
     oil_yield: u32,
+    day: u32,
     new_grower: u32,
 ) -> Answer
-    ensures { λ r. ⌜ record { answer = r; column = columnOut directory growers weights yields }
-        ≡ columnCall blockLimit (columnIn directory growers weights yields) (move (delivery grower weight «oil_yield») «new_grower») ⌝ }
+    ensures { λ r. ⌜ record { answer = r; column = columnOut directory growers weights yields days }
+        ≡ columnCall blockLimit (columnIn directory growers weights yields days) (move (delivery grower weight «oil_yield» day) «new_grower») ⌝ }
 {
     let d = Delivery {
         grower,
         weight,
         oil_yield,
+        day,
     };
-    column::move_delivery(directory, growers, weights, yields, d, new_grower)
+    column::move_delivery(directory, growers, weights, yields, days, d, new_grower)
 }
 
 // The smallest grower at or above the given one who has records.
@@ -150,11 +195,12 @@ pub extern "C" fn meltusk_next_grower(
     growers: &[u32],
     weights: &[u32],
     yields: &[u32],
+    days: &[u32],
     grower: u32,
 ) -> GrowerAnswer
-    ensures { λ r. ⌜ r ≡ growerCall blockLimit (columnIn directory growers weights yields) up grower ⌝ }
+    ensures { λ r. ⌜ r ≡ growerCall blockLimit (columnIn directory growers weights yields days) up grower ⌝ }
 {
-    column::next_grower(directory, growers, weights, yields, grower)
+    column::next_grower(directory, growers, weights, yields, days, grower)
 }
 
 // The largest grower at or below the given one who has records.
@@ -164,11 +210,12 @@ pub extern "C" fn meltusk_previous_grower(
     growers: &[u32],
     weights: &[u32],
     yields: &[u32],
+    days: &[u32],
     grower: u32,
 ) -> GrowerAnswer
-    ensures { λ r. ⌜ r ≡ growerCall blockLimit (columnIn directory growers weights yields) down grower ⌝ }
+    ensures { λ r. ⌜ r ≡ growerCall blockLimit (columnIn directory growers weights yields days) down grower ⌝ }
 {
-    column::previous_grower(directory, growers, weights, yields, grower)
+    column::previous_grower(directory, growers, weights, yields, days, grower)
 }
 
 // Where a grower's partition lies in the growers.
@@ -192,12 +239,22 @@ pub extern "C" fn meltusk_record_find(
     growers: &[u32],
     weights: &[u32],
     yields: &[u32],
+    days: &[u32],
     grower: u32,
 ) -> u32
     ensures { λ r. ⌜ record { refusal = r; histograms = now (histograms .exit) }
-        ≡ recordCall blockLimit (setIn block used growers weights yields) (now (histograms .entry)) (find grower) ⌝ }
+        ≡ recordCall blockLimit (setIn block used growers weights yields days) (now (histograms .entry)) (find grower) ⌝ }
 {
-    recorder::record_find(histograms, block, used, growers, weights, yields, grower)
+    recorder::record_find(
+        histograms,
+        block,
+        used,
+        growers,
+        weights,
+        yields,
+        days,
+        grower,
+    )
 }
 
 // Records a range.
@@ -209,13 +266,57 @@ pub extern "C" fn meltusk_record_range(
     growers: &[u32],
     weights: &[u32],
     yields: &[u32],
+    days: &[u32],
     lo: u32,
     hi: u32,
 ) -> u32
     ensures { λ r. ⌜ record { refusal = r; histograms = now (histograms .exit) }
-        ≡ recordCall blockLimit (setIn block used growers weights yields) (now (histograms .entry)) (range lo hi) ⌝ }
+        ≡ recordCall blockLimit (setIn block used growers weights yields days) (now (histograms .entry)) (range lo hi) ⌝ }
 {
-    recorder::record_range(histograms, block, used, growers, weights, yields, lo, hi)
+    recorder::record_range(
+        histograms,
+        block,
+        used,
+        growers,
+        weights,
+        yields,
+        days,
+        lo,
+        hi,
+    )
+}
+
+// Records a range over days.
+#[no_mangle]
+pub extern "C" fn meltusk_record_range_days(
+    histograms: &mut [u32],
+    block: u32,
+    used: u32,
+    growers: &[u32],
+    weights: &[u32],
+    yields: &[u32],
+    days: &[u32],
+    lo: u32,
+    hi: u32,
+    first: u32,
+    last: u32,
+) -> u32
+    ensures { λ r. ⌜ record { refusal = r; histograms = now (histograms .exit) }
+        ≡ recordCall blockLimit (setIn block used growers weights yields days) (now (histograms .entry)) (rangeDays lo hi (span first last)) ⌝ }
+{
+    recorder::record_range_days(
+        histograms,
+        block,
+        used,
+        growers,
+        weights,
+        yields,
+        days,
+        lo,
+        hi,
+        first,
+        last,
+    )
 }
 
 // Records an insert.
@@ -227,20 +328,23 @@ pub extern "C" fn meltusk_record_insert(
     growers: &[u32],
     weights: &[u32],
     yields: &[u32],
+    days: &[u32],
     grower: u32,
     weight: u32,
     oil_yield: u32,
+    day: u32,
 ) -> u32
     ensures { λ r. ⌜ record { refusal = r; histograms = now (histograms .exit) }
-        ≡ recordCall blockLimit (setIn block used growers weights yields) (now (histograms .entry))
-        (insert (delivery grower weight «oil_yield»)) ⌝ }
+        ≡ recordCall blockLimit (setIn block used growers weights yields days) (now (histograms .entry))
+        (insert (delivery grower weight «oil_yield» day)) ⌝ }
 {
     let d = Delivery {
         grower,
         weight,
         oil_yield,
+        day,
     };
-    recorder::record_insert(histograms, block, used, growers, weights, yields, d)
+    recorder::record_insert(histograms, block, used, growers, weights, yields, days, d)
 }
 
 // Records a delete.
@@ -252,20 +356,23 @@ pub extern "C" fn meltusk_record_delete(
     growers: &[u32],
     weights: &[u32],
     yields: &[u32],
+    days: &[u32],
     grower: u32,
     weight: u32,
     oil_yield: u32,
+    day: u32,
 ) -> u32
     ensures { λ r. ⌜ record { refusal = r; histograms = now (histograms .exit) }
-        ≡ recordCall blockLimit (setIn block used growers weights yields) (now (histograms .entry))
-        (delete (delivery grower weight «oil_yield»)) ⌝ }
+        ≡ recordCall blockLimit (setIn block used growers weights yields days) (now (histograms .entry))
+        (delete (delivery grower weight «oil_yield» day)) ⌝ }
 {
     let d = Delivery {
         grower,
         weight,
         oil_yield,
+        day,
     };
-    recorder::record_delete(histograms, block, used, growers, weights, yields, d)
+    recorder::record_delete(histograms, block, used, growers, weights, yields, days, d)
 }
 
 // Records a move.
@@ -277,19 +384,22 @@ pub extern "C" fn meltusk_record_move(
     growers: &[u32],
     weights: &[u32],
     yields: &[u32],
+    days: &[u32],
     grower: u32,
     weight: u32,
     oil_yield: u32,
+    day: u32,
     new_grower: u32,
 ) -> u32
     ensures { λ r. ⌜ record { refusal = r; histograms = now (histograms .exit) }
-        ≡ recordCall blockLimit (setIn block used growers weights yields) (now (histograms .entry))
-        (move (delivery grower weight «oil_yield») «new_grower») ⌝ }
+        ≡ recordCall blockLimit (setIn block used growers weights yields days) (now (histograms .entry))
+        (move (delivery grower weight «oil_yield» day) «new_grower») ⌝ }
 {
     let d = Delivery {
         grower,
         weight,
         oil_yield,
+        day,
     };
     recorder::record_move(
         histograms,
@@ -298,6 +408,7 @@ pub extern "C" fn meltusk_record_move(
         growers,
         weights,
         yields,
+        days,
         d,
         new_grower,
     )
@@ -314,11 +425,12 @@ pub extern "C" fn meltusk_cost(
     growers: &[u32],
     weights: &[u32],
     yields: &[u32],
+    days: &[u32],
     ends: &[u32],
     histograms: &[u32],
 ) -> Costed
     ensures { λ r. ⌜ r
-        ≡ costCall blockLimit (prices rr sr «rw») (setIn block used growers weights yields) (now (ends .entry)) (now (histograms .entry)) ⌝ }
+        ≡ costCall blockLimit (prices rr sr «rw») (setIn block used growers weights yields days) (now (ends .entry)) (now (histograms .entry)) ⌝ }
 {
     let card = PriceCard { rr, sr, rw };
     planner::cost(
@@ -328,6 +440,7 @@ pub extern "C" fn meltusk_cost(
         growers,
         weights,
         yields,
+        days,
         ends,
         histograms,
     )
@@ -346,11 +459,12 @@ pub extern "C" fn meltusk_plan(
     growers: &[u32],
     weights: &[u32],
     yields: &[u32],
+    days: &[u32],
     histograms: &[u32],
     ends: &mut [u32],
 ) -> Planned
     ensures { λ r. ⌜ record { answer = r; ends = now (ends .exit) }
-        ≡ planCall blockLimit (prices rr sr «rw») (limits read insert) (setIn block used growers weights yields)
+        ≡ planCall blockLimit (prices rr sr «rw») (limits read insert) (setIn block used growers weights yields days)
         (now (histograms .entry)) (now (ends .entry)) ⌝ }
 {
     let card = PriceCard { rr, sr, rw };
@@ -363,6 +477,7 @@ pub extern "C" fn meltusk_plan(
         growers,
         weights,
         yields,
+        days,
         histograms,
         ends,
     )
@@ -381,11 +496,12 @@ pub extern "C" fn meltusk_list_layouts(
     growers: &[u32],
     weights: &[u32],
     yields: &[u32],
+    days: &[u32],
     histograms: &[u32],
     text: &mut [u8],
 ) -> Listed
     ensures { λ r. ⌜ record { answer = r; text = now (text .exit) }
-        ≡ listCall blockLimit (prices rr sr «rw») (limits read insert) (setIn block used growers weights yields)
+        ≡ listCall blockLimit (prices rr sr «rw») (limits read insert) (setIn block used growers weights yields days)
         (now (histograms .entry)) (now (text .entry)) ⌝ }
 {
     let card = PriceCard { rr, sr, rw };
@@ -398,6 +514,7 @@ pub extern "C" fn meltusk_list_layouts(
         growers,
         weights,
         yields,
+        days,
         histograms,
         text,
     )
@@ -440,12 +557,13 @@ pub extern "C" fn meltusk_write_snapshot(
     growers: &[u32],
     weights: &[u32],
     yields: &[u32],
+    days: &[u32],
     text: &mut [u8],
 ) -> Written
     ensures { λ r. ⌜ record { answer = r; text = now (text .exit) }
-        ≡ writeCall blockLimit (columnIn directory growers weights yields) (now (text .entry)) ⌝ }
+        ≡ writeCall blockLimit (columnIn directory growers weights yields days) (now (text .entry)) ⌝ }
 {
-    snapshot::write(directory, growers, weights, yields, text)
+    snapshot::write(directory, growers, weights, yields, days, text)
 }
 
 // Reads a snapshot's text into the slots.
@@ -455,11 +573,11 @@ pub extern "C" fn meltusk_read_snapshot(
     growers: &mut [u32],
     weights: &mut [u32],
     yields: &mut [u32],
+    days: &mut [u32],
 ) -> Applied
-    ensures { λ r. ⌜ readOut r growers weights yields
-        ≡ readCall blockLimit (now (text .entry)) (now (growers .entry)) (now (weights .entry)) (now (yields .entry)) ⌝ }
+    ensures { λ r. ⌜ readOut r growers weights yields days ≡ readCall blockLimit (now (text .entry)) (slicesIn growers weights yields days) ⌝ }
 {
-    snapshot::read(text, growers, weights, yields)
+    snapshot::read(text, growers, weights, yields, days)
 }
 
 // Writes a column's settlement sheet.
@@ -469,14 +587,44 @@ pub extern "C" fn meltusk_write_sheet(
     growers: &[u32],
     weights: &[u32],
     yields: &[u32],
+    days: &[u32],
     text: &mut [u8],
     order: &mut [u32],
     work: &mut [u32],
 ) -> Written
     ensures { λ r. ⌜ record { answer = r; text = now (text .exit); order = now (order .exit); work = now (work .exit) }
-        ≡ sheetCall blockLimit (columnIn directory growers weights yields) (now (text .entry)) (now (order .entry)) (now (work .entry)) ⌝ }
+        ≡ sheetCall blockLimit (columnIn directory growers weights yields days) (now (text .entry)) (now (order .entry)) (now (work .entry)) ⌝ }
 {
-    sheet::write_sheet(directory, growers, weights, yields, text, order, work)
+    sheet::write_sheet(directory, growers, weights, yields, days, text, order, work)
+}
+
+// Writes the settlement sheet of the term that holds a day.
+#[no_mangle]
+pub extern "C" fn meltusk_write_term_sheet(
+    directory: &[u32],
+    growers: &[u32],
+    weights: &[u32],
+    yields: &[u32],
+    days: &[u32],
+    day: u32,
+    text: &mut [u8],
+    order: &mut [u32],
+    work: &mut [u32],
+) -> Written
+    ensures { λ r. ⌜ record { answer = r; text = now (text .exit); order = now (order .exit); work = now (work .exit) }
+        ≡ termSheetCall blockLimit (columnIn directory growers weights yields days) day (now (text .entry)) (now (order .entry)) (now (work .entry)) ⌝ }
+{
+    sheet::write_term_sheet(
+        directory,
+        growers,
+        weights,
+        yields,
+        days,
+        day,
+        text,
+        order,
+        work,
+    )
 }
 
 // Imports the rows of a weighbridge file into the slots.
@@ -486,11 +634,12 @@ pub extern "C" fn meltusk_import_csv(
     growers: &mut [u32],
     weights: &mut [u32],
     yields: &mut [u32],
+    days: &mut [u32],
 ) -> Imported
-    ensures { λ r. ⌜ record { answer = r; growers = now (growers .exit); weights = now (weights .exit); yields = now (yields .exit) }
-        ≡ importCall (now (text .entry)) (now (growers .entry)) (now (weights .entry)) (now (yields .entry)) ⌝ }
+    ensures { λ r. ⌜ record { answer = r; slices = slicesOut growers weights yields days }
+        ≡ importCall (now (text .entry)) (slicesIn growers weights yields days) ⌝ }
 {
-    csv::import(text, growers, weights, yields)
+    csv::import(text, growers, weights, yields, days)
 }
 
 // Exports the first slots as a weighbridge file.
@@ -500,10 +649,35 @@ pub extern "C" fn meltusk_export_csv(
     growers: &[u32],
     weights: &[u32],
     yields: &[u32],
+    days: &[u32],
     text: &mut [u8],
 ) -> Written
     ensures { λ r. ⌜ record { answer = r; text = now (text .exit) }
-        ≡ exportCall used (now (growers .entry)) (now (weights .entry)) (now (yields .entry)) (now (text .entry)) ⌝ }
+        ≡ exportCall used (slicesIn growers weights yields days) (now (text .entry)) ⌝ }
 {
-    csv::export(used, growers, weights, yields, text)
+    csv::export(used, growers, weights, yields, days, text)
+}
+
+// The day number of a date.
+#[no_mangle]
+pub extern "C" fn meltusk_day_of(year: u32, month: u32, day: u32) -> DayAnswer
+    ensures { λ r. ⌜ r ≡ dayCall year month day ⌝ }
+{
+    dates::day_of(year, month, day)
+}
+
+// The date of a day number.
+#[no_mangle]
+pub extern "C" fn meltusk_date_of(day: u32) -> DateAnswer
+    ensures { λ r. ⌜ r ≡ dateCall day ⌝ }
+{
+    dates::date_of(day)
+}
+
+// The term that holds a day.
+#[no_mangle]
+pub extern "C" fn meltusk_term_of(day: u32) -> TermAnswer
+    ensures { λ r. ⌜ r ≡ termCall day ⌝ }
+{
+    dates::term_of(day)
 }

@@ -1,20 +1,22 @@
 -- Tests one after the other, and lists of checks answered by the first "no". Assumes nothing.
-use Prim.Native.Nat.{ℕ, _≤_, _<_}
-use mathlib.Core.Path.{_≡_, refl, sym, _∙_}
+use Prim.Native.Nat.{ℕ, zero, suc, _≤_, _<_}
+use mathlib.Core.Path.{_≡_, refl, sym, ap, _∙_}
 use mathlib.Core.Bool.{Bool, true, false, cond, _&&_}
-use mathlib.Core.List.{List, [], _∷_, _++_}
+use mathlib.Core.List.{List, [], _∷_, _++_, map}
 use borrow.Author.Tests.{lt-leb, le-leb, eq-eqb, ne-eqb}
 use native.Mathlib.Omega.{arith}
 use native.Mathlib.Decide.{ℕ-discrete}
-use lib.Dec.{T, leb, leb→le}
+use lib.Dec.{T, leb, eqb, leb→le}
 use lib.ListN.{length}
 use Rattle.model.specs.Lists.{every}
 use Rattle.model.specs.Checks.{Check, ask, firstFailed}
-use Rattle.model.specs.Deliveries.{inRange, rows}
+use Rattle.model.specs.declared.Delivery.{Delivery}
+use Rattle.model.specs.Deliveries.{dayOf, Slices, rows, Even, inRange, dayOk, noDay}
 use Rattle.model.specs.Blocks.{slotsOk, slicesOk}
 use Rattle.model.proofs.Tests.{and-fst, and-snd}
-use Rattle.model.proofs.Deliveries.{values-rows}
-use Rattle.checks.specs.Values.{allValuesOk}
+use Rattle.model.proofs.Deliveries.{slices-for, values-rows, days-rows}
+use Rattle.slices.specs.Slices.{allWithin}
+use Rattle.checks.specs.Values.{allValuesOk, allDaysOk, allUndated}
 
 pub and-no : (a b : Bool) → a ≡ false → false ≡ a && b
 and-no a b e = rw e
@@ -76,21 +78,49 @@ passed-both as' bs n h = go (ℕ-discrete (firstFailed as') 0)
     go (yes e) = (e, sym (passed-first as' bs n e) ∙ h)
     go (no f) = absurd (f (failed-first as' bs f ∙ h))
 
--- Check 3 of three slices, test by test.
-module _ (g w y : List ℕ) where
-  pub slices-other-weights : (length w ≡ length g → ⊥) → false ≡ slicesOk g w y
+-- Check 3 of the slices, test by test.
+module _ (s : Slices) where
+  pub slices-other-weights : (length (s .weights) ≡ length (s .growers) → ⊥) → false ≡ slicesOk s
   unfolding slicesOk
-  slices-other-weights h = rw (ne-eqb (length w) (length g) h)
+  slices-other-weights h = rw (ne-eqb (length (s .weights)) (length (s .growers)) h)
 
-  pub slices-other-yields : length w ≡ length g → (length y ≡ length g → ⊥) → false ≡ slicesOk g w y
+  pub slices-other-yields : length (s .weights) ≡ length (s .growers) → (length (s .yields) ≡ length (s .growers) → ⊥) → false ≡ slicesOk s
   unfolding slicesOk
-  slices-other-yields e h = rw (eq-eqb (length w) (length g) e, ne-eqb (length y) (length g) h)
+  slices-other-yields e h = rw (eq-eqb (length (s .weights)) (length (s .growers)) e, ne-eqb (length (s .yields)) (length (s .growers)) h)
 
-  pub slices-even : length w ≡ length g → length y ≡ length g → slotsOk (length g) ≡ slicesOk g w y
-  unfolding slicesOk
-  slices-even e f = rw (eq-eqb (length w) (length g) e, eq-eqb (length y) (length g) f)
+  module _ (e : length (s .weights) ≡ length (s .growers)) (f : length (s .yields) ≡ length (s .growers)) where
+    pub slices-other-days : (length (s .days) ≡ length (s .growers) → ⊥) → false ≡ slicesOk s
+    unfolding slicesOk
+    slices-other-days h =
+        rw (eq-eqb (length (s .weights)) (length (s .growers)) e, eq-eqb (length (s .yields)) (length (s .growers)) f, ne-eqb (length (s .days)) (length (s .growers)) h)
 
--- Check 8: the rows are tested by their weights and their yields.
+    pub slices-even : length (s .days) ≡ length (s .growers) → slotsOk (length (s .growers)) ≡ slicesOk s
+    unfolding slicesOk
+    slices-even h =
+        rw (eq-eqb (length (s .weights)) (length (s .growers)) e, eq-eqb (length (s .yields)) (length (s .growers)) f, eq-eqb (length (s .days)) (length (s .growers)) h)
 
-pub every-rows : (g w y : List ℕ) → length w ≡ length g → length y ≡ length g → allValuesOk w y ≡ every inRange (rows g w y)
-every-rows g w y p q = sym (values-rows g w y p q)
+-- Check 8: the rows are tested by their weights and their yields; check 19: by their days.
+
+pub every-rows : (s : Slices) → Even s → allValuesOk (s .weights) (s .yields) ≡ every inRange (rows s)
+every-rows s e = sym (values-rows s e)
+
+pub every-day-rows : (s : Slices) → Even s → allDaysOk (s .days) ≡ every dayOk (rows s)
+every-day-rows s e = sym (days-rows s e)
+
+undated-for : (l : List Delivery) → allUndated (map dayOf l) ≡ every noDay l
+unfolding every
+undated-for [] = refl
+undated-for (d ∷ l) = ap (λ (t : Bool). noDay d && t) (undated-for l)
+
+pub every-undated-rows : (s : Slices) → Even s → allUndated (s .days) ≡ every noDay (rows s)
+every-undated-rows s e = ap (λ (t : Slices). allUndated (t .days)) (sym (slices-for s e)) ∙ undated-for (rows s)
+
+-- a number is 0 just if it is at most 0
+pub at-most-zero : (s : List ℕ) → allWithin 0 s ≡ allUndated s
+unfolding every
+at-most-zero [] = refl
+at-most-zero (x ∷ s) = ap (λ (t : Bool). leb x 0 && t) (at-most-zero s) ∙ ap (λ (b : Bool). b && allUndated s) (go x)
+  where
+    go : (n : ℕ) → leb n 0 ≡ eqb n 0
+    go zero = refl
+    go (suc n) = lt-leb (suc n) 0 (omega arith) ∙ sym (ne-eqb (suc n) 0 (λ e. omega (arith, e)))

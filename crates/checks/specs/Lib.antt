@@ -1,2 +1,2 @@
--- What checking two slices answers.
+-- What checking slices answers.
 pub mod Values

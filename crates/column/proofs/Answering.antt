@@ -42,7 +42,7 @@ three-yes false q r cs h = h
 module _ (L : ℕ) where
   -- 2, 3 and 6 are answered by yes
   pub past-lent : (c : Column) (cs : List Check) → firstFailed (lentChecks L c) ≡ 0 → firstFailed (lentChecks L c ++ cs) ≡ firstFailed cs
-  past-lent c cs h = three (directoryBlockOk L (c .directory)) (slicesOk (c .growers) (c .weights) (c .yields)) (directoryOk L (length (c .growers)) (c .directory)) cs h
+  past-lent c cs h = three (directoryBlockOk L (c .directory)) (slicesOk (c .slices)) (directoryOk L (length (c .slices .growers)) (c .directory)) cs h
 
   module _ (c : Column) (k : Call) where
     pub lent-yes : firstFailed (lentChecks L c) ≡ 0 → columnRefusal L c k ≡ firstFailed (callChecks L c k)
@@ -56,7 +56,7 @@ module _ (L : ℕ) where
     -- refused by 2, 3 or 6
     pub lent-refusal : (n : ℕ) → n ≡ firstFailed (lentChecks L c) → (n ≡ 0 → ⊥) → (columnRefusal L c k ≡ n) × (n ≡ 13 → ⊥)
     unfolding columnRefusal columnChecks
-    lent-refusal n e h = three-no (directoryBlockOk L (c .directory)) (slicesOk (c .growers) (c .weights) (c .yields)) (directoryOk L (length (c .growers)) (c .directory)) (callChecks L c k) n e h
+    lent-refusal n e h = three-no (directoryBlockOk L (c .directory)) (slicesOk (c .slices)) (directoryOk L (length (c .slices .growers)) (c .directory)) (callChecks L c k) n e h
 
     pub lent-no : (n : ℕ) → n ≡ firstFailed (lentChecks L c) → (n ≡ 0 → ⊥) → _≡_ {A = Called} (record { answer = withoutTotals n noCounts; column = c }) (columnCall L c k)
     lent-no n e h =
@@ -66,7 +66,7 @@ module _ (L : ℕ) where
     -- an accepted call has passed 2, 3 and 6
     pub accepted-lent : columnRefusal L c k ≡ 0 → firstFailed (lentChecks L c) ≡ 0
     unfolding columnRefusal columnChecks
-    accepted-lent h = three-yes (directoryBlockOk L (c .directory)) (slicesOk (c .growers) (c .weights) (c .yields)) (directoryOk L (length (c .growers)) (c .directory)) (callChecks L c k) h
+    accepted-lent h = three-yes (directoryBlockOk L (c .directory)) (slicesOk (c .slices)) (directoryOk L (length (c .slices .growers)) (c .directory)) (callChecks L c k) h
 
     -- accepted
     pub accepted-call : columnRefusal L c k ≡ 0

@@ -1,7 +1,7 @@
 -- find and range. Assumes nothing.
 use Prim.Native.Nat.{ℕ, _+_, _-_, _≤_, _<_}
-use mathlib.Core.Path.{_≡_, ap, ap₂, _∙_}
-use mathlib.Core.Bool.{Bool, true, false, cond}
+use mathlib.Core.Path.{_≡_, refl, sym, ap, ap₂, _∙_}
+use mathlib.Core.Bool.{Bool, true, false, cond, _&&_}
 use mathlib.Core.List.{List, map}
 use native.Mathlib.Omega.{arith}
 use lib.ListN.{length, getD, take, drop}
@@ -13,12 +13,12 @@ use Rattle.model.specs.declared.Totals.{Totals}
 use Rattle.model.specs.Bounds.{mostSlots}
 use Rattle.model.specs.Lists.{sumOf, every}
 use Rattle.model.specs.Checks.{firstFailed}
-use Rattle.model.specs.Deliveries.{inRange, totalsBetween}
-use Rattle.model.specs.Calls.{range}
+use Rattle.model.specs.Deliveries.{Even, inRange, dayOk, totalsDuring}
+use Rattle.model.specs.Calendar.{Span}
+use Rattle.model.specs.Calls.{rangeDays, spanOk}
 use Rattle.model.specs.Partitions.{startOf, between}
 use Rattle.model.specs.Directory.{directoryOf}
-use Rattle.model.specs.Lent.{Even}
-use Rattle.model.specs.Column.{Column, slots, lengthsOf, fencesOf, target, scannedOk}
+use Rattle.model.specs.Column.{Column, slots, lengthsOf, fencesOf, target, scannedOk, scannedDaysOk}
 use Rattle.model.specs.Accesses.{noCounts, blocksOf, readsOf, scanCounts, blocksScanned, callCounts}
 use Rattle.model.specs.Questions.{lentChecks, callChecks}
 use Rattle.model.specs.ColumnCalls.{Called, columnRefusal, callTotals, columnCall}
@@ -35,22 +35,33 @@ use Rattle.directory.proofs.LentColumns.{LentColumn, lent-column, count-lengths
 use Rattle.column.proofs.Answering.{lent-yes, refused-call, accepted-call}
 
 -- what a scan that came out good or bad says
-module _ (b : ℕ) (ns : List ℕ) (p n lo hi : ℕ) (ds : List Delivery) (s : Scan) (e : s ≡ scanOf b ns p n lo hi ds) where
-  bad-scan : s .good ≡ false → every inRange (recordsIn ns p n ds) ≡ false
+module _ (b : ℕ) (ns : List ℕ) (p n lo hi : ℕ) (z : Span) (ds : List Delivery) (s : Scan) (e : s ≡ scanOf b ns p n lo hi z ds) where
+  abbrev records : List Delivery
+  records = recordsIn ns p n ds
+
+  abbrev summed : Bool × Totals × ℕ
+  summed = (every dayOk records, totalsDuring lo hi z records, sumOf (map (blocksOf b) (take n (drop p ns))))
+
+  bad-scan : s .good ≡ false → every inRange records ≡ false
   unfolding scanOf
-  bad-scan = judged-says scans _ (totalsBetween lo hi (recordsIn ns p n ds), sumOf (map (blocksOf b) (take n (drop p ns)))) s e false
+  bad-scan = judged-says scans _ summed s e false
 
   pub record GoodScan : Type 0 where
-    pub values : every inRange (recordsIn ns p n ds) ≡ true
-    pub totals : s .totals ≡ totalsBetween lo hi (recordsIn ns p n ds)
+    pub values : every inRange records ≡ true
+    pub days : s .dated ≡ every dayOk records
+    pub totals : s .totals ≡ totalsDuring lo hi z records
     pub blocks : s .blocks ≡ sumOf (map (blocksOf b) (take n (drop p ns)))
 
   pub good-scan : s .good ≡ true → GoodScan
   unfolding scanOf
   good-scan f =
-      let x : Totals × ℕ = (totalsBetween lo hi (recordsIn ns p n ds), sumOf (map (blocksOf b) (take n (drop p ns)))) in
-      let v = judged-value scans (every inRange (recordsIn ns p n ds)) x s e f in
-      record { values = judged-says scans _ x s e true f; totals = ap (λ (r : Totals × ℕ). r .0) v; blocks = ap (λ (r : Totals × ℕ). r .1) v }
+      let v = judged-value scans (every inRange records) summed s e f in
+      record {
+        values = judged-says scans _ summed s e true f;
+        days = ap (λ (r : Bool × Totals × ℕ). r .0) v;
+        totals = ap (λ (r : Bool × Totals × ℕ). r .1) v;
+        blocks = ap (λ (r : Bool × Totals × ℕ). r .2) v;
+      }
 
 module _ (L : ℕ) where
   module _ (c : Column) (h : firstFailed (lentChecks L c) ≡ 0) where
@@ -58,7 +69,7 @@ module _ (L : ℕ) where
     l = lent-column L c h
 
     pub lengths-fit : sumOf (lengthsOf L c) ≤ length (slots c)
-    lengths-fit = omega (arith, length-rows (c .growers) (c .weights) (c .yields) (l .even .weights) (l .even .yields), l .shape .room)
+    lengths-fit = omega (arith, length-rows (c .slices) (l .even), l .shape .room)
 
     -- where lo and hi go
     pub target-there : (g : ℕ) → target L c g < length (lengthsOf L c)
@@ -70,39 +81,53 @@ module _ (L : ℕ) where
         placed-mono (fencesOf L c) lo hi _ _ k (placed (fencesOf L c) lo one) (placed (fencesOf L c) hi one)
 
     -- refused by 7
-    pub range-backwards : (lo hi : ℕ) → hi < lo → withoutTotals 7 noCounts ≡ columnCall L c (range lo hi) .answer
+    pub range-backwards : (lo hi : ℕ) (z : Span) → hi < lo → withoutTotals 7 noCounts ≡ columnCall L c (rangeDays lo hi z) .answer
     unfolding callChecks firstFailed
-    range-backwards lo hi k =
-        ap (λ (r : Called). r .answer) (refused-call L c (range lo hi) 7 (lent-yes L c (range lo hi) h ∙ rw (lt-leb lo hi k)) (λ e. omega arith) (λ e. omega arith))
+    range-backwards lo hi z k =
+        ap (λ (r : Called). r .answer) (refused-call L c (rangeDays lo hi z) 7 (lent-yes L c (rangeDays lo hi z) h ∙ rw (lt-leb lo hi k)) (λ e. omega arith) (λ e. omega arith))
 
-    module _ (lo hi : ℕ) (k : lo ≤ hi) (s : Scan)
-        (e : s ≡ scanOf (getD (c .directory) 0 0) (lengthsOf L c) (target L c lo) (target L c hi + 1 - target L c lo) lo hi (slots c)) where
-      answered : (b : Bool) → scannedOk L c lo hi ≡ b → columnRefusal L c (range lo hi) ≡ cond b 0 8
+    module _ (lo hi : ℕ) (z : Span) (k : lo ≤ hi) (s : Scan)
+        (e : s ≡ scanOf (getD (c .directory) 0 0) (lengthsOf L c) (target L c lo) (target L c hi + 1 - target L c lo) lo hi z (slots c)) where
+      answered : (b t : Bool) → scannedOk L c lo hi ≡ b → spanOk z && scannedDaysOk L c lo hi ≡ t → columnRefusal L c (rangeDays lo hi z) ≡ cond b (cond t 0 19) 8
       unfolding callChecks firstFailed
-      answered b f = lent-yes L c (range lo hi) h ∙ rw (le-leb lo hi k, f)
+      answered b t f g = lent-yes L c (rangeDays lo hi z) h ∙ rw (le-leb lo hi k, f, g)
 
       -- refused by 8
-      pub range-bad : s .good ≡ false → withoutTotals 8 noCounts ≡ columnCall L c (range lo hi) .answer
+      pub range-bad : s .good ≡ false → withoutTotals 8 noCounts ≡ columnCall L c (rangeDays lo hi z) .answer
       unfolding scannedOk between
       range-bad f =
-          ap (λ (r : Called). r .answer) (refused-call L c (range lo hi) 8 (answered false (bad-scan _ _ _ _ lo hi (slots c) s e f)) (λ z. omega arith)
-          (λ z. omega arith))
+          ap (λ (r : Called). r .answer) (refused-call L c (rangeDays lo hi z) 8 (answered false _ (bad-scan _ _ _ _ lo hi z (slots c) s e f) refl) (λ i. omega arith)
+          (λ i. omega arith))
 
-      -- accepted
-      pub range-good : (n : Counts) → s .good ≡ true → n ≡ readsOf (s .blocks) → _≡_ {A = Answer} (record { refusal = 0; totals = s .totals; counts = n }) (columnCall L c (range lo hi) .answer)
-      unfolding scannedOk between callTotals callCounts scanCounts blocksScanned directoryOf
-      range-good n f i =
-          let g = good-scan _ _ _ _ lo hi (slots c) s e f in
-          ap₂ (λ (t : Totals) (m : Counts). record { refusal = 0; totals = t; counts = m }) (g .totals) (i ∙ ap readsOf (g .blocks))
-          ∙ ap (λ (r : Called). r .answer) (accepted-call L c (range lo hi) (answered true (g .values)))
+      -- check 19 of the days named and of those scanned
+      module _ (v r : Bool) (p : v ≡ spanOk z) (q : r ≡ v && s .dated) (f : s .good ≡ true) where
+        dated : spanOk z && scannedDaysOk L c lo hi ≡ r
+        unfolding scannedDaysOk between
+        dated = sym (q ∙ ap₂ (λ (x y : Bool). x && y) p (good-scan _ _ _ _ lo hi z (slots c) s e f .days))
 
-  -- a grower's partition, which the checks have found, lies in the three slices
+        -- refused by 19
+        pub range-undated : r ≡ false → withoutTotals 19 noCounts ≡ columnCall L c (rangeDays lo hi z) .answer
+        unfolding scannedOk between
+        range-undated i =
+            let g = good-scan _ _ _ _ lo hi z (slots c) s e f in
+            ap (λ (x : Called). x .answer) (refused-call L c (rangeDays lo hi z) 19 (answered true false (g .values) (dated ∙ i)) (λ j. omega arith) (λ j. omega arith))
+
+        -- accepted
+        pub range-good : (n : Counts) → r ≡ true → n ≡ readsOf (s .blocks)
+            → _≡_ {A = Answer} (record { refusal = 0; totals = s .totals; counts = n }) (columnCall L c (rangeDays lo hi z) .answer)
+        unfolding scannedOk between callTotals callCounts scanCounts blocksScanned directoryOf
+        range-good n i j =
+            let g = good-scan _ _ _ _ lo hi z (slots c) s e f in
+            ap₂ (λ (t : Totals) (m : Counts). record { refusal = 0; totals = t; counts = m }) (g .totals) (j ∙ ap readsOf (g .blocks))
+            ∙ ap (λ (x : Called). x .answer) (accepted-call L c (rangeDays lo hi z) (answered true true (g .values) (dated ∙ i)))
+
+  -- a grower's partition, which the checks have found, lies in the slices
   pub record Near (c : Column) (g a n : ℕ) : Type 0 where
     pub start : a ≡ startOf (lengthsOf L c) (target L c g)
     pub count : n ≡ getD (lengthsOf L c) (target L c g) 0
-    pub inside : a + n ≤ length (c .growers)
-    pub most : length (c .growers) ≤ mostSlots
-    pub even : Even (c .growers) (c .weights) (c .yields)
+    pub inside : a + n ≤ length (c .slices .growers)
+    pub most : length (c .slices .growers) ≤ mostSlots
+    pub even : Even (c .slices)
 
   module _ (c : Column) (g : ℕ) (h : firstFailed (lentChecks L c) ≡ 0) (t a : ℕ) (et : t ≡ target L c g) (ea : a ≡ startOf (lengthsOf L c) (target L c g)) where
     pub near-partition : HasPartition L (c .directory) t

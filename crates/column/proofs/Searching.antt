@@ -12,11 +12,11 @@ use Rattle.model.specs.declared.Delivery.{Delivery}
 use Rattle.model.specs.declared.Counts.{Counts}
 use Rattle.model.specs.Lists.{sumOf, every}
 use Rattle.model.specs.Checks.{firstFailed}
-use Rattle.model.specs.Deliveries.{rows, inRange, among, firstMatch}
+use Rattle.model.specs.Deliveries.{eachSlice, rows, inRange, dayOk, among, firstMatch}
 use Rattle.model.specs.Calls.{delete}
 use Rattle.model.specs.Partitions.{startOf}
 use Rattle.model.specs.Directory.{directoryOf}
-use Rattle.model.specs.Column.{Column, slots, lengthsOf, target, recordsNear, scannedOk, hasDelivery}
+use Rattle.model.specs.Column.{Column, slots, lengthsOf, target, recordsNear, scannedOk, scannedDaysOk, hasDelivery}
 use Rattle.model.specs.Accesses.{noCounts, blocksOf, readsOf, blocksScanned, scanCounts, scanNear}
 use Rattle.model.specs.Questions.{lentChecks, callChecks}
 use Rattle.model.specs.ColumnCalls.{columnRefusal}
@@ -40,22 +40,34 @@ module _ (b t a : ℕ) (d : Delivery) (ds : List Delivery) where
   unfolding searchedOf
   search-bad e = rw e
 
-  module _ (e : every inRange ds ≡ true) (i : ℕ) (k : Counts) (m : i ≡ firstMatch d ds) (n : k ≡ readsOf (blocksOf b (length ds))) where
+  pub search-undated : every inRange ds ≡ true → dayOk d && every dayOk ds ≡ false → notLocated 19 noCounts ≡ searchedOf b t a d ds
+  unfolding searchedOf
+  search-undated e f = rw (e, f)
+
+  module _ (e : every inRange ds ≡ true) (f : dayOk d && every dayOk ds ≡ true) (i : ℕ) (k : Counts) (m : i ≡ firstMatch d ds) (n : k ≡ readsOf (blocksOf b (length ds))) where
     pub search-found : i < length ds → _≡_ {A = Located} (record { refusal = 0; target = t; start = a; slot = i; counts = k }) (searchedOf b t a d ds)
     unfolding searchedOf
-    search-found h = rw (e, ← m, lt-ltb i (length ds) h, n)
+    search-found h = rw (e, f, ← m, lt-ltb i (length ds) h, n)
 
     pub search-missing : length ds ≤ i → notLocated 13 k ≡ searchedOf b t a d ds
     unfolding searchedOf
-    search-missing h = rw (e, ← m, le-ltb i (length ds) h, n)
+    search-missing h = rw (e, f, ← m, le-ltb i (length ds) h, n)
 
   -- an empty partition: no delivery is there, and no block is read
-  pub search-empty : (k : Counts) → 1 ≤ b → k ≡ readsOf 0 → length ds ≡ 0 → notLocated 13 k ≡ searchedOf b t a d ds
+  pub search-empty : (k : Counts) → 1 ≤ b → k ≡ readsOf 0 → length ds ≡ 0 → dayOk d ≡ true → notLocated 13 k ≡ searchedOf b t a d ds
   unfolding searchedOf every firstMatch
-  search-empty k h n e = go ds e
+  search-empty k h n e f = go ds e
     where
       go : (l : List Delivery) → length l ≡ 0 → notLocated 13 k ≡ searchedOf b t a d l
-      go [] z = ap (notLocated 13) (n ∙ ap readsOf (sym (blocks-none b h)))
+      go [] z = rw f (ap (notLocated 13) (n ∙ ap readsOf (sym (blocks-none b h))))
+      go (x ∷ l) z = absurd (omega arith)
+
+  pub empty-undated : length ds ≡ 0 → dayOk d ≡ false → notLocated 19 noCounts ≡ searchedOf b t a d ds
+  unfolding searchedOf every
+  empty-undated e f = go ds e
+    where
+      go : (l : List Delivery) → length l ≡ 0 → notLocated 19 noCounts ≡ searchedOf b t a d l
+      go [] z = rw f
       go (x ∷ l) z = absurd (omega arith)
 
 -- In the column.
@@ -70,14 +82,15 @@ module _ (L : ℕ) where
         rw (r .0, ne-eqb n 0 h, ne-eqb n 13 (r .1))
 
     module _ (h : firstFailed (lentChecks L c) ≡ 0) where
-      pub refusal-is : (s t : Bool) → inRange d && scannedOk L c (d .grower) (d .grower) ≡ s → hasDelivery L c d ≡ t → columnRefusal L c (delete d) ≡ cond s (cond t 0 13) 8
+      pub refusal-is : (s t u : Bool) → inRange d && scannedOk L c (d .grower) (d .grower) ≡ s → dayOk d && scannedDaysOk L c (d .grower) (d .grower) ≡ t → hasDelivery L c d ≡ u
+          → columnRefusal L c (delete d) ≡ cond s (cond t (cond u 0 13) 19) 8
       unfolding callChecks firstFailed
-      refusal-is s t e f = lent-yes L c (delete d) h ∙ rw (e, f)
+      refusal-is s t u e f g = lent-yes L c (delete d) h ∙ rw (e, f, g)
 
       -- refused by 8
       pub located-range : inRange d ≡ false → notLocated 8 noCounts ≡ locatedOf L c d
       unfolding locatedOf
-      located-range e = rw (refusal-is false (hasDelivery L c d) (rw e) refl)
+      located-range e = rw (refusal-is false _ (hasDelivery L c d) (rw e) refl refl)
 
       there : target L c (d .grower) < length (lengthsOf L c)
       there = target-there L c h (d .grower)
@@ -98,24 +111,28 @@ module _ (L : ℕ) where
 
       pub located-searched : inRange d ≡ true
           → searchedOf (getD (c .directory) 0 0) (target L c (d .grower)) (startOf (lengthsOf L c) (target L c (d .grower))) d (recordsNear L c (d .grower)) ≡ locatedOf L c d
-      unfolding searchedOf locatedOf scannedOk hasDelivery
-      located-searched e = go (every inRange (recordsNear L c (d .grower))) (ltb (firstMatch d (recordsNear L c (d .grower))) (length (recordsNear L c (d .grower)))) refl refl
+      unfolding searchedOf locatedOf scannedOk scannedDaysOk hasDelivery
+      located-searched e = go (every inRange near) (dayOk d && every dayOk near) (ltb (firstMatch d near) (length near)) refl refl refl
         where
-          unfolded : (s : Bool) → every inRange (recordsNear L c (d .grower)) ≡ s → inRange d && scannedOk L c (d .grower) (d .grower) ≡ s
+          near : List Delivery
+          near = recordsNear L c (d .grower)
+
+          unfolded : (s : Bool) → every inRange near ≡ s → inRange d && scannedOk L c (d .grower) (d .grower) ≡ s
           unfolded s f = rw (e, f)
 
-          held : (t : Bool) → ltb (firstMatch d (recordsNear L c (d .grower))) (length (recordsNear L c (d .grower))) ≡ t → hasDelivery L c d ≡ t
-          held t f = among-match d (recordsNear L c (d .grower)) ∙ f
+          held : (u : Bool) → ltb (firstMatch d near) (length near) ≡ u → hasDelivery L c d ≡ u
+          held u f = among-match d near ∙ f
 
-          go : (s t : Bool) → every inRange (recordsNear L c (d .grower)) ≡ s → ltb (firstMatch d (recordsNear L c (d .grower))) (length (recordsNear L c (d .grower))) ≡ t
-              → searchedOf (getD (c .directory) 0 0) (target L c (d .grower)) (startOf (lengthsOf L c) (target L c (d .grower))) d (recordsNear L c (d .grower)) ≡ locatedOf L c d
-          go true true f i = rw (f, i, refusal-is true true (unfolded true f) (held true i), near-counts)
-          go true false f i = rw (f, i, refusal-is true false (unfolded true f) (held false i), near-counts)
-          go false t f i = rw (f, refusal-is false t (unfolded false f) (held t i))
+          go : (s t u : Bool) → every inRange near ≡ s → dayOk d && every dayOk near ≡ t → ltb (firstMatch d near) (length near) ≡ u
+              → searchedOf (getD (c .directory) 0 0) (target L c (d .grower)) (startOf (lengthsOf L c) (target L c (d .grower))) d near ≡ locatedOf L c d
+          go true true true f g i = rw (f, g, i, refusal-is true true true (unfolded true f) g (held true i), near-counts)
+          go true true false f g i = rw (f, g, i, refusal-is true true false (unfolded true f) g (held false i), near-counts)
+          go true false u f g i = rw (f, g, refusal-is true false u (unfolded true f) g (held u i))
+          go false t u f g i = rw (f, refusal-is false t u (unfolded false f) g (held u i))
 
       -- the part that is lent is the grower's partition
       pub near-part : (a n : ℕ) → a ≡ startOf (lengthsOf L c) (target L c (d .grower)) → n ≡ getD (lengthsOf L c) (target L c (d .grower)) 0
-          → rows (take (a + n - a) (drop a (c .growers))) (take (a + n - a) (drop a (c .weights))) (take (a + n - a) (drop a (c .yields))) ≡ recordsNear L c (d .grower)
+          → rows (eachSlice (λ (l : List ℕ). take (a + n - a) (drop a l)) (c .slices)) ≡ recordsNear L c (d .grower)
       near-part a n ea en =
-          lent-part (lengthsOf L c) (target L c (d .grower)) a n (c .growers) (c .weights) (c .yields) ea en
+          lent-part (lengthsOf L c) (target L c (d .grower)) a n (c .slices) ea en
           ∙ sym (between-one (target L c (d .grower)) (lengthsOf L c) (slots c) there)

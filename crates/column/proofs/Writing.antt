@@ -14,11 +14,11 @@ use Rattle.model.specs.declared.Answer.{Answer}
 use Rattle.model.specs.Bounds.{mostSlots}
 use Rattle.model.specs.Lists.{sumOf}
 use Rattle.model.specs.Checks.{firstFailed}
-use Rattle.model.specs.Deliveries.{delivery, inRange}
+use Rattle.model.specs.Deliveries.{withGrower, inRange, dayOk}
 use Rattle.model.specs.Calls.{insert, delete, move}
 use Rattle.model.specs.Partitions.{startOf, oneMore, oneFewer}
 use Rattle.model.specs.Directory.{Directory, partitionCount, directoryOf, withLengths}
-use Rattle.model.specs.Column.{Column, lengthsOf, target, recordsNear, scannedOk, hasFreeSlot, hasDelivery}
+use Rattle.model.specs.Column.{Column, lengthsOf, target, recordsNear, scannedOk, scannedDaysOk, hasFreeSlot, hasDelivery}
 use Rattle.model.specs.Accesses.{counts, noCounts, andAlso, onward, apart, scanNear, scanCounts, callCounts, missCounts}
 use Rattle.model.specs.Questions.{lentChecks, callChecks, columnChecks}
 use Rattle.model.specs.ColumnCalls.{Called, columnRefusal, columnAfter, columnCall, callTotals, refusedCounts, slotOf, moveSlices}
@@ -55,16 +55,17 @@ by-number zero P f g = f refl
 by-number (suc n) P f g = g (λ e. omega arith)
 
 -- what the ripple did by the lengths ls it was lent, it did by the lengths ns they are
-pub by-lengths : (f : List ℕ → ℕ → List ℕ → List ℕ) (d : Delivery) (g w y g₁ w₁ y₁ ls ns : List ℕ) → ls ≡ ns
-    → (g₁ ≡ f ls (d .grower) g) × (w₁ ≡ f ls (d .weight) w) × (y₁ ≡ f ls (d .«oil_yield») y)
-    → (g₁ ≡ f ns (d .grower) g) × (w₁ ≡ f ns (d .weight) w) × (y₁ ≡ f ns (d .«oil_yield») y)
-by-lengths f d g w y g₁ w₁ y₁ ls ns e m = rw e at m
+pub by-lengths : (f : List ℕ → ℕ → List ℕ → List ℕ) (d : Delivery) (g w y n g₁ w₁ y₁ n₁ ls ns : List ℕ) → ls ≡ ns
+    → (g₁ ≡ f ls (d .grower) g) × (w₁ ≡ f ls (d .weight) w) × (y₁ ≡ f ls (d .«oil_yield») y) × (n₁ ≡ f ls (d .day) n)
+    → (g₁ ≡ f ns (d .grower) g) × (w₁ ≡ f ns (d .weight) w) × (y₁ ≡ f ns (d .«oil_yield») y) × (n₁ ≡ f ns (d .day) n)
+by-lengths f d g w y n g₁ w₁ y₁ n₁ ls ns e m = rw e at m
 
 -- The column afterwards, slice by slice.
-pub column-is : (f : ℕ → List ℕ → List ℕ) (d : Delivery) (ls : List ℕ) (c : Column) (ns g w y : List ℕ) → ns ≡ withLengths ls (c .directory)
-    → (g ≡ f (d .grower) (c .growers)) × (w ≡ f (d .weight) (c .weights)) × (y ≡ f (d .«oil_yield») (c .yields)) → columnOf ns g w y ≡ moveSlices f d ls c
+pub column-is : (f : ℕ → List ℕ → List ℕ) (d : Delivery) (ls : List ℕ) (c : Column) (ns g w y n : List ℕ) → ns ≡ withLengths ls (c .directory)
+    → (let s = c .slices in (g ≡ f (d .grower) (s .growers)) × (w ≡ f (d .weight) (s .weights)) × (y ≡ f (d .«oil_yield») (s .yields)) × (n ≡ f (d .day) (s .days)))
+    → columnOf ns g w y n ≡ moveSlices f d ls c
 unfolding moveSlices
-column-is f d ls c ns g w y en m = rw (en, m .0, m .1, m .2)
+column-is f d ls c ns g w y n en m = rw (en, m .0, m .1, m .2, m .3)
 
 module _ (L : ℕ) where
   -- One length changed.
@@ -110,24 +111,28 @@ module _ (L : ℕ) where
     opened-lent n e h = rw (lent-refusal L c (insert d) n e h .0, ne-eqb n 0 h)
 
     module _ (h : firstFailed (lentChecks L c) ≡ 0) where
-      insert-refusal : (s t : Bool) → inRange d ≡ s → hasFreeSlot L c ≡ t → columnRefusal L c (insert d) ≡ cond s (cond t 0 12) 8
+      insert-refusal : (s t u : Bool) → inRange d ≡ s → dayOk d ≡ t → hasFreeSlot L c ≡ u → columnRefusal L c (insert d) ≡ cond s (cond t (cond u 0 12) 19) 8
       unfolding callChecks firstFailed
-      insert-refusal s t e f = lent-yes L c (insert d) h ∙ rw (e, f)
+      insert-refusal s t u e f g = lent-yes L c (insert d) h ∙ rw (e, f, g)
 
       pub opened-range : inRange d ≡ false → notShaped 8 ≡ openedOf L c d
       unfolding openedOf
-      opened-range e = rw (insert-refusal false (hasFreeSlot L c) e refl)
+      opened-range e = rw (insert-refusal false (dayOk d) (hasFreeSlot L c) e refl refl)
 
-      pub opened-full : inRange d ≡ true → length (c .growers) ≤ sumOf (lengthsOf L c) → notShaped 12 ≡ openedOf L c d
+      pub opened-day : inRange d ≡ true → dayOk d ≡ false → notShaped 19 ≡ openedOf L c d
+      unfolding openedOf
+      opened-day e f = rw (insert-refusal true false (hasFreeSlot L c) e f refl)
+
+      pub opened-full : inRange d ≡ true → dayOk d ≡ true → length (c .slices .growers) ≤ sumOf (lengthsOf L c) → notShaped 12 ≡ openedOf L c d
       unfolding openedOf hasFreeSlot
-      opened-full e k = rw (insert-refusal true false e (le-ltb (sumOf (lengthsOf L c)) (length (c .growers)) k))
+      opened-full e f k = rw (insert-refusal true true false e f (le-ltb (sumOf (lengthsOf L c)) (length (c .slices .growers)) k))
 
-      pub opened-yes : inRange d ≡ true → sumOf (lengthsOf L c) < length (c .growers) → (s : Shape) → s .refusal ≡ 0 → s .used ≡ sumOf (lengthsOf L c)
+      pub opened-yes : inRange d ≡ true → dayOk d ≡ true → sumOf (lengthsOf L c) < length (c .slices .growers) → (s : Shape) → s .refusal ≡ 0 → s .used ≡ sumOf (lengthsOf L c)
           → s .target ≡ target L c (d .grower) → s .start ≡ startOf (lengthsOf L c) (target L c (d .grower)) → s ≡ openedOf L c d
       unfolding openedOf hasFreeSlot
-      opened-yes e k s z eu et ea =
+      opened-yes e f k s z eu et ea =
           let whole : _≡_ {A = Shape} (record { refusal = s .refusal; used = s .used; target = s .target; start = s .start }) (openedOf L c d)
-          = rw (insert-refusal true true e (lt-ltb (sumOf (lengthsOf L c)) (length (c .growers)) k), z, eu, et, ea) in
+          = rw (insert-refusal true true true e f (lt-ltb (sumOf (lengthsOf L c)) (length (c .slices .growers)) k), z, eu, et, ea) in
           whole
 
   -- a column that has passed 2, 3 and 6 is ready at the partition of a grower
@@ -137,14 +142,16 @@ module _ (L : ℕ) where
       record { here = has-partition L c l (target L c g) (target-there L c h g); start = refl; room = l .shape .room; even = l .even }
 
   module _ (c : Column) (d : Delivery) where
-    -- an insert is refused by 2, 3, 6, 8 or 12
+    -- an insert is refused by 2, 3, 6, 8, 19 or 12
     never-missing : columnRefusal L c (insert d) ≡ 13 → ⊥
     never-missing e = by-number (firstFailed (lentChecks L c)) ⊥ lent lent-not
       where
         lent : firstFailed (lentChecks L c) ≡ 0 → ⊥
         lent h = by-test (inRange d) ⊥
-            (λ p. by-test (hasFreeSlot L c) ⊥ (λ q. omega (arith, e, insert-refusal c d h true true p q)) (λ q. omega (arith, e, insert-refusal c d h true false p q)))
-            (λ p. omega (arith, e, insert-refusal c d h false (hasFreeSlot L c) p refl))
+            (λ p. by-test (dayOk d) ⊥
+            (λ r. by-test (hasFreeSlot L c) ⊥ (λ q. omega (arith, e, insert-refusal c d h true true true p r q)) (λ q. omega (arith, e, insert-refusal c d h true true false p r q)))
+            (λ r. omega (arith, e, insert-refusal c d h true false (hasFreeSlot L c) p r refl)))
+            (λ p. omega (arith, e, insert-refusal c d h false (dayOk d) (hasFreeSlot L c) p refl refl))
 
         lent-not : (firstFailed (lentChecks L c) ≡ 0 → ⊥) → ⊥
         lent-not h = let r = lent-refusal L c (insert d) (firstFailed (lentChecks L c)) refl h in r .1 (sym (r .0) ∙ e)
@@ -165,7 +172,7 @@ module _ (L : ℕ) where
         pub target-is : o .target ≡ target L c (d .grower)
         pub start-is : o .start ≡ startOf (lengthsOf L c) (target L c (d .grower))
         pub used-is : o .used ≡ sumOf (lengthsOf L c)
-        pub free : sumOf (lengthsOf L c) < length (c .growers)
+        pub free : sumOf (lengthsOf L c) < length (c .slices .growers)
 
       pub insert-open : o .refusal ≡ 0 → Open
       unfolding openedOf hasFreeSlot
@@ -180,13 +187,15 @@ module _ (L : ℕ) where
             start-is = ap (λ (v : Shape). v .start) x;
             used-is = ap (λ (v : Shape). v .used) x;
             free = by-test (inRange d) _
-                (λ p. by-test (ltb (sumOf (lengthsOf L c)) (length (c .growers))) _ (λ q. ltb-true (sumOf (lengthsOf L c)) (length (c .growers)) q)
-                (λ q. absurd (omega (arith, e, insert-refusal c d l true false p q))))
-                (λ p. absurd (omega (arith, e, insert-refusal c d l false (hasFreeSlot L c) p refl)));
+                (λ p. by-test (dayOk d) _
+                (λ r. by-test (ltb (sumOf (lengthsOf L c)) (length (c .slices .growers))) _ (λ q. ltb-true (sumOf (lengthsOf L c)) (length (c .slices .growers)) q)
+                (λ q. absurd (omega (arith, e, insert-refusal c d l true true false p r q))))
+                (λ r. absurd (omega (arith, e, insert-refusal c d l true false (hasFreeSlot L c) p r refl))))
+                (λ p. absurd (omega (arith, e, insert-refusal c d l false (dayOk d) (hasFreeSlot L c) p refl refl)));
           }
 
       -- the partition is there, with room
-      pub open-ready : Open → Ready L c (o .target) (o .start) × (o .used ≡ sumOf (lengthsOf L c)) × (o .used < length (c .growers))
+      pub open-ready : Open → Ready L c (o .target) (o .start) × (o .used ≡ sumOf (lengthsOf L c)) × (o .used < length (c .slices .growers))
       open-ready a = rw (a .target-is, a .start-is, a .used-is) (ready c (d .grower) (a .lent), refl, a .free)
 
       pub insert-done : Open → (after : Column) (n : ℕ) (r : Answer) → after ≡ putOf L c (o .target) d → n ≡ onward (directoryOf L (c .directory)) (o .target)
@@ -245,10 +254,12 @@ module _ (L : ℕ) where
           slot-is = ap (λ (v : Located). v .slot) x;
           counts-are = ap (λ (v : Located). v .counts) x;
           inside = by-test (inRange d && scannedOk L c (d .grower) (d .grower)) _
-              (λ p. by-test (hasDelivery L c d) _
+              (λ p. by-test (dayOk d && scannedDaysOk L c (d .grower) (d .grower)) _
+              (λ r. by-test (hasDelivery L c d) _
               (λ q. omega (arith, near-length L c d l, ltb-true (slotOf L c d) (length (recordsNear L c (d .grower))) (sym (among-match d (recordsNear L c (d .grower))) ∙ q)))
-              (λ q. absurd (omega (arith, e, refusal-is L c d l true false p q))))
-              (λ p. absurd (omega (arith, e, refusal-is L c d l false (hasDelivery L c d) p refl)));
+              (λ q. absurd (omega (arith, e, refusal-is L c d l true true false p r q))))
+              (λ r. absurd (omega (arith, e, refusal-is L c d l true false (hasDelivery L c d) p r refl))))
+              (λ p. absurd (omega (arith, e, refusal-is L c d l false _ (hasDelivery L c d) p refl refl)));
         }
 
     -- a scan's counts leave room
@@ -267,7 +278,7 @@ module _ (L : ℕ) where
       unfolding callTotals callCounts columnAfter
       delete-done e m j = rw (i, j, e, m, a .counts-are, a .target-is, a .slot-is) (accepted-call L c (delete d) (a .accepted))
 
-      pub move-done : (g u : ℕ) → u ≡ target L c g → after ≡ shiftedOf L c (f .target) (f .slot) u (delivery g (d .weight) (d .«oil_yield»)) → n ≡ apart (f .target) u
+      pub move-done : (g u : ℕ) → u ≡ target L c g → after ≡ shiftedOf L c (f .target) (f .slot) u (withGrower g d) → n ≡ apart (f .target) u
           → k ≡ andAlso (f .counts) (1 + n) (2 + n) → _≡_ {A = Called} (record { answer = r; column = after }) (columnCall L c (move d g))
       unfolding callTotals callCounts columnAfter
       move-done g u v e m j = rw (i, j, e, m, a .counts-are, a .target-is, a .slot-is, v) (accepted-call L c (move d g) (move-refusal c d g ∙ a .accepted))

@@ -1,7 +1,7 @@
 -- A refusal, and where a delivery lies that delete or move names.
 use Prim.Native.Nat.{ℕ, _+_, _*_, _≤_}
 use mathlib.Core.Path.{_≡_}
-use mathlib.Core.Bool.{cond}
+use mathlib.Core.Bool.{cond, _&&_}
 use mathlib.Core.List.{List}
 use lib.ListN.{length, take, drop}
 use lib.Dec.{ltb, eqb}
@@ -10,12 +10,11 @@ use Rattle.model.specs.declared.Counts.{Counts}
 use Rattle.model.specs.declared.Answer.{Answer}
 use Rattle.model.specs.declared.PartitionSlice.{PartitionSlice}
 use Rattle.model.specs.Lists.{sumOf, every}
-use Rattle.model.specs.Deliveries.{inRange, noTotals, firstMatch}
+use Rattle.model.specs.Deliveries.{Even, inRange, dayOk, noTotals, firstMatch}
 use Rattle.model.specs.Calls.{insert, delete}
 use Rattle.model.specs.Partitions.{startOf, oneMore, oneFewer}
 use Rattle.model.specs.Moves.{inserted, deleted, moved}
 use Rattle.model.specs.Directory.{directoryOf}
-use Rattle.model.specs.Lent.{Even}
 use Rattle.model.specs.Column.{Column, lengthsOf, target}
 use Rattle.model.specs.Accesses.{noCounts, blocksOf, readsOf, scanNear}
 use Rattle.model.specs.ColumnCalls.{columnRefusal, slotOf, freed, moveSlices}
@@ -32,12 +31,14 @@ withoutTotals n k = record { refusal = n; counts = k; totals = noTotals }
 abbrev pub notLocated : ℕ → Counts → Located
 notLocated n k = record { refusal = n; target = 0; start = 0; slot = 0; counts = k }
 
--- checks 8 and 13 in a partition t that starts at a and holds the records ds
+-- checks 8, 19 and 13 in a partition t that starts at a and holds the records ds
 unfoldable pub searchedOf : ℕ → ℕ → ℕ → Delivery → List Delivery → Located
 searchedOf b t a d ds =
     let k : Counts = readsOf (blocksOf b (length ds)) in
     cond (every inRange ds)
+    (cond (dayOk d && every dayOk ds)
     (cond (ltb (firstMatch d ds) (length ds)) (record { refusal = 0; target = t; start = a; slot = firstMatch d ds; counts = k }) (notLocated 13 k))
+    (notLocated 19 noCounts))
     (notLocated 8 noCounts)
 
 -- L is the block limit
@@ -56,8 +57,8 @@ module _ (L : ℕ) where
   pub record Ready (c : Column) (t a : ℕ) : Type 0 where
     pub here : HasPartition L (c .directory) t
     pub start : a ≡ startOf (lengthsOf L c) t
-    pub room : sumOf (lengthsOf L c) ≤ length (c .growers)
-    pub even : Even (c .growers) (c .weights) (c .yields)
+    pub room : sumOf (lengthsOf L c) ≤ length (c .slices .growers)
+    pub even : Even (c .slices)
 
   -- where an insert goes, or its refusal
   unfoldable pub openedOf : Column → Delivery → Shape

@@ -1,5 +1,5 @@
-// The laid column (01): find, range, insert, delete, move, the next and the previous grower (02: Slip 3) and the partition call, over three
-// lent slices and the lent directory.
+// The laid column (01): find, range, also over days (02: Slip 7), insert, delete, move, the next and the previous grower (02: Slip 3) and the
+// partition call, over the lent slices and the lent directory.
 // No call trusts what it is lent: each puts its checks first, and a refused call writes to no slice.
 ghost use mathlib.Core.Path.{_≡_};
 ghost use Prim.Native.Nat.{_+_, _-_, _≤_, _<_};
@@ -7,9 +7,10 @@ ghost use lib.ListN.{length, getD};
 ghost use lib.Dec.{T};
 ghost use Rattle.model.specs.Bounds.{blockLimit, mostSlots};
 ghost use Rattle.model.specs.Lists.{sumOf};
-ghost use Rattle.model.specs.Deliveries.{rows};
+ghost use Rattle.model.specs.Calendar.{span};
+ghost use Rattle.model.specs.Deliveries.{rows, Even};
 ghost use Rattle.model.specs.Checks.{firstFailed};
-ghost use Rattle.model.specs.Calls.{find, range, insert, delete, move};
+ghost use Rattle.model.specs.Calls.{find, range, rangeDays, insert, delete, move};
 ghost use Rattle.model.specs.Place.{place};
 ghost use Rattle.model.specs.Partitions.{startOf};
 ghost use Rattle.model.specs.Moves.{moved};
@@ -19,7 +20,7 @@ ghost use Rattle.model.specs.Questions.{lentChecks};
 ghost use Rattle.model.specs.ColumnCalls.{columnCall, partitionCall};
 ghost use Rattle.model.specs.Growers.{up, down};
 ghost use Rattle.model.specs.GrowerCalls.{growerCall};
-ghost use Rattle.model.specs.Lent.{columnOf, columnIn, columnOut, Even};
+ghost use Rattle.model.specs.Lent.{columnOf, columnIn, columnOut, slicesAt, slicesIn};
 ghost use Rattle.growers.specs.Searches.{directionOf};
 ghost use Rattle.column.specs.Answers.{withoutTotals, notLocated, searchedOf, locatedOf, openedOf, partOf};
 ghost use Rattle.column.specs.Answers.{Ready, putOf, takenOf, shiftedOf};
@@ -28,6 +29,7 @@ use model::Answer;
 use model::Counts;
 use model::Delivery;
 use model::GrowerAnswer;
+use model::MOST_DAY;
 use model::PartitionSlice;
 use model::Totals;
 
@@ -61,27 +63,31 @@ fn last_scanned(directory: &[u32], from: usize, lo: u32, hi: u32) -> usize
     directory::partition_of(directory, hi)
 }
 
-// The partitions from lo's, which begins at start, to hi's, once checks 2, 3, 6 and 7 are passed.
+// The partitions from lo's, which begins at start, to hi's, on the days first to last, once checks 2, 3, 6 and 7 are passed.
 fn read(
     directory: &[u32],
     g: &[u32],
     w: &[u32],
     y: &[u32],
+    n: &[u32],
     from: usize,
     start: usize,
     lo: u32,
     hi: u32,
+    first: u32,
+    last: u32,
 ) -> Answer
-    requires { ⌜ (firstFailed (lentChecks blockLimit (columnOf (now directory) (now g) (now w) (now y))) ≡ 0) × (lo ≤ hi)
+    requires { ⌜ (firstFailed (lentChecks blockLimit (columnOf (now directory) (now g) (now w) (now y) (now n))) ≡ 0) × (lo ≤ hi)
         × (from ≡ place (directoryOf blockLimit (now directory) .fences) lo)
         × (start ≡ startOf (directoryOf blockLimit (now directory) .lengths) from) ⌝ }
-    ensures { λ r. ⌜ r ≡ columnCall blockLimit (columnIn directory g w y) (range lo hi) .answer ⌝ }
+    ensures { λ r. ⌜ r ≡ columnCall blockLimit (columnIn directory g w y n) (rangeDays lo hi (span first last)) .answer ⌝ }
 {
     let to = last_scanned(directory, from, lo, hi);
     let s = scan::scan_parts(
         g,
         w,
         y,
+        n,
         directory::lengths(directory),
         from,
         to,
@@ -89,9 +95,14 @@ fn read(
         directory::block(directory),
         lo,
         hi,
+        first,
+        last,
     );
     if !s.good {
         return refused(8);
+    }
+    if !scan::both(checks::span_ok(first, last), s.dated) {
+        return refused(19);
     }
     let counts = scan::reads_of(s.blocks);
     let totals = s.totals;
@@ -102,18 +113,21 @@ fn read(
     }
 }
 
-// The records of the growers lo to hi, both included.
-pub fn range(
+// The records of the growers lo to hi on the days first to last, all four included; if last is earlier than first, none.
+pub fn range_days(
     directory: &[u32],
     growers: &[u32],
     weights: &[u32],
     yields: &[u32],
+    days: &[u32],
     lo: u32,
     hi: u32,
+    first: u32,
+    last: u32,
 ) -> Answer
-    ensures { λ r. ⌜ r ≡ columnCall blockLimit (columnIn directory growers weights yields) (range lo hi) .answer ⌝ }
+    ensures { λ r. ⌜ r ≡ columnCall blockLimit (columnIn directory growers weights yields days) (rangeDays lo hi (span first last)) .answer ⌝ }
 {
-    let shape = directory::lent(directory, growers, weights, yields, lo);
+    let shape = directory::lent(directory, growers, weights, yields, days, lo);
     let n = shape.refusal;
     if n != 0 {
         return refused(n);
@@ -126,10 +140,38 @@ pub fn range(
         growers,
         weights,
         yields,
+        days,
         shape.target,
         shape.start,
         lo,
         hi,
+        first,
+        last,
+    )
+}
+
+// The records of the growers lo to hi, both included, on any day.
+pub fn range(
+    directory: &[u32],
+    growers: &[u32],
+    weights: &[u32],
+    yields: &[u32],
+    days: &[u32],
+    lo: u32,
+    hi: u32,
+) -> Answer
+    ensures { λ r. ⌜ r ≡ columnCall blockLimit (columnIn directory growers weights yields days) (range lo hi) .answer ⌝ }
+{
+    range_days(
+        directory,
+        growers,
+        weights,
+        yields,
+        days,
+        lo,
+        hi,
+        0,
+        MOST_DAY,
     )
 }
 
@@ -139,11 +181,12 @@ pub fn find(
     growers: &[u32],
     weights: &[u32],
     yields: &[u32],
+    days: &[u32],
     grower: u32,
 ) -> Answer
-    ensures { λ r. ⌜ r ≡ columnCall blockLimit (columnIn directory growers weights yields) (find grower) .answer ⌝ }
+    ensures { λ r. ⌜ r ≡ columnCall blockLimit (columnIn directory growers weights yields days) (find grower) .answer ⌝ }
 {
-    range(directory, growers, weights, yields, grower, grower)
+    range(directory, growers, weights, yields, days, grower, grower)
 }
 
 // Where a delivery lies that delete or move names: its partition, where that starts, its slot there; and what the scan cost.
@@ -175,26 +218,34 @@ fn not_located(refusal: u32) -> Located
     not_located_after(refusal, Counts::none())
 }
 
-// Checks 8 and 13 in a partition, which begins at start, of which it is handed its part of each slice.
+// Checks 8, 19 and 13 in a partition, which begins at start, of which it is handed its part of each slice.
 fn search_part(
     g: &[u32],
     w: &[u32],
     y: &[u32],
+    n: &[u32],
     block: u32,
     partition: usize,
     start: usize,
     d: Delivery,
 ) -> Located
-    requires { ⌜ (length (now g) ≤ mostSlots) × Even (now g) (now w) (now y) × (1 ≤ block) ⌝ }
-    ensures { λ r. ⌜ r ≡ searchedOf block partition start d (rows (now (g .entry)) (now (w .entry)) (now (y .entry))) ⌝ }
+    requires { ⌜ (length (now g) ≤ mostSlots) × Even (slicesAt g w y n) × (1 ≤ block) ⌝ }
+    ensures { λ r. ⌜ r ≡ searchedOf block partition start d (rows (slicesIn g w y n)) ⌝ }
 {
+    let dated = checks::day_ok(d);
     // of an empty partition no block is read
     if g.len() == 0 {
+        if !dated {
+            return not_located(19);
+        }
         return not_located_after(13, scan::reads_of(0));
     }
-    let f = scan::seek_all(g, w, y, d);
+    let f = scan::seek_all(g, w, y, n, d);
     if !f.good {
         return not_located(8);
+    }
+    if !scan::both(dated, f.dated) {
+        return not_located(19);
     }
     let i = f.slot;
     let counts = scan::reads_of(scan::blocks_of(g.len(), block));
@@ -210,14 +261,14 @@ fn search_part(
     not_located_after(13, counts)
 }
 
-// Checks 2, 3, 6, 8 and 13 of delete and move.
-fn locate(directory: &[u32], g: &[u32], w: &[u32], y: &[u32], d: Delivery) -> Located
-    ensures { λ r. ⌜ r ≡ locatedOf blockLimit (columnIn directory g w y) d ⌝ }
+// Checks 2, 3, 6, 8, 19 and 13 of delete and move.
+fn locate(directory: &[u32], g: &[u32], w: &[u32], y: &[u32], n: &[u32], d: Delivery) -> Located
+    ensures { λ r. ⌜ r ≡ locatedOf blockLimit (columnIn directory g w y n) d ⌝ }
 {
-    let shape = directory::lent(directory, g, w, y, d.grower);
-    let n = shape.refusal;
-    if n != 0 {
-        return not_located(n);
+    let shape = directory::lent(directory, g, w, y, n, d.grower);
+    let refusal = shape.refusal;
+    if refusal != 0 {
+        return not_located(refusal);
     }
     if !checks::in_range(d) {
         return not_located(8);
@@ -229,6 +280,7 @@ fn locate(directory: &[u32], g: &[u32], w: &[u32], y: &[u32], d: Delivery) -> Lo
         &g[a..e],
         &w[a..e],
         &y[a..e],
+        &n[a..e],
         directory::block(directory),
         t,
         a,
@@ -236,17 +288,20 @@ fn locate(directory: &[u32], g: &[u32], w: &[u32], y: &[u32], d: Delivery) -> Lo
     )
 }
 
-// Checks 2, 3, 6, 8 and 12 of an insert: where it goes, or why it is refused.
-fn open(directory: &[u32], g: &[u32], w: &[u32], y: &[u32], d: Delivery) -> Shape
-    ensures { λ r. ⌜ r ≡ openedOf blockLimit (columnIn directory g w y) d ⌝ }
+// Checks 2, 3, 6, 8, 19 and 12 of an insert: where it goes, or why it is refused.
+fn open(directory: &[u32], g: &[u32], w: &[u32], y: &[u32], n: &[u32], d: Delivery) -> Shape
+    ensures { λ r. ⌜ r ≡ openedOf blockLimit (columnIn directory g w y n) d ⌝ }
 {
-    let shape = directory::lent(directory, g, w, y, d.grower);
-    let n = shape.refusal;
-    if n != 0 {
-        return directory::refused(n);
+    let shape = directory::lent(directory, g, w, y, n, d.grower);
+    let refusal = shape.refusal;
+    if refusal != 0 {
+        return directory::refused(refusal);
     }
     if !checks::in_range(d) {
         return directory::refused(8);
+    }
+    if !checks::day_ok(d) {
+        return directory::refused(19);
     }
     if g.len() <= shape.used {
         return directory::refused(12);
@@ -260,21 +315,23 @@ fn put(
     g: &mut [u32],
     w: &mut [u32],
     y: &mut [u32],
+    n: &mut [u32],
     partition: usize,
     start: usize,
     used: usize,
     d: Delivery,
 )
-    requires { ⌜ Ready blockLimit (columnOf (now directory) (now g) (now w) (now y)) partition start
+    requires { ⌜ Ready blockLimit (columnOf (now directory) (now g) (now w) (now y) (now n)) partition start
         × (used ≡ sumOf (directoryOf blockLimit (now directory) .lengths))
         × (used < length (now g)) ⌝ }
-    ensures { λ r. ⌜ columnOut directory g w y
-        ≡ putOf blockLimit (columnIn directory g w y) partition d ⌝ }
+    ensures { λ r. ⌜ columnOut directory g w y n
+        ≡ putOf blockLimit (columnIn directory g w y n) partition d ⌝ }
 {
     ripple::insert_slots(
         g,
         w,
         y,
+        n,
         directory::lengths(directory),
         partition,
         start,
@@ -290,24 +347,27 @@ fn take_out(
     g: &mut [u32],
     w: &mut [u32],
     y: &mut [u32],
+    n: &mut [u32],
     partition: usize,
     start: usize,
     slot: usize,
 )
-    requires { ⌜ Ready blockLimit (columnOf (now directory) (now g) (now w) (now y)) partition start
+    requires { ⌜ Ready blockLimit (columnOf (now directory) (now g) (now w) (now y) (now n)) partition start
         × (slot < getD (directoryOf blockLimit (now directory) .lengths) partition 0) ⌝ }
-    ensures { λ r. ⌜ columnOut directory g w y
-        ≡ takenOf blockLimit (columnIn directory g w y) partition slot ⌝ }
+    ensures { λ r. ⌜ columnOut directory g w y n
+        ≡ takenOf blockLimit (columnIn directory g w y n) partition slot ⌝ }
 {
     let freed = Delivery {
         grower: 0,
         weight: 0,
         oil_yield: 0,
+        day: 0,
     };
     ripple::delete_slots(
         g,
         w,
         y,
+        n,
         directory::lengths(directory),
         partition,
         start,
@@ -323,24 +383,27 @@ fn shift_slots(
     g: &mut [u32],
     w: &mut [u32],
     y: &mut [u32],
+    n: &mut [u32],
     from: usize,
     from_start: usize,
     slot: usize,
     to: usize,
     d: Delivery,
 )
-    requires { ⌜ Ready blockLimit (columnOf (now directory) (now g) (now w) (now y)) from «from_start»
+    requires { ⌜ Ready blockLimit (columnOf (now directory) (now g) (now w) (now y) (now n)) from «from_start»
         × (slot < getD (directoryOf blockLimit (now directory) .lengths) from 0)
         × (to < partitionCount blockLimit (now directory)) ⌝ }
     ensures { λ r. ⌜ (now (g .exit) ≡ moved (directoryOf blockLimit (now (directory .entry)) .lengths) from slot to (d .grower) (now (g .entry)))
         × (now (w .exit) ≡ moved (directoryOf blockLimit (now (directory .entry)) .lengths) from slot to (d .weight) (now (w .entry)))
-        × (now (y .exit) ≡ moved (directoryOf blockLimit (now (directory .entry)) .lengths) from slot to (d .«oil_yield») (now (y .entry))) ⌝ }
+        × (now (y .exit) ≡ moved (directoryOf blockLimit (now (directory .entry)) .lengths) from slot to (d .«oil_yield») (now (y .entry)))
+        × (now (n .exit) ≡ moved (directoryOf blockLimit (now (directory .entry)) .lengths) from slot to (d .day) (now (n .entry))) ⌝ }
 {
     if from <= to {
         ripple::forward_slots(
             g,
             w,
             y,
+            n,
             directory::lengths(directory),
             from,
             from_start,
@@ -355,6 +418,7 @@ fn shift_slots(
         g,
         w,
         y,
+        n,
         directory::lengths(directory),
         from,
         from_start,
@@ -371,19 +435,20 @@ fn shift(
     g: &mut [u32],
     w: &mut [u32],
     y: &mut [u32],
+    n: &mut [u32],
     from: usize,
     from_start: usize,
     slot: usize,
     to: usize,
     d: Delivery,
 )
-    requires { ⌜ Ready blockLimit (columnOf (now directory) (now g) (now w) (now y)) from «from_start»
+    requires { ⌜ Ready blockLimit (columnOf (now directory) (now g) (now w) (now y) (now n)) from «from_start»
         × (slot < getD (directoryOf blockLimit (now directory) .lengths) from 0)
         × (to < partitionCount blockLimit (now directory)) ⌝ }
-    ensures { λ r. ⌜ columnOut directory g w y
-        ≡ shiftedOf blockLimit (columnIn directory g w y) from slot to d ⌝ }
+    ensures { λ r. ⌜ columnOut directory g w y n
+        ≡ shiftedOf blockLimit (columnIn directory g w y n) from slot to d ⌝ }
 {
-    shift_slots(directory, g, w, y, from, from_start, slot, to, d);
+    shift_slots(directory, g, w, y, n, from, from_start, slot, to, d);
     directory::shrink(directory, from);
     directory::grow(directory, to);
 }
@@ -406,12 +471,13 @@ pub fn insert(
     growers: &mut [u32],
     weights: &mut [u32],
     yields: &mut [u32],
+    days: &mut [u32],
     d: Delivery,
 ) -> Answer
-    ensures { λ r. ⌜ record { answer = r; column = columnOut directory growers weights yields }
-        ≡ columnCall blockLimit (columnIn directory growers weights yields) (insert d) ⌝ }
+    ensures { λ r. ⌜ record { answer = r; column = columnOut directory growers weights yields days }
+        ≡ columnCall blockLimit (columnIn directory growers weights yields days) (insert d) ⌝ }
 {
-    let o = open(directory, growers, weights, yields, d);
+    let o = open(directory, growers, weights, yields, days, d);
     let n = o.refusal;
     if n != 0 {
         return refused(n);
@@ -423,7 +489,17 @@ pub fn insert(
         sr: 0,
         rw: each,
     };
-    put(directory, growers, weights, yields, t, o.start, o.used, d);
+    put(
+        directory,
+        growers,
+        weights,
+        yields,
+        days,
+        t,
+        o.start,
+        o.used,
+        d,
+    );
     without_totals(0, counts)
 }
 
@@ -433,12 +509,13 @@ pub fn delete(
     growers: &mut [u32],
     weights: &mut [u32],
     yields: &mut [u32],
+    days: &mut [u32],
     d: Delivery,
 ) -> Answer
-    ensures { λ r. ⌜ record { answer = r; column = columnOut directory growers weights yields }
-        ≡ columnCall blockLimit (columnIn directory growers weights yields) (delete d) ⌝ }
+    ensures { λ r. ⌜ record { answer = r; column = columnOut directory growers weights yields days }
+        ≡ columnCall blockLimit (columnIn directory growers weights yields days) (delete d) ⌝ }
 {
-    let f = locate(directory, growers, weights, yields, d);
+    let f = locate(directory, growers, weights, yields, days, d);
     let s = f.counts;
     if f.refusal != 0 {
         return without_totals(f.refusal, s);
@@ -446,7 +523,16 @@ pub fn delete(
     let t = f.target;
     let n = directory::onward(directory, t);
     let counts = with_more(s, n, 1 + n);
-    take_out(directory, growers, weights, yields, t, f.start, f.slot);
+    take_out(
+        directory,
+        growers,
+        weights,
+        yields,
+        days,
+        t,
+        f.start,
+        f.slot,
+    );
     without_totals(0, counts)
 }
 
@@ -466,13 +552,14 @@ pub fn move_delivery(
     growers: &mut [u32],
     weights: &mut [u32],
     yields: &mut [u32],
+    days: &mut [u32],
     d: Delivery,
     new_grower: u32,
 ) -> Answer
-    ensures { λ r. ⌜ record { answer = r; column = columnOut directory growers weights yields }
-        ≡ columnCall blockLimit (columnIn directory growers weights yields) (move d «new_grower») ⌝ }
+    ensures { λ r. ⌜ record { answer = r; column = columnOut directory growers weights yields days }
+        ≡ columnCall blockLimit (columnIn directory growers weights yields days) (move d «new_grower») ⌝ }
 {
-    let f = locate(directory, growers, weights, yields, d);
+    let f = locate(directory, growers, weights, yields, days, d);
     let s = f.counts;
     if f.refusal != 0 {
         return without_totals(f.refusal, s);
@@ -485,12 +572,14 @@ pub fn move_delivery(
         grower: new_grower,
         weight: d.weight,
         oil_yield: d.oil_yield,
+        day: d.day,
     };
     shift(
         directory,
         growers,
         weights,
         yields,
+        days,
         t,
         f.start,
         f.slot,
@@ -506,20 +595,22 @@ fn neighbour(
     g: &[u32],
     w: &[u32],
     y: &[u32],
+    n: &[u32],
     grower: u32,
     up: bool,
 ) -> GrowerAnswer
-    ensures { λ r. ⌜ r ≡ growerCall blockLimit (columnIn directory g w y) (directionOf up) grower ⌝ }
+    ensures { λ r. ⌜ r ≡ growerCall blockLimit (columnIn directory g w y n) (directionOf up) grower ⌝ }
 {
-    let shape = directory::lent(directory, g, w, y, grower);
-    let n = shape.refusal;
-    if n != 0 {
-        return growers::refused(n);
+    let shape = directory::lent(directory, g, w, y, n, grower);
+    let refusal = shape.refusal;
+    if refusal != 0 {
+        return growers::refused(refusal);
     }
     growers::search(
         g,
         w,
         y,
+        n,
         directory::lengths(directory),
         shape.target,
         shape.start,
@@ -535,11 +626,12 @@ pub fn next_grower(
     growers: &[u32],
     weights: &[u32],
     yields: &[u32],
+    days: &[u32],
     grower: u32,
 ) -> GrowerAnswer
-    ensures { λ r. ⌜ r ≡ growerCall blockLimit (columnIn directory growers weights yields) up grower ⌝ }
+    ensures { λ r. ⌜ r ≡ growerCall blockLimit (columnIn directory growers weights yields days) up grower ⌝ }
 {
-    neighbour(directory, growers, weights, yields, grower, true)
+    neighbour(directory, growers, weights, yields, days, grower, true)
 }
 
 // The largest grower at or below the given one who has records, and how many.
@@ -548,11 +640,12 @@ pub fn previous_grower(
     growers: &[u32],
     weights: &[u32],
     yields: &[u32],
+    days: &[u32],
     grower: u32,
 ) -> GrowerAnswer
-    ensures { λ r. ⌜ r ≡ growerCall blockLimit (columnIn directory growers weights yields) down grower ⌝ }
+    ensures { λ r. ⌜ r ≡ growerCall blockLimit (columnIn directory growers weights yields days) down grower ⌝ }
 {
-    neighbour(directory, growers, weights, yields, grower, false)
+    neighbour(directory, growers, weights, yields, days, grower, false)
 }
 
 fn no_partition(refusal: u32) -> PartitionSlice

@@ -3,11 +3,13 @@ use Prim.Native.Nat.{ℕ, _≤_, _<_}
 use mathlib.Core.Path.{_≡_, refl, sym, ap, _∙_, subst}
 use mathlib.Core.Bool.{Bool, true, false}
 use mathlib.Core.Option.{some}
-use mathlib.Core.List.{List, [], _∷_}
+use mathlib.Core.List.{List, [], _∷_, _++_, map}
 use native.Mathlib.Omega.{arith}
 use borrow.Author.Tests.{ne-eqb, le-leb, lt-leb}
 use lib.Dec.{leb}
-use lib.ListN.{length, drop}
+use lib.ListN.{length, take, drop, replicate}
+use lib.Seq.{length-take-le}
+use Rattle.model.specs.Deliveries.{dayOf, Slices, slicesOf}
 use Rattle.model.specs.declared.Imported.{Imported}
 use Rattle.model.specs.Lists.{isSome}
 use Rattle.model.specs.Checks.{ask, firstFailed}
@@ -25,6 +27,7 @@ use Rattle.csv_rows.specs.declared.Judged.{Judged}
 use Rattle.csv_rows.specs.declared.Judged.the-variants.{AllGood, OneBad}
 use Rattle.csv_rows.specs.Rows.{rowsFrom, GoodRows, judgedIs, JudgedIs, Storable, Stored}
 use Rattle.csv.specs.declared.Checked.{Checked}
+use Rattle.csv.proofs.RowDays.{rows-undated}
 use Rattle.csv.specs.Checking.{headerRefusal, HeaderAt, textRefusal, notChecked, GoodText, CheckedIs}
 
 -- Checking a text.
@@ -85,31 +88,37 @@ module _ {text : List ℕ} {c : Columns} {at : ℕ} (slots : ℕ) (none-refused 
 -- Importing.
 
 -- an import that is answered by n and stores nothing
-abbrev Refused : List ℕ → List ℕ → List ℕ → List ℕ → ℕ → Type 0
-Refused text gs ws ys n =
-    (r : Imported) → r ≡ record { refusal = n; rows = 0 } → record { answer = r; growers = gs; weights = ws; yields = ys } ≡ importCall text gs ws ys
+abbrev Refused : List ℕ → Slices → ℕ → Type 0
+Refused text s n = (r : Imported) → r ≡ record { refusal = n; rows = 0 } → record { answer = r; slices = s } ≡ importCall text s
 
-module _ (text gs ws ys : List ℕ) where
-  refused : (n : ℕ) → n ≡ firstFailed (importChecks text gs ws ys) → (n ≡ 0 → ⊥) → Refused text gs ws ys n
+module _ (text : List ℕ) (s : Slices) where
+  abbrev slots : ℕ
+  slots = length (s .growers)
+
+  refused : (n : ℕ) → n ≡ firstFailed (importChecks text s) → (n ≡ 0 → ⊥) → Refused text s n
   unfolding importCall
   refused n e z r d = rw (← e, ne-eqb n 0 z, d)
 
-  pub answer-slices : slicesOk gs ws ys ≡ false → Refused text gs ws ys 3
+  pub answer-slices : slicesOk s ≡ false → Refused text s 3
   unfolding importChecks
-  answer-slices e = refused 3 (fails 3 (slicesOk gs ws ys) _ e) (λ z. omega (arith, z))
+  answer-slices e = refused 3 (fails 3 (slicesOk s) _ e) (λ z. omega (arith, z))
 
-  module _ (s : slicesOk gs ws ys ≡ true) where
-    past-slices : (n : ℕ) → n ≡ textRefusal text (length gs) → n ≡ firstFailed (importChecks text gs ws ys)
+  module _ (o : slicesOk s ≡ true) where
+    past-slices : (n : ℕ) → n ≡ textRefusal text slots → n ≡ firstFailed (importChecks text s)
     unfolding importChecks
-    past-slices n e = passes 3 n (slicesOk gs ws ys) _ s e
+    past-slices n e = passes 3 n (slicesOk s) _ o e
 
-    pub answer-text : {n : ℕ} → n ≡ textRefusal text (length gs) → (n ≡ 0 → ⊥) → Refused text gs ws ys n
+    pub answer-text : {n : ℕ} → n ≡ textRefusal text slots → (n ≡ 0 → ⊥) → Refused text s n
     answer-text {n} e z = refused n (past-slices n e) z
 
-    module _ {c : Columns} {at m : ℕ} (t : GoodText text (length gs) c at m) where
-      pub storable : Storable text at c gs ws ys
+    module _ {c : Columns} {at m : ℕ} (t : GoodText text slots c at m) where
+      -- there is a day for each row
+      pub days-room : m ≤ length (s .days)
+      days-room = omega (arith, t .fits, sliced s (of-true _ o) .even .days)
+
+      pub storable : Storable text at c (s .growers) (s .weights) (s .yields)
       storable =
-          let v = sliced gs ws ys (of-true _ s) in
+          let v = sliced s (of-true _ o) in
           record {
             start = t .found .within;
             header = t .found .header;
@@ -125,9 +134,11 @@ module _ (text gs ws ys : List ℕ) where
       unfolding readRows
       read = rw (t .found .is) (t .good .is)
 
-      pub answer-rows : {gs' ws' ys' : List ℕ} → 0 ≡ textRefusal text (length gs) → Stored text at c gs ws ys gs' ws' ys'
-          → record { answer = record { refusal = 0; rows = m }; growers = gs'; weights = ws'; yields = ys' } ≡ importCall text gs ws ys
+      pub answer-rows : {gs' ws' ys' z : List ℕ} → 0 ≡ textRefusal text slots → Stored text at c (s .growers) (s .weights) (s .yields) gs' ws' ys' → z ≡ replicate (length (take m (s .days))) 0
+          → record { answer = record { refusal = 0; rows = m }; slices = slicesOf gs' ws' ys' (z ++ drop m (s .days)) } ≡ importCall text s
       unfolding importCall
-      answer-rows e d =
+      answer-rows {gs'} {ws'} {ys'} {z} e d q =
           let f = d .is (t .found .header) (t .found .columns) (t .good .rows) (t .good .is) in
-          rw (← past-slices 0 e, read, f .growers, f .weights, f .yields, ← t .good .counted)
+          let n : z ≡ map dayOf (t .good .rows)
+          = q ∙ ap (λ (k : ℕ). replicate k 0) (length-take-le m (s .days) days-room ∙ t .good .counted) ∙ sym (rows-undated (t .found .header) _ (t .good .rows) (t .good .is)) in
+          rw (← past-slices 0 e, read, f .growers, f .weights, f .yields, n, ← t .good .counted)

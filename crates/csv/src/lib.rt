@@ -1,4 +1,4 @@
-// The weighbridge file (02: Slip 1): imported into the three slices, its columns found by name, and exported from them.
+// The weighbridge file (02: Slip 1): imported into the slices, its columns found by name, and exported from them.
 // Importing judges the whole text before it stores a row, exporting knows the text's length before it writes a byte, so that a refused
 // call writes to no slice.
 ghost use mathlib.Core.Path.{_≡_};
@@ -7,6 +7,7 @@ ghost use Prim.Native.Nat.{_≤_, _<_};
 ghost use lib.ListN.{length};
 ghost use Rattle.model.specs.Lists.{sameList};
 ghost use Rattle.model.specs.Checks.{firstFailed};
+ghost use Rattle.model.specs.Lent.{slicesIn, slicesOut};
 ghost use Rattle.model.specs.Questions.{exportChecks};
 ghost use Rattle.model.specs.CsvCalls.{importCall, exportCall};
 ghost use Rattle.csv_fields.specs.Reading.{holdsQuote};
@@ -18,7 +19,7 @@ use csv_rows::Judged;
 use model::Imported;
 use model::Written;
 
-// The answer of an accepted call, and the refusals (01: 0, 3, 4, 8, 12 and 15; 02: 16, 17 and 18).
+// The answer of an accepted call, and the refusals (01: 0, 3, 4, 8, 12 and 15; 02: 16, 17, 18 and 19).
 const ACCEPTED: u32 = 0;
 
 const UNEVEN_SLICES: u32 = 3;
@@ -36,6 +37,8 @@ const NAME_ABSENT: u32 = 16;
 const NAME_TWICE: u32 = 17;
 
 const BAD_ROW: u32 = 18;
+
+const DAY_OUT_OF_RANGE: u32 = 19;
 
 // A name in the header: in how many columns it stands, the first of them, how many columns there are, and where the text goes on.
 struct Named {
@@ -266,12 +269,18 @@ fn not_imported(n: u32) -> Imported
     }
 }
 
-// Reads the rows of a text into the slices, in their order: how many, or a refusal and the slices as they were.
-pub fn import(text: &[u8], growers: &mut [u32], weights: &mut [u32], yields: &mut [u32]) -> Imported
-    ensures { λ r. ⌜ record { answer = r; growers = now (growers .exit); weights = now (weights .exit); yields = now (yields .exit) }
-        ≡ importCall (now (text .entry)) (now (growers .entry)) (now (weights .entry)) (now (yields .entry)) ⌝ }
+// Reads the rows of a text into the slices, in their order, with day 0: how many, or a refusal and the slices as they were.
+pub fn import(
+    text: &[u8],
+    growers: &mut [u32],
+    weights: &mut [u32],
+    yields: &mut [u32],
+    days: &mut [u32],
+) -> Imported
+    ensures { λ r. ⌜ record { answer = r; slices = slicesOut growers weights yields days }
+        ≡ importCall (now (text .entry)) (slicesIn growers weights yields days) ⌝ }
 {
-    if !checks::slices_ok(growers, weights, yields) {
+    if !checks::slices_ok(growers, weights, yields, days) {
         return not_imported(UNEVEN_SLICES);
     }
     let t = check_text(text, growers.len());
@@ -281,17 +290,19 @@ pub fn import(text: &[u8], growers: &mut [u32], weights: &mut [u32], yields: &mu
     }
     let at = t.next;
     let c = t.columns;
+    let m = t.rows;
     csv_rows::store(text, at, c, growers, weights, yields);
+    slices::clear(&mut days[..m]);
     let refusal = ACCEPTED;
-    let rows = t.rows as u64;
+    let rows = m as u64;
     Imported { refusal, rows }
 }
 
-// Checks 3, 4, 8 and 15 of exporting the first slots into room bytes.
-fn check_export(used: u32, g: &[u32], w: &[u32], y: &[u32], room: usize) -> u32
-    ensures { λ r. ⌜ r ≡ firstFailed (exportChecks used (now (g .entry)) (now (w .entry)) (now (y .entry)) room) ⌝ }
+// Checks 3, 4, 8, 19 and 15 of exporting the first slots into room bytes.
+fn check_export(used: u32, g: &[u32], w: &[u32], y: &[u32], n: &[u32], room: usize) -> u32
+    ensures { λ r. ⌜ r ≡ firstFailed (exportChecks used (slicesIn g w y n) room) ⌝ }
 {
-    if !checks::slices_ok(g, w, y) {
+    if !checks::slices_ok(g, w, y, n) {
         return UNEVEN_SLICES;
     }
     let m = used as usize;
@@ -301,24 +312,28 @@ fn check_export(used: u32, g: &[u32], w: &[u32], y: &[u32], room: usize) -> u32
     if !checks::values_ok(&w[..m], &y[..m]) {
         return VALUES_OUT_OF_RANGE;
     }
-    if room < csv_lines::text_length(&g[..m], &w[..m], &y[..m]) {
+    if !checks::days_ok(&n[..m]) {
+        return DAY_OUT_OF_RANGE;
+    }
+    if room < csv_lines::text_length(&g[..m], &w[..m], &y[..m], &n[..m]) {
         return TOO_SHORT;
     }
     0
 }
 
-// Writes the first slots as a weighbridge file: how many bytes, or a refusal and the text as it was.
+// Writes the first slots as a weighbridge file, without their days: how many bytes, or a refusal and the text as it was.
 pub fn export(
     used: u32,
     growers: &[u32],
     weights: &[u32],
     yields: &[u32],
+    days: &[u32],
     text: &mut [u8],
 ) -> Written
     ensures { λ r. ⌜ record { answer = r; text = now (text .exit) }
-        ≡ exportCall used (now (growers .entry)) (now (weights .entry)) (now (yields .entry)) (now (text .entry)) ⌝ }
+        ≡ exportCall used (slicesIn growers weights yields days) (now (text .entry)) ⌝ }
 {
-    let n = check_export(used, growers, weights, yields, text.len());
+    let n = check_export(used, growers, weights, yields, days, text.len());
     if n != 0 {
         return Written {
             refusal: n,
@@ -327,7 +342,14 @@ pub fn export(
     }
     let m = used as usize;
     let start = csv_lines::put_header(text);
-    let e = csv_lines::put_rows(text, start, &growers[..m], &weights[..m], &yields[..m]);
+    let e = csv_lines::put_rows(
+        text,
+        start,
+        &growers[..m],
+        &weights[..m],
+        &yields[..m],
+        &days[..m],
+    );
     Written {
         refusal: 0,
         bytes: e as u64,

@@ -1,17 +1,16 @@
 -- A delivery's line written field by field, the lines one after the other, and how long they are. Assumes nothing.
 use Prim.Native.Nat.{ℕ, _+_, _*_, _≤_, _<_}
 use mathlib.Core.Path.{_≡_, refl, ap}
-use mathlib.Core.List.{List, [], _∷_, _++_, append-assoc, flatten}
+use mathlib.Core.List.{List, [], _∷_, _++_, append-assoc, flatten, map}
 use native.Mathlib.Omega.{arith}
 use lib.ListN.{length, drop, length-append, drop-of-length-le}
 use Rattle.model.specs.declared.Delivery.{Delivery}
 use Rattle.model.specs.Lists.{sumOf}
-use Rattle.model.specs.Deliveries.{delivery, rows}
-use Rattle.model.specs.Lent.{Even}
+use Rattle.model.specs.Deliveries.{growerOf, weightOf, yieldOf, Slices, zipped, rows, Even, eachSlice}
 use Rattle.model.specs.Fields.{lineEnd}
 use Rattle.model.specs.Csv.{comma, carriageReturn}
 use Rattle.model.specs.Weighbridge.{plainNumber, headerLine, rowLine, csvText}
-use Rattle.model.proofs.Deliveries.{rowAt, rows-from}
+use Rattle.model.proofs.Deliveries.{rowAt, rows-from, slices-for, length-rows}
 use Rattle.fields.specs.Writing.{Wrote}
 use Rattle.fields.proofs.WritingLaws.{Left, left-start, next-room, left-next, left-end}
 use Rattle.csv_lines.specs.Writing.{CountIs, digitCount, rowLines}
@@ -65,35 +64,35 @@ module _ (d : Delivery) where
 
 -- Lines one after the other.
 
-pub record RowsLeft (t₀ : List ℕ) (at : ℕ) (g w y t : List ℕ) (i e : ℕ) : Type 0 where
-  pub passed : i ≤ length g
-  pub even : Even g w y
-  pub left : Left t₀ at (rowLines (rows g w y)) t e (rowLines (rows (drop i g) (drop i w) (drop i y)))
+pub record RowsLeft (t₀ : List ℕ) (at : ℕ) (s : Slices) (t : List ℕ) (i e : ℕ) : Type 0 where
+  pub passed : i ≤ length (s .growers)
+  pub even : Even s
+  pub left : Left t₀ at (rowLines (rows s)) t e (rowLines (rows (eachSlice (drop i) s)))
 
-pub rows-start : (t : List ℕ) (at : ℕ) (g w y : List ℕ) → Even g w y → at + length (rowLines (rows g w y)) ≤ length t → RowsLeft t at g w y t 0 at
-rows-start t at g w y e h = record { passed = omega arith; even = e; left = left-start t at (rowLines (rows g w y)) h }
+pub rows-start : (t : List ℕ) (at : ℕ) (s : Slices) → Even s → at + length (rowLines (rows s)) ≤ length t → RowsLeft t at s t 0 at
+rows-start t at s e h = record { passed = omega arith; even = e; left = left-start t at (rowLines (rows s)) h }
 
-module _ {t₀ : List ℕ} {at : ℕ} {g w y t : List ℕ} {i e : ℕ} (o : RowsLeft t₀ at g w y t i e) where
-  module _ (h : i < length g) where
+module _ {t₀ : List ℕ} {at : ℕ} {s : Slices} {t : List ℕ} {i e : ℕ} (o : RowsLeft t₀ at s t i e) where
+  module _ (h : i < length (s .growers)) where
     abbrev here : List ℕ
-    here = rowLine (rowAt g w y i)
+    here = rowLine (rowAt s i)
 
     abbrev more : List ℕ
-    more = rowLines (rows (drop (i + 1) g) (drop (i + 1) w) (drop (i + 1) y))
+    more = rowLines (rows (eachSlice (drop (i + 1)) s))
 
-    row-here : rowLines (rows (drop i g) (drop i w) (drop i y)) ≡ here ++ more
+    row-here : rowLines (rows (eachSlice (drop i) s)) ≡ here ++ more
     unfolding flatten
-    row-here = ap rowLines (rows-from g w y i h (o .even .weights) (o .even .yields))
+    row-here = ap rowLines (rows-from s i h (o .even))
 
     pub row-room : e + length here ≤ length t
     row-room = next-room (o .left) here more row-here
 
-    pub rows-next : {t' : List ℕ} {f : ℕ} → Wrote t e here t' f → RowsLeft t₀ at g w y t' (i + 1) f
+    pub rows-next : {t' : List ℕ} {f : ℕ} → Wrote t e here t' f → RowsLeft t₀ at s t' (i + 1) f
     rows-next v = record { passed = omega arith; even = o .even; left = left-next (o .left) here more row-here v }
 
-  pub rows-end : length g ≤ i → Wrote t₀ at (rowLines (rows g w y)) t e
-  unfolding rows flatten
-  rows-end h = left-end (o .left) (ap (λ (l : List ℕ). rowLines (rows l (drop i w) (drop i y))) (drop-of-length-le g h))
+  pub rows-end : length (s .growers) ≤ i → Wrote t₀ at (rowLines (rows s)) t e
+  unfolding zipped flatten
+  rows-end h = left-end (o .left) (ap (λ (l : List ℕ). rowLines (zipped l (drop i (s .weights)) (drop i (s .yields)) (drop i (s .days)))) (drop-of-length-le (s .growers) h))
 
 -- How long the text is.
 
@@ -109,19 +108,21 @@ row-length d =
       length-append g (comma ∷ w),
     )
 
-length-row-lines : (g w y : List ℕ) → Even g w y → length (rowLines (rows g w y)) ≡ 4 * length g + digitCount g + digitCount w + digitCount y
-unfolding rows flatten digitCount sumOf
-length-row-lines [] [] [] e = refl
-length-row-lines [] [] (c ∷ y) e = absurd (omega (arith, e .yields))
-length-row-lines [] (b ∷ w) y e = absurd (omega (arith, e .weights))
-length-row-lines (a ∷ g) [] y e = absurd (omega (arith, e .weights))
-length-row-lines (a ∷ g) (b ∷ w) [] e = absurd (omega (arith, e .yields))
-length-row-lines (a ∷ g) (b ∷ w) (c ∷ y) e =
+lines-for : (ds : List Delivery) → length (rowLines ds) ≡ 4 * length ds + digitCount (map growerOf ds) + digitCount (map weightOf ds) + digitCount (map yieldOf ds)
+unfolding flatten digitCount sumOf
+lines-for [] = refl
+lines-for (d ∷ ds) = omega (arith, length-append (rowLine d) (rowLines ds), row-length d, lines-for ds)
+
+length-row-lines : (s : Slices) → Even s → length (rowLines (rows s)) ≡ 4 * length (s .growers) + digitCount (s .growers) + digitCount (s .weights) + digitCount (s .yields)
+length-row-lines s e =
+    let z = slices-for s e in
     omega (
       arith,
-      length-append (rowLine (delivery a b c)) (rowLines (rows g w y)),
-      row-length (delivery a b c),
-      length-row-lines g w y (record { weights = omega (arith, e .weights); yields = omega (arith, e .yields) }),
+      lines-for (rows s),
+      length-rows s e,
+      ap (λ (x : Slices). digitCount (x .growers)) z,
+      ap (λ (x : Slices). digitCount (x .weights)) z,
+      ap (λ (x : Slices). digitCount (x .yields)) z,
     )
 
 -- the header line, and then the lines
@@ -129,6 +130,7 @@ pub length-csv : (ds : List Delivery) → length (csvText ds) ≡ 21 + length (r
 unfolding csvText
 length-csv ds = length-append headerLine (rowLines ds)
 
-module _ {g w y : List ℕ} {a b c m n k : ℕ} where
-  pub text-length : Even g w y → CountIs a (digitCount g) m → CountIs b (digitCount w) n → CountIs c (digitCount y) k → 21 + 4 * length g + a + b + c ≡ length (csvText (rows g w y))
-  text-length e p q r = omega (arith, length-csv (rows g w y), length-row-lines g w y e, p .is, q .is, r .is)
+module _ {s : Slices} {a b c m n k : ℕ} where
+  pub text-length : Even s → CountIs a (digitCount (s .growers)) m → CountIs b (digitCount (s .weights)) n → CountIs c (digitCount (s .yields)) k
+      → 21 + 4 * length (s .growers) + a + b + c ≡ length (csvText (rows s))
+  text-length e p q r = omega (arith, length-csv (rows s), length-row-lines s e, p .is, q .is, r .is)

@@ -4,8 +4,8 @@ ghost use Prim.Native.Nat.{_+_, _≤_};
 ghost use mathlib.Core.List.{[], _∷_, _++_};
 ghost use lib.ListN.{length};
 ghost use Rattle.model.specs.Bounds.{mostSlots};
-ghost use Rattle.model.specs.Deliveries.{delivery, rows};
-ghost use Rattle.model.specs.Lent.{Even};
+ghost use Rattle.model.specs.Deliveries.{delivery, rows, Even};
+ghost use Rattle.model.specs.Lent.{slicesAt, slicesIn};
 ghost use Rattle.model.specs.Fields.{lineEnd};
 ghost use Rattle.model.specs.Csv.{carriageReturn};
 ghost use Rattle.model.specs.Weighbridge.{plainNumber, headerLine, rowLine, csvText};
@@ -58,10 +58,10 @@ fn digits_total(s: &[u32]) -> usize
     total
 }
 
-// The length of the text of the deliveries in three slices.
-pub fn text_length(g: &[u32], w: &[u32], y: &[u32]) -> usize
-    requires { ⌜ Even (now g) (now w) (now y) × (length (now g) ≤ mostSlots) ⌝ }
-    ensures { λ r. ⌜ r ≡ length (csvText (rows (now (g .entry)) (now (w .entry)) (now (y .entry)))) ⌝ }
+// The length of the text of the deliveries in the slices. The days are lent to name the deliveries; no line has one.
+pub fn text_length(g: &[u32], w: &[u32], y: &[u32], n: &[u32]) -> usize
+    requires { ⌜ Even (slicesAt g w y n) × (length (now g) ≤ mostSlots) ⌝ }
+    ensures { λ r. ⌜ r ≡ length (csvText (rows (slicesIn g w y n))) ⌝ }
 {
     HEADER + MARKS * g.len() + digits_total(g) + digits_total(w) + digits_total(y)
 }
@@ -104,10 +104,10 @@ fn put_line_end(text: &mut [u8], at: usize) -> usize
     l + 1
 }
 
-// The line of one delivery.
+// The line of one delivery, whatever its day.
 fn put_row(text: &mut [u8], at: usize, g: u32, w: u32, y: u32) -> usize
-    requires { ⌜ at + length (rowLine (delivery g w y)) ≤ length (now text) ⌝ }
-    ensures { λ r. ⌜ Wrote (now (text .entry)) at (rowLine (delivery g w y)) (now (text .exit)) r ⌝ }
+    requires { ⌜ at + length (rowLine (delivery g w y 0)) ≤ length (now text) ⌝ }
+    ensures { λ r. ⌜ Wrote (now (text .entry)) at (rowLine (delivery g w y 0)) (now (text .exit)) r ⌝ }
 {
     let a = put_field(text, at, g, b',');
     let b = put_field(text, a, w, b',');
@@ -115,10 +115,10 @@ fn put_row(text: &mut [u8], at: usize, g: u32, w: u32, y: u32) -> usize
     put_line_end(text, c)
 }
 
-// The lines of the deliveries in three slices.
-pub fn put_rows(text: &mut [u8], at: usize, g: &[u32], w: &[u32], y: &[u32]) -> usize
-    requires { ⌜ Even (now g) (now w) (now y) × (at + length (rowLines (rows (now g) (now w) (now y))) ≤ length (now text)) ⌝ }
-    ensures { λ r. ⌜ Wrote (now (text .entry)) at (rowLines (rows (now (g .entry)) (now (w .entry)) (now (y .entry)))) (now (text .exit)) r ⌝ }
+// The lines of the deliveries in the slices.
+pub fn put_rows(text: &mut [u8], at: usize, g: &[u32], w: &[u32], y: &[u32], n: &[u32]) -> usize
+    requires { ⌜ Even (slicesAt g w y n) × (at + length (rowLines (rows (slicesAt g w y n))) ≤ length (now text)) ⌝ }
+    ensures { λ r. ⌜ Wrote (now (text .entry)) at (rowLines (rows (slicesIn g w y n))) (now (text .exit)) r ⌝ }
 {
     let mut i = 0;
     let mut e = at;

@@ -38,11 +38,11 @@ module _ (h : List Bytes) (text : List ℕ) {i n : ℕ} (l : i < length text) (e
   one-more : n ≡ suc (n - 1)
   one-more = omega arith
 
-  pub rows-good : {x v z next : ℕ} → GoodRow h text i x v z next → rowsIn h n (drop i text) ≡ after (delivery x v z) (rowsIn h (n - 1) (drop next text))
+  pub rows-good : {x v z next : ℕ} → GoodRow h text i x v z next → rowsIn h n (drop i text) ≡ after (delivery x v z 0) (rowsIn h (n - 1) (drop next text))
   rows-good {x} {v} {z} {next} d =
       ap (λ (m : ℕ). rowsIn h m (drop i text)) one-more
       ∙ ap (rowsOf h) (records-next (n - 1) (drop i text) there (d .fields) (drop next text) (d .is))
-      ∙ rows-next h (d .fields) (takeRecords (n - 1) (drop next text)) (delivery x v z) (d .row)
+      ∙ rows-next h (d .fields) (takeRecords (n - 1) (drop next text)) (delivery x v z 0) (d .row)
 
   pub rows-stop : BadRow h (drop i text) → rowsIn h n (drop i text) ≡ none
   rows-stop z = ap (λ (m : ℕ). rowsIn h m (drop i text)) one-more ∙ go (takeRecord (drop i text)) refl (z .is)

@@ -62,7 +62,7 @@ in-range most {v} {n} e l = rw (e, le-leb n most l)
 -- A delivery of three numbers.
 
 abbrev rowGiven : Option ℕ → Option ℕ → Option ℕ → Option Delivery
-rowGiven g w y = andThen g (λ g. andThen (bounded mostWeight w) (λ w. andThen (bounded mostYield y) (λ y. some (delivery g w y))))
+rowGiven g w y = andThen g (λ g. andThen (bounded mostWeight w) (λ w. andThen (bounded mostYield y) (λ y. some (delivery g w y 0))))
 
 row-other : (h fs : List Bytes) → (length fs ≡ length h → ⊥) → rowOf h fs ≡ none
 unfolding rowOf

@@ -83,13 +83,13 @@ module _ {text : List ℕ} {at : ℕ} {c : Columns} {room : ℕ} {gs ws ys gs' w
 
     -- one row more, whatever became of the slices
     row-next : {x v z next : ℕ} {gn wn yn : List ℕ} → i < length text → i < next → GoodRow h text i x v z next
-        → (m + 1 ≤ room → Filled (q .rows ++ delivery x v z ∷ []) gs ws ys gn wn yn) → Rowed h text at room gs ws ys gn wn yn next (m + 1)
+        → (m + 1 ≤ room → Filled (q .rows ++ delivery x v z 0 ∷ []) gs ws ys gn wn yn) → Rowed h text at room gs ws ys gn wn yn next (m + 1)
     row-next {x} {v} {z} {next} l s d f = record {
-      rows = q .rows ++ delivery x v z ∷ [];
+      rows = q .rows ++ delivery x v z 0 ∷ [];
       fuel = q .fuel - 1;
       enough = omega (arith, q .enough);
-      is = from-here _ (rows-good h text l (q .enough) d) ∙ one-row (q .rows) (delivery x v z) (rowsIn h (q .fuel - 1) (drop next text));
-      counted = omega (arith, q .counted, length-append (q .rows) (delivery x v z ∷ []));
+      is = from-here _ (rows-good h text l (q .enough) d) ∙ one-row (q .rows) (delivery x v z 0) (rowsIn h (q .fuel - 1) (drop next text));
+      counted = omega (arith, q .counted, length-append (q .rows) (delivery x v z 0 ∷ []));
       filled = f;
     }
 
@@ -114,7 +114,7 @@ module _ {text : List ℕ} {at : ℕ} {c : Columns} {room : ℕ} {gs ws ys gs' w
       size-growers = length-set gs' m x ∙ p .size-growers;
       size-weights = length-set ws' m v ∙ p .size-weights;
       size-yields = length-set ys' m z ∙ p .size-yields;
-      each = λ h k. let q = p .each h k in row-next h q l (r .moves l) (r .is h k) (λ e. slots-next h q (delivery x v z) s);
+      each = λ h k. let q = p .each h k in row-next h q l (r .moves l) (r .is h k) (λ e. slots-next h q (delivery x v z 0) s);
     }
 
     pub read-passed : room ≤ m → Reading text at c room gs ws ys gs' ws' ys' next (m + 1)

@@ -90,7 +90,7 @@ pub record ShortRecordIs (text : List ℕ) (at : ℕ) (c : Columns) (r : ShortRe
 pub record GoodRow (h : List Bytes) (text : List ℕ) (at g w y next : ℕ) : Type 0 where
   pub fields : List Bytes
   pub is : takeRecord (drop at text) ≡ some (taken fields (drop next text))
-  pub row : rowOf h fields ≡ some (delivery g w y)
+  pub row : rowOf h fields ≡ some (delivery g w y 0)
 
 -- a record that is no row, or none
 pub record BadRow (h : List Bytes) (t : List ℕ) : Type 0 where

@@ -11,7 +11,7 @@ use Rattle.model.specs.Checks.{firstFailed}
 use Rattle.model.specs.Blocks.{blockLengthOk, slicesOk}
 use Rattle.model.specs.Directory.{directorySize, partitionCount, directoryBlockOk, directoryOk}
 use Rattle.model.specs.Column.{Column, lengthsOf, fencesOf}
-use Rattle.model.specs.Lent.{Even}
+use Rattle.model.specs.Deliveries.{Even}
 use Rattle.model.specs.Questions.{lentChecks}
 use Rattle.model.proofs.Tests.{and-fst, yes-first}
 use Rattle.model.proofs.SetLaws.{sliced}
@@ -21,10 +21,10 @@ use Rattle.directory.specs.Numbers.{Numbered, HasPartition}
 -- L is the block limit
 module _ (L : ℕ) where
   pub record LentColumn (c : Column) : Type 0 where
-    pub shape : Shaped L (length (c .growers)) (c .directory)
+    pub shape : Shaped L (length (c .slices .growers)) (c .directory)
     pub block : 1 ≤ getD (c .directory) 0 0
-    pub most : length (c .growers) ≤ mostSlots
-    pub even : Even (c .growers) (c .weights) (c .yields)
+    pub most : length (c .slices .growers) ≤ mostSlots
+    pub even : Even (c .slices)
 
   block-there : (ns : List ℕ) → length ns ≡ directorySize L → T (directoryBlockOk L ns) → T (blockLengthOk (getD ns 0 0))
   unfolding directoryBlockOk
@@ -34,10 +34,10 @@ module _ (L : ℕ) where
   unfolding blockLengthOk
   lent-column c h =
       let c2 = yes-first 1 (directoryBlockOk L (c .directory)) _ h in
-      let c3 = yes-first 2 (slicesOk (c .growers) (c .weights) (c .yields)) _ (c2 .1) in
-      let c6 = yes-first 5 (directoryOk L (length (c .growers)) (c .directory)) _ (c3 .1) in
-      let s = shaped L (length (c .growers)) (c .directory) (c6 .0) in
-      let l = sliced (c .growers) (c .weights) (c .yields) (c3 .0) in
+      let c3 = yes-first 2 (slicesOk (c .slices)) _ (c2 .1) in
+      let c6 = yes-first 5 (directoryOk L (length (c .slices .growers)) (c .directory)) _ (c3 .1) in
+      let s = shaped L (length (c .slices .growers)) (c .directory) (c6 .0) in
+      let l = sliced (c .slices) (c3 .0) in
       let b = getD (c .directory) 0 0 in
       record {
         shape = s;
@@ -51,10 +51,10 @@ module _ (L : ℕ) where
     numbered = record { size = l .shape .size; few = l .shape .few }
 
     pub count-lengths : length (lengthsOf L c) ≡ partitionCount L (c .directory)
-    count-lengths = length-lengths L (length (c .growers)) (c .directory) (l .shape)
+    count-lengths = length-lengths L (length (c .slices .growers)) (c .directory) (l .shape)
 
     pub count-fences : length (fencesOf L c) ≡ partitionCount L (c .directory)
-    count-fences = length-fences L (length (c .growers)) (c .directory) (l .shape)
+    count-fences = length-fences L (length (c .slices .growers)) (c .directory) (l .shape)
 
     -- the directory is one for the most slots
     pub most-shaped : T (directoryOk L mostSlots (c .directory))

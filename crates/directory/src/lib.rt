@@ -83,14 +83,14 @@ fn directory_block_ok(directory: &[u32]) -> bool
     checks::block_length_ok(directory[BLOCK])
 }
 
-// Checks 2, 3 and 6 of a directory and the three slices.
-pub fn lent(directory: &[u32], g: &[u32], w: &[u32], y: &[u32], grower: u32) -> Shape
-    ensures { λ r. ⌜ r ≡ shapeOf blockLimit (columnIn directory g w y) grower ⌝ }
+// Checks 2, 3 and 6 of a directory and the slices.
+pub fn lent(directory: &[u32], g: &[u32], w: &[u32], y: &[u32], n: &[u32], grower: u32) -> Shape
+    ensures { λ r. ⌜ r ≡ shapeOf blockLimit (columnIn directory g w y n) grower ⌝ }
 {
     if !directory_block_ok(directory) {
         return refused(2);
     }
-    if !checks::slices_ok(g, w, y) {
+    if !checks::slices_ok(g, w, y, n) {
         return refused(3);
     }
     judged(directory, g.len(), grower)

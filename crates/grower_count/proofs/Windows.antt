@@ -1,13 +1,14 @@
 -- A window of growers: filling, sorting and cutting the batch keeps the smallest ones. Assumes nothing.
 use Prim.Native.Nat.{ℕ, _≤_, min}
 use mathlib.Core.Path.{_≡_, refl, sym, ap, _∙_, subst}
+use mathlib.Core.Bool.{Bool}
 use mathlib.Core.List.{List, _++_}
 use native.Mathlib.Omega.{arith}
 use native.Mathlib.Decide.{decLe}
 use lib.Dec.{T, ltb}
 use lib.ListN.{length, getD, take, length-map}
 use lib.Seq.{take-all, take-take, take-append-le, length-take-le}
-use Rattle.model.specs.Lists.{every, keep, neverFalls}
+use Rattle.model.specs.Lists.{upFrom, every, keep, neverFalls}
 use Rattle.model.specs.Sheet.{eachOnce, byGrower}
 use Rattle.slot_order.specs.Passes.{slotsIn}
 use Rattle.model.proofs.ListLaws.{map-take, every-front}
@@ -49,30 +50,30 @@ smallest-cut {gs} {old} {sorted} {batch} {r} {m} s c z =
     many : length (eachOnce (growersAt gs sorted)) ≡ r
     many = sym (ap length (c .growers)) ∙ length-map (take r batch) (λ (i : ℕ). getD gs i 0) ∙ length-take-le r batch (omega (arith, c .room, c .same-length))
 
-module _ {gs : List ℕ} {lo : ℕ} where
-  pub window-start : (batch : List ℕ) → Window gs lo 0 batch 0
-  unfolding every keep eachOnce
+module _ {gs : List ℕ} {p : ℕ → Bool} {lo : ℕ} where
+  pub window-start : (batch : List ℕ) → Window gs p lo 0 batch 0
+  unfolding every keep upFrom eachOnce
   window-start batch = record { few = omega arith; there = tt; growers = refl }
 
-  module _ {i : ℕ} {old : List ℕ} {n : ℕ} {filled : List ℕ} {k next : ℕ} (w : Window gs lo i old n) (f : FilledUp gs lo i old n filled k next) where
+  module _ {i : ℕ} {old : List ℕ} {n : ℕ} {filled : List ℕ} {k next : ℕ} (w : Window gs p lo i old n) (f : FilledUp gs p lo i old n filled k next) where
     pub filled-there : T (slotsIn gs (take k filled))
     filled-there = subst (λ (l : List ℕ). T (slotsIn gs l)) (sym (f .front)) (slots-joined gs (take n old) (f .added) (w .there) (f .there))
 
-    pub window-next : {batch : List ℕ} {m : ℕ} (rest : List ℕ) → Smallest gs (take k filled) batch m → Window gs lo next (batch ++ rest) m
+    pub window-next : {batch : List ℕ} {m : ℕ} (rest : List ℕ) → Smallest gs (take k filled) batch m → Window gs p lo next (batch ++ rest) m
     window-next {batch} {m} rest s =
         record {
           few = s .few;
           there = subst (λ (l : List ℕ). T (slotsIn gs l)) (sym front) (s .there);
           growers =
               ap (growersAt gs) front ∙ s .growers ∙ ap (λ (l : List ℕ). take mostAtOnce (eachOnce l)) held
-              ∙ front-joined mostAtOnce (growersBefore gs lo i) (growersAt gs (f .added)) ∙ ap (take mostAtOnce) (f .covers);
+              ∙ front-joined mostAtOnce (growersBefore gs p lo i) (growersAt gs (f .added)) ∙ ap (take mostAtOnce) (f .covers);
         }
       where
         front : take m (batch ++ rest) ≡ take m batch
         front = take-append-le m batch rest (omega (arith, s .room, s .same-length))
 
-        held : growersAt gs (take k filled) ≡ take mostAtOnce (eachOnce (growersBefore gs lo i)) ++ growersAt gs (f .added)
+        held : growersAt gs (take k filled) ≡ take mostAtOnce (eachOnce (growersBefore gs p lo i)) ++ growersAt gs (f .added)
         held = ap (growersAt gs) (f .front) ∙ growers-joined gs (take n old) (f .added) ∙ ap (λ (l : List ℕ). l ++ growersAt gs (f .added)) (w .growers)
 
-  pub window-all : {i : ℕ} {batch : List ℕ} {n : ℕ} → Window gs lo i batch n → i ≡ length gs → Window gs lo (length gs) batch n
-  window-all {batch = batch} {n} w e = subst (λ (i : ℕ). Window gs lo i batch n) e w
+  pub window-all : {i : ℕ} {batch : List ℕ} {n : ℕ} → Window gs p lo i batch n → i ≡ length gs → Window gs p lo (length gs) batch n
+  window-all {batch = batch} {n} w e = subst (λ (i : ℕ). Window gs p lo i batch n) e w

@@ -10,9 +10,8 @@ use lib.ListN.{length, getD, take, drop, length-append, length-map, length-take,
 use borrow.Author.Tests.{lt-leb, leb-true, lt-ltb, le-ltb, eq-eqb, ne-eqb, eqb-true, eqb-false}
 use Rattle.model.specs.declared.Delivery.{Delivery}
 use Rattle.model.specs.Bounds.{mostSlots, mostNumber}
-use Rattle.model.specs.Lent.{Even}
 use Rattle.model.specs.Lists.{every, keep}
-use Rattle.model.specs.Deliveries.{growerOf, inRange, rows}
+use Rattle.model.specs.Deliveries.{growerOf, Slices, eachSlice, rows, Even, inRange}
 use Rattle.model.specs.Growers.{Direction, up, down, atOrPast, nearer, nearestFrom, nearest, GrowerCount, nearestOf, growersOf}
 use Rattle.model.specs.Laws.{IsNearest}
 use Rattle.model.proofs.Tests.{of-true, is-true, is-false, no-such}
@@ -331,9 +330,9 @@ nears =
     }
 
 module _ (d : Direction) (k : ℕ) where
-  pub near-start : (g w y : List ℕ) → Strides (nearAll d k) g w y (record { good = true; grower = 0; records = 0 }) 0
+  pub near-start : (ss : Slices) → Strides (nearAll d k) ss (record { good = true; grower = 0; records = 0 }) 0
   unfolding nearAll every keep nearestOf nearest
-  near-start g w y = record { at = omega arith; so-far = refl }
+  near-start ss = record { at = omega arith; so-far = refl }
 
   near-joined : (a b : List Delivery) → nearAll d k (a ++ b) ≡ nearMore d k (nearAll d k a) b
   unfolding nearAll nearMore
@@ -360,28 +359,28 @@ module _ (d : Direction) (k : ℕ) where
       go false = record { few = omega arith; past = λ u. absurd (omega arith) }
 
   -- the loops over strides, from the front and from the back
-  module _ (g w y : List ℕ) (p : Even g w y) (h : length g ≤ mostSlots) where
-    short : length (rows g w y) ≤ mostSlots
-    short = omega (arith, length-rows g w y (p .weights) (p .yields))
+  module _ (ss : Slices) (p : Even ss) (h : length (ss .growers) ≤ mostSlots) where
+    short : length (rows ss) ≤ mostSlots
+    short = omega (arith, length-rows ss p)
 
-    module _ (s : Nearest) (i : ℕ) (t : Strides (nearAll d k) g w y s i) where
+    module _ (s : Nearest) (i : ℕ) (t : Strides (nearAll d k) ss s i) where
       pub front-fits : Fits d k s
-      front-fits = subst (Fits d k) (sym (t .so-far)) (near-fits (take i (rows g w y)) (omega (arith, length-take i (rows g w y), short)))
+      front-fits = subst (Fits d k) (sym (t .so-far)) (near-fits (take i (rows ss)) (omega (arith, length-take i (rows ss), short)))
 
-      pub front-next : (n : ℕ) (r : Nearest) → i + n ≤ length g → r ≡ nearMore d k s (rows (take n (drop i g)) (take n (drop i w)) (take n (drop i y)))
-          → Strides (nearAll d k) g w y r (i + n)
-      front-next = strides-next (nearAll d k) (λ (x : Nearest) (j : ℕ) (ds : List Delivery). nearMore d k x ds) near-joined g w y p s i t
+      pub front-next : (n : ℕ) (r : Nearest) → i + n ≤ length (ss .growers) → r ≡ nearMore d k s (rows (eachSlice (λ (l : List ℕ). take n (drop i l)) ss))
+          → Strides (nearAll d k) ss r (i + n)
+      front-next = strides-next (nearAll d k) (λ (x : Nearest) (j : ℕ) (ds : List Delivery). nearMore d k x ds) near-joined ss p s i t
 
-    module _ (s : Nearest) (e : ℕ) (t : BackStrides (nearAll d k) g w y s e) where
+    module _ (s : Nearest) (e : ℕ) (t : BackStrides (nearAll d k) ss s e) where
       pub back-fits : Fits d k s
-      back-fits = subst (Fits d k) (sym (t .so-far)) (near-fits (drop e (rows g w y)) (omega (arith, length-drop e (rows g w y), short)))
+      back-fits = subst (Fits d k) (sym (t .so-far)) (near-fits (drop e (rows ss)) (omega (arith, length-drop e (rows ss), short)))
 
-      pub back-next : (n i : ℕ) (r : Nearest) → i + n ≡ e → r ≡ nearMore d k s (rows (take n (drop i g)) (take n (drop i w)) (take n (drop i y)))
-          → BackStrides (nearAll d k) g w y r i
-      back-next = back-strides-next (nearAll d k) (nearMore d k) near-behind g w y s e t
+      pub back-next : (n i : ℕ) (r : Nearest) → i + n ≡ e → r ≡ nearMore d k s (rows (eachSlice (λ (l : List ℕ). take n (drop i l)) ss))
+          → BackStrides (nearAll d k) ss r i
+      back-next = back-strides-next (nearAll d k) (nearMore d k) near-behind ss s e t
 
-  pub back-start : (g w y : List ℕ) → Even g w y → BackStrides (nearAll d k) g w y (record { good = true; grower = 0; records = 0 }) (length g)
+  pub back-start : (ss : Slices) → Even ss → BackStrides (nearAll d k) ss (record { good = true; grower = 0; records = 0 }) (length (ss .growers))
   unfolding nearAll every keep nearestOf nearest
-  back-start g w y p =
-      let z : drop (length g) (rows g w y) ≡ [] = drop-of-length-le (rows g w y) {i = length g} (omega (arith, length-rows g w y (p .weights) (p .yields))) in
+  back-start ss p =
+      let z : drop (length (ss .growers)) (rows ss) ≡ [] = drop-of-length-le (rows ss) {i = length (ss .growers)} (omega (arith, length-rows ss p)) in
       record { at = omega arith; so-far = rw z }

@@ -1,7 +1,7 @@
 -- A search from partition to partition, upward or downward: a partition more, where the partitions of its path lie, and the loop. Assumes nothing.
 use Prim.Native.Nat.{ℕ, zero, suc, _+_, _-_, _*_, _≤_, _<_}
 use mathlib.Core.Path.{_≡_, refl, sym, ap, _∙_}
-use mathlib.Core.Bool.{Bool, true, false, cond}
+use mathlib.Core.Bool.{Bool, true, false, cond, _&&_, and-true}
 use mathlib.Core.List.{List, [], _∷_}
 use native.Mathlib.Omega.{arith}
 use native.Mathlib.Numerals.{add-one}
@@ -13,7 +13,7 @@ use Rattle.model.specs.declared.Delivery.{Delivery}
 use Rattle.model.specs.declared.GrowerAnswer.{GrowerAnswer}
 use Rattle.model.specs.Bounds.{mostSlots}
 use Rattle.model.specs.Lists.{sumOf, every, keep}
-use Rattle.model.specs.Deliveries.{inRange, rows}
+use Rattle.model.specs.Deliveries.{Slices, eachSlice, rows, inRange, dayOk}
 use Rattle.model.specs.Partitions.{parts, part, startOf}
 use Rattle.model.specs.Accesses.{noCounts, blocksOf, readsOf}
 use Rattle.model.specs.Growers.{Direction, GrowerCount, nearestOf, growersOf, holdsOne, downFrom, path}
@@ -26,13 +26,13 @@ use Rattle.model.proofs.GrowerCounts.{length-downFrom}
 use Rattle.scan.proofs.Judging.{judged-says, judged-value}
 use Rattle.scan.proofs.Scanning.{lent-part}
 use Rattle.growers.specs.declared.Nearest.{Nearest}
-use Rattle.growers.specs.Searches.{directionOf, countIn, nearAll, searched}
+use Rattle.growers.specs.Searches.{directionOf, countIn, nearAll, datedAnswer, searched}
 use Rattle.growers.proofs.Nearing.{holds-is}
 use Rattle.growers.proofs.Joining.{nears}
 
 -- One partition more.
 
-module _ (b : ℕ) (w : Direction) (k : ℕ) (ps : List (List Delivery)) (i : ℕ) (is : List ℕ) (n : ℕ) (s : Nearest) (e : s ≡ nearAll w k (part i ps)) where
+module _ (b : ℕ) (w : Direction) (k : ℕ) (ps : List (List Delivery)) (i : ℕ) (is : List ℕ) (d : Bool) (n : ℕ) (s : Nearest) (e : s ≡ nearAll w k (part i ps)) where
   values-are : (t : Bool) → s .good ≡ t → every inRange (part i ps) ≡ t
   unfolding nearAll
   values-are = judged-says nears (every inRange (part i ps)) (nearestOf w k (growersOf (part i ps))) s e
@@ -45,30 +45,30 @@ module _ (b : ℕ) (w : Direction) (k : ℕ) (ps : List (List Delivery)) (i : �
   unfolding holdsOne
   holds f t h = holds-is w k (growersOf (part i ps)) ∙ ap (λ (c : GrowerCount). ltb 0 (c .records)) (sym (found-is f)) ∙ h
 
-  search-bad : s .good ≡ false → growerAnswer 8 0 0 noCounts ≡ searched b w k ps (i ∷ is) n
+  search-bad : s .good ≡ false → growerAnswer 8 0 0 noCounts ≡ searched b w k ps (i ∷ is) d n
   unfolding searched
   search-bad f = rw (values-are false f)
 
-  search-hit : (m : ℕ) → m ≡ blocksOf b (length (part i ps)) → s .good ≡ true → 0 < s .records
-      → growerAnswer 0 (s .grower) (s .records) (readsOf (n + m)) ≡ searched b w k ps (i ∷ is) n
-  unfolding searched
-  search-hit m q f h = rw (values-are true f, holds f true (lt-ltb 0 (s .records) h), ← found-is f, q)
+  module _ (m : ℕ) (q : m ≡ blocksOf b (length (part i ps))) (d' : Bool) (x : d' ≡ d && every dayOk (part i ps)) (f : s .good ≡ true) where
+    search-hit : 0 < s .records → datedAnswer d' (growerAnswer 0 (s .grower) (s .records) (readsOf (n + m))) ≡ searched b w k ps (i ∷ is) d n
+    unfolding searched
+    search-hit h = rw (values-are true f, holds f true (lt-ltb 0 (s .records) h), ← found-is f, q, x)
 
-  search-miss : (m : ℕ) → m ≡ blocksOf b (length (part i ps)) → s .good ≡ true → s .records ≤ 0 → searched b w k ps (i ∷ is) n ≡ searched b w k ps is (n + m)
-  unfolding searched
-  search-miss m q f h = rw (values-are true f, holds f false (le-ltb 0 (s .records) h), q)
+    search-miss : s .records ≤ 0 → searched b w k ps (i ∷ is) d n ≡ searched b w k ps is d' (n + m)
+    unfolding searched
+    search-miss h = rw (values-are true f, holds f false (le-ltb 0 (s .records) h), q, x)
 
-search-none : (b : ℕ) (w : Direction) (k : ℕ) (ps : List (List Delivery)) (n : ℕ) → growerAnswer 0 0 0 (readsOf n) ≡ searched b w k ps [] n
+search-none : (b : ℕ) (w : Direction) (k : ℕ) (ps : List (List Delivery)) (d : Bool) (n : ℕ) → datedAnswer d (growerAnswer 0 0 0 (readsOf n)) ≡ searched b w k ps [] d n
 unfolding searched
-search-none b w k ps n = refl
+search-none b w k ps d n = refl
 
 -- an empty partition holds no grower and has no block
-search-empty : (b : ℕ) (w : Direction) (k : ℕ) (ps : List (List Delivery)) (i : ℕ) (is : List ℕ) (n : ℕ) → 1 ≤ b → part i ps ≡ []
-    → searched b w k ps (i ∷ is) n ≡ searched b w k ps is n
+search-empty : (b : ℕ) (w : Direction) (k : ℕ) (ps : List (List Delivery)) (i : ℕ) (is : List ℕ) (d : Bool) (n : ℕ) → 1 ≤ b → part i ps ≡ []
+    → searched b w k ps (i ∷ is) d n ≡ searched b w k ps is d n
 unfolding searched holdsOne keep every
-search-empty b w k ps i is n h e =
+search-empty b w k ps i is d n h e =
     let z : n + blocksOf b 0 ≡ n = omega (arith, blocks-none b h) in
-    rw (e, z)
+    rw (e, z, and-true d)
 
 -- The path from partition t, upward where u: how many partitions it has, which is the j-th, and the slot at which that is met.
 
@@ -165,58 +165,64 @@ edge-stays false edge x a e z = omega arith
 
 -- The loop: j partitions of the path have been searched, in n blocks, and none holds a grower at or past k.
 
-pub record Searching (b : ℕ) (u : Bool) (k : ℕ) (ns g w y : List ℕ) (t edge j n : ℕ) : Type 0 where
+pub record Searching (b : ℕ) (u : Bool) (k : ℕ) (ns : List ℕ) (ss : Slices) (t edge j n : ℕ) (d : Bool) : Type 0 where
   pub here : edge ≡ edgeAt u ns t j
   pub few : n ≤ mostSlots * j
-  pub so-far : searched b (directionOf u) k (parts ns (rows g w y)) (drop j (pathOf u ns t)) n ≡ searched b (directionOf u) k (parts ns (rows g w y)) (pathOf u ns t) 0
+  pub so-far : searched b (directionOf u) k (parts ns (rows ss)) (drop j (pathOf u ns t)) d n ≡ searched b (directionOf u) k (parts ns (rows ss)) (pathOf u ns t) true 0
 
-pub searching-start : (b : ℕ) (u : Bool) (k : ℕ) (ns g w y : List ℕ) (t a edge : ℕ) → t < length ns → a ≡ startOf ns t → edge ≡ cond u a (a + getD ns t 0)
-    → Searching b u k ns g w y t edge 0 0
-searching-start b u k ns g w y t a edge h e f =
+pub searching-start : (b : ℕ) (u : Bool) (k : ℕ) (ns : List ℕ) (ss : Slices) (t a edge : ℕ) → t < length ns → a ≡ startOf ns t → edge ≡ cond u a (a + getD ns t 0)
+    → Searching b u k ns ss t edge 0 0 true
+searching-start b u k ns ss t a edge h e f =
     record { here = f ∙ edge-first u ns t a h e; few = omega arith; so-far = refl }
 
-module _ {b : ℕ} {u : Bool} {k : ℕ} {ns g w y : List ℕ} {t edge j n : ℕ} (v : Searching b u k ns g w y t edge j n) where
-  abbrev outcome : List ℕ → ℕ → GrowerAnswer
-  outcome is m = searched b (directionOf u) k (parts ns (rows g w y)) is m
+module _ {b : ℕ} {u : Bool} {k : ℕ} {ns : List ℕ} {ss : Slices} {t edge j n : ℕ} {d : Bool} (v : Searching b u k ns ss t edge j n d) where
+  abbrev outcome : List ℕ → Bool → ℕ → GrowerAnswer
+  outcome is f m = searched b (directionOf u) k (parts ns (rows ss)) is f m
 
-  pub searching-end : stepsOf u ns t ≤ j → growerAnswer 0 0 0 (readsOf n) ≡ outcome (pathOf u ns t) 0
+  pub searching-end : stepsOf u ns t ≤ j → datedAnswer d (growerAnswer 0 0 0 (readsOf n)) ≡ outcome (pathOf u ns t) true 0
   searching-end h =
-      search-none b (directionOf u) k (parts ns (rows g w y)) n ∙ ap (λ (l : List ℕ). outcome l n) (sym (path-end u ns t j h)) ∙ v .so-far
+      search-none b (directionOf u) k (parts ns (rows ss)) d n ∙ ap (λ (l : List ℕ). outcome l d n) (sym (path-end u ns t j h)) ∙ v .so-far
 
-  on : {i : ℕ} → Met u ns t edge j i → outcome (i ∷ drop (j + 1) (pathOf u ns t)) n ≡ outcome (pathOf u ns t) 0
+  on : {i : ℕ} → Met u ns t edge j i → outcome (i ∷ drop (j + 1) (pathOf u ns t)) d n ≡ outcome (pathOf u ns t) true 0
   on m =
-      ap (λ (x : ℕ). outcome (x ∷ drop (j + 1) (pathOf u ns t)) n) (m .jth) ∙ ap (λ (x : List ℕ). outcome x n) (sym (path-on u ns t j (m .on-path))) ∙ v .so-far
+      ap (λ (x : ℕ). outcome (x ∷ drop (j + 1) (pathOf u ns t)) d n) (m .jth) ∙ ap (λ (x : List ℕ). outcome x d n) (sym (path-on u ns t j (m .on-path))) ∙ v .so-far
 
   -- the next partition is empty
-  pub searching-skip : {i : ℕ} → Met u ns t edge j i → 1 ≤ b → getD ns i 0 ≡ 0 → Searching b u k ns g w y t edge (j + 1) n
+  pub searching-skip : {i : ℕ} → Met u ns t edge j i → 1 ≤ b → getD ns i 0 ≡ 0 → Searching b u k ns ss t edge (j + 1) n d
   searching-skip {i} m one e =
       record {
         here = edge-stays u edge (getD ns i 0) (startOf ns i) (m .start) e ∙ m .next;
         few = omega (arith, v .few);
-        so-far = sym (search-empty b (directionOf u) k (parts ns (rows g w y)) i _ n one (part-none i ns (rows g w y) e)) ∙ on m;
+        so-far = sym (search-empty b (directionOf u) k (parts ns (rows ss)) i _ d n one (part-none i ns (rows ss) e)) ∙ on m;
       }
 
+  -- the slices' parts of partition i, which begins at a
+  abbrev lentPart : ℕ → ℕ → Slices
+  lentPart i a = eachSlice (λ (l : List ℕ). take (a + getD ns i 0 - a) (drop a l)) ss
+
   -- the next partition, which begins at a
-  module _ {i a : ℕ} (m : Met u ns t edge j i) (at : a ≡ startOf ns i) (room : sumOf ns ≤ length (rows g w y)) {s : Nearest}
-      (e : s ≡ nearAll (directionOf u) k (rows (take (a + getD ns i 0 - a) (drop a g)) (take (a + getD ns i 0 - a) (drop a w)) (take (a + getD ns i 0 - a) (drop a y)))) where
-    found-in : s ≡ nearAll (directionOf u) k (part i (parts ns (rows g w y)))
-    found-in = e ∙ ap (nearAll (directionOf u) k) (lent-part ns i a (getD ns i 0) g w y at refl)
+  module _ {i a : ℕ} (m : Met u ns t edge j i) (at : a ≡ startOf ns i) (room : sumOf ns ≤ length (rows ss)) {s : Nearest}
+      (e : s ≡ nearAll (directionOf u) k (rows (lentPart i a))) where
+    found-in : s ≡ nearAll (directionOf u) k (part i (parts ns (rows ss)))
+    found-in = e ∙ ap (nearAll (directionOf u) k) (lent-part ns i a (getD ns i 0) ss at refl)
 
-    blocks-in : blocksOf b (getD ns i 0) ≡ blocksOf b (length (part i (parts ns (rows g w y))))
-    blocks-in = ap (blocksOf b) (sym (length-part i ns (rows g w y) (m .there) room))
+    blocks-in : blocksOf b (getD ns i 0) ≡ blocksOf b (length (part i (parts ns (rows ss))))
+    blocks-in = ap (blocksOf b) (sym (length-part i ns (rows ss) (m .there) room))
 
-    pub searching-bad : s .good ≡ false → growerAnswer 8 0 0 noCounts ≡ outcome (pathOf u ns t) 0
-    searching-bad f = search-bad b (directionOf u) k (parts ns (rows g w y)) i _ n s found-in f ∙ on m
+    pub searching-bad : s .good ≡ false → growerAnswer 8 0 0 noCounts ≡ outcome (pathOf u ns t) true 0
+    searching-bad f = search-bad b (directionOf u) k (parts ns (rows ss)) i _ d n s found-in f ∙ on m
 
-    pub searching-hit : {q : ℕ} → q ≡ blocksOf b (getD ns i 0) → s .good ≡ true → 0 < s .records
-        → growerAnswer 0 (s .grower) (s .records) (readsOf (n + q)) ≡ outcome (pathOf u ns t) 0
-    searching-hit {q} p f r = search-hit b (directionOf u) k (parts ns (rows g w y)) i _ n s found-in q (p ∙ blocks-in) f r ∙ on m
+    module _ {d' : Bool} (days : d' ≡ d && every dayOk (rows (lentPart i a))) {q : ℕ} (p : q ≡ blocksOf b (getD ns i 0)) (f : s .good ≡ true) where
+      days-in : d' ≡ d && every dayOk (part i (parts ns (rows ss)))
+      days-in = days ∙ ap (λ (l : List Delivery). d && every dayOk l) (lent-part ns i a (getD ns i 0) ss at refl)
 
-    pub searching-next : {q next : ℕ} → q ≡ blocksOf b (getD ns i 0) → s .good ≡ true → s .records ≤ 0 → next ≡ cond u (a + getD ns i 0) a → 1 ≤ b → getD ns i 0 ≤ mostSlots
-        → Searching b u k ns g w y t next (j + 1) (n + q)
-    searching-next {q} p f r x one size =
-        record {
-          here = x ∙ ap (λ (z : ℕ). cond u (z + getD ns i 0) z) at ∙ m .next;
-          few = omega (arith, v .few, blocks-most b (getD ns i 0) one);
-          so-far = sym (search-miss b (directionOf u) k (parts ns (rows g w y)) i _ n s found-in q (p ∙ blocks-in) f r) ∙ on m;
-        }
+      pub searching-hit : 0 < s .records → datedAnswer d' (growerAnswer 0 (s .grower) (s .records) (readsOf (n + q))) ≡ outcome (pathOf u ns t) true 0
+      searching-hit r = search-hit b (directionOf u) k (parts ns (rows ss)) i _ d n s found-in q (p ∙ blocks-in) d' days-in f r ∙ on m
+
+      pub searching-next : {next : ℕ} → s .records ≤ 0 → next ≡ cond u (a + getD ns i 0) a → 1 ≤ b → getD ns i 0 ≤ mostSlots → Searching b u k ns ss t next (j + 1) (n + q) d'
+      searching-next r x one size =
+          record {
+            here = x ∙ ap (λ (z : ℕ). cond u (z + getD ns i 0) z) at ∙ m .next;
+            few = omega (arith, v .few, blocks-most b (getD ns i 0) one);
+            so-far = sym (search-miss b (directionOf u) k (parts ns (rows ss)) i _ d n s found-in q (p ∙ blocks-in) d' days-in f r) ∙ on m;
+          }

@@ -9,7 +9,7 @@ use Rattle.model.specs.declared.Delivery.{Delivery}
 use Rattle.model.specs.declared.GrowerAnswer.{GrowerAnswer}
 use Rattle.model.specs.Bounds.{mostSlots, mostNumber}
 use Rattle.model.specs.Lists.{every}
-use Rattle.model.specs.Deliveries.{inRange}
+use Rattle.model.specs.Deliveries.{inRange, dayOk}
 use Rattle.model.specs.Partitions.{part}
 use Rattle.model.specs.Accesses.{noCounts, blocksOf, readsOf}
 use Rattle.model.specs.Growers.{Direction, up, down, atOrPast, nearestFrom, GrowerCount, nearestOf, growersOf, holdsOne}
@@ -75,10 +75,17 @@ nearMore w g s ds = cond (s .good && every inRange ds) (goodNearest (joinedCount
 unfoldable pub nearAll : Direction → ℕ → List Delivery → Nearest
 nearAll w g ds = cond (every inRange ds) (goodNearest (nearestOf w g (growersOf ds))) badNearest
 
--- the partitions is of ps, one after the other to the first that holds one, after n blocks; b is the block length
-unfoldable pub searched : ℕ → Direction → ℕ → List (List Delivery) → List ℕ → ℕ → GrowerAnswer
-searched b w g ps [] n = growerAnswer 0 0 0 (readsOf n)
-searched b w g ps (i ∷ is) n =
+-- an answer where the days are in range
+abbrev pub datedAnswer : Bool → GrowerAnswer → GrowerAnswer
+datedAnswer t a = cond t a (growerAnswer 19 0 0 noCounts)
+
+-- the partitions is of ps, one after the other to the first that holds one, after n blocks; b is the block length, t whether the days so far are in range
+unfoldable pub searched : ℕ → Direction → ℕ → List (List Delivery) → List ℕ → Bool → ℕ → GrowerAnswer
+searched b w g ps [] t n = datedAnswer t (growerAnswer 0 0 0 (readsOf n))
+searched b w g ps (i ∷ is) t n =
     let m : ℕ = n + blocksOf b (length (part i ps)) in
+    let u : Bool = t && every dayOk (part i ps) in
     let found : GrowerCount = nearestOf w g (growersOf (part i ps)) in
-    cond (every inRange (part i ps)) (cond (holdsOne w g (part i ps)) (growerAnswer 0 (found .grower) (found .records) (readsOf m)) (searched b w g ps is m)) (growerAnswer 8 0 0 noCounts)
+    cond (every inRange (part i ps))
+    (cond (holdsOne w g (part i ps)) (datedAnswer u (growerAnswer 0 (found .grower) (found .records) (readsOf m))) (searched b w g ps is u m))
+    (growerAnswer 8 0 0 noCounts)

@@ -5,14 +5,15 @@ ghost use mathlib.Core.Bool.{true, false, cond};
 ghost use Prim.Native.Nat.{_+_, _-_, _≤_, _<_};
 ghost use lib.ListN.{length};
 ghost use Rattle.model.specs.Bounds.{blockLimit, mostSlots, mostNumber};
-ghost use Rattle.model.specs.Lent.{Even};
+ghost use Rattle.model.specs.Lent.{slicesAt, slicesIn};
 ghost use Rattle.model.specs.Lists.{sumOf, keep};
-ghost use Rattle.model.specs.Deliveries.{rows};
+ghost use Rattle.model.specs.Deliveries.{rows, Even};
 ghost use Rattle.model.specs.Partitions.{parts, startOf};
 ghost use Rattle.model.specs.Accesses.{noCounts, readsOf};
 ghost use Rattle.model.specs.Growers.{up, down, atOrPast, path};
 ghost use Rattle.model.specs.GrowerCalls.{growerAnswer};
-ghost use Rattle.growers.specs.Searches.{directionOf, lastNumber, nearestOr, noneFromTo, lastWanted, badNearest, Fits, nearMore, nearAll, searched};
+ghost use Rattle.growers.specs.Searches.{directionOf, lastNumber, nearestOr, noneFromTo, lastWanted};
+ghost use Rattle.growers.specs.Searches.{badNearest, Fits, nearMore, nearAll, datedAnswer, searched};
 use model::Counts;
 use model::GrowerAnswer;
 use model::MOST_NUMBER;
@@ -173,9 +174,17 @@ fn joined(s: Nearest, grower: u32, n: u64) -> Nearest
 }
 
 // A search goes on to more records. They are judged while they are at hand, and passed over where none can be the first of all.
-fn near_more(s: Nearest, g: &[u32], w: &[u32], y: &[u32], grower: u32, up: bool) -> Nearest
-    requires { ⌜ (length (now g) ≤ mostSlots) × Even (now g) (now w) (now y) × Fits (directionOf up) grower s ⌝ }
-    ensures { λ r. ⌜ r ≡ nearMore (directionOf up) grower s (rows (now (g .entry)) (now (w .entry)) (now (y .entry))) ⌝ }
+fn near_more(
+    s: Nearest,
+    g: &[u32],
+    w: &[u32],
+    y: &[u32],
+    n: &[u32],
+    grower: u32,
+    up: bool,
+) -> Nearest
+    requires { ⌜ (length (now g) ≤ mostSlots) × Even (slicesAt g w y n) × Fits (directionOf up) grower s ⌝ }
+    ensures { λ r. ⌜ r ≡ nearMore (directionOf up) grower s (rows (slicesIn g w y n)) ⌝ }
 {
     if !s.good {
         return bad_nearest();
@@ -188,14 +197,14 @@ fn near_more(s: Nearest, g: &[u32], w: &[u32], y: &[u32], grower: u32, up: bool)
         return s;
     }
     let m = nearest_in(g, grower, up);
-    let n = slices::count_equal(g, m);
-    joined(s, m, n as u64)
+    let k = slices::count_equal(g, m);
+    joined(s, m, k as u64)
 }
 
 // Upward, a stride at a time from the front: where growers rise the first that is met is the first of all.
-fn near_up(g: &[u32], w: &[u32], y: &[u32], grower: u32) -> Nearest
-    requires { ⌜ (length (now g) ≤ mostSlots) × Even (now g) (now w) (now y) ⌝ }
-    ensures { λ r. ⌜ r ≡ nearAll up grower (rows (now (g .entry)) (now (w .entry)) (now (y .entry))) ⌝ }
+fn near_up(g: &[u32], w: &[u32], y: &[u32], n: &[u32], grower: u32) -> Nearest
+    requires { ⌜ (length (now g) ≤ mostSlots) × Even (slicesAt g w y n) ⌝ }
+    ensures { λ r. ⌜ r ≡ nearAll up grower (rows (slicesIn g w y n)) ⌝ }
 {
     let mut s = Nearest {
         good: true,
@@ -205,17 +214,17 @@ fn near_up(g: &[u32], w: &[u32], y: &[u32], grower: u32) -> Nearest
     let mut i = 0;
     while STRIDE <= g.len() - i {
         let e = i + STRIDE;
-        s = near_more(s, &g[i..e], &w[i..e], &y[i..e], grower, true);
+        s = near_more(s, &g[i..e], &w[i..e], &y[i..e], &n[i..e], grower, true);
         i = e;
     }
     let e = g.len();
-    near_more(s, &g[i..e], &w[i..e], &y[i..e], grower, true)
+    near_more(s, &g[i..e], &w[i..e], &y[i..e], &n[i..e], grower, true)
 }
 
 // Downward, a stride at a time from the back.
-fn near_down(g: &[u32], w: &[u32], y: &[u32], grower: u32) -> Nearest
-    requires { ⌜ (length (now g) ≤ mostSlots) × Even (now g) (now w) (now y) ⌝ }
-    ensures { λ r. ⌜ r ≡ nearAll down grower (rows (now (g .entry)) (now (w .entry)) (now (y .entry))) ⌝ }
+fn near_down(g: &[u32], w: &[u32], y: &[u32], n: &[u32], grower: u32) -> Nearest
+    requires { ⌜ (length (now g) ≤ mostSlots) × Even (slicesAt g w y n) ⌝ }
+    ensures { λ r. ⌜ r ≡ nearAll down grower (rows (slicesIn g w y n)) ⌝ }
 {
     let mut s = Nearest {
         good: true,
@@ -225,21 +234,21 @@ fn near_down(g: &[u32], w: &[u32], y: &[u32], grower: u32) -> Nearest
     let mut e = g.len();
     while STRIDE <= e {
         let i = e - STRIDE;
-        s = near_more(s, &g[i..e], &w[i..e], &y[i..e], grower, false);
+        s = near_more(s, &g[i..e], &w[i..e], &y[i..e], &n[i..e], grower, false);
         e = i;
     }
-    near_more(s, &g[0..e], &w[0..e], &y[0..e], grower, false)
+    near_more(s, &g[0..e], &w[0..e], &y[0..e], &n[0..e], grower, false)
 }
 
 // The records of a partition, of which it is handed its part of each slice.
-fn near_all(g: &[u32], w: &[u32], y: &[u32], grower: u32, up: bool) -> Nearest
-    requires { ⌜ (length (now g) ≤ mostSlots) × Even (now g) (now w) (now y) ⌝ }
-    ensures { λ r. ⌜ r ≡ nearAll (directionOf up) grower (rows (now (g .entry)) (now (w .entry)) (now (y .entry))) ⌝ }
+fn near_all(g: &[u32], w: &[u32], y: &[u32], n: &[u32], grower: u32, up: bool) -> Nearest
+    requires { ⌜ (length (now g) ≤ mostSlots) × Even (slicesAt g w y n) ⌝ }
+    ensures { λ r. ⌜ r ≡ nearAll (directionOf up) grower (rows (slicesIn g w y n)) ⌝ }
 {
     if up {
-        return near_up(g, w, y, grower);
+        return near_up(g, w, y, n, grower);
     }
-    near_down(g, w, y, grower)
+    near_down(g, w, y, n, grower)
 }
 
 // A refusal: grower, records and counts 0.
@@ -255,10 +264,13 @@ pub fn refused(refusal: u32) -> GrowerAnswer
     }
 }
 
-// An answer after so many blocks.
-fn found(grower: u32, records: u64, blocks: u64) -> GrowerAnswer
-    ensures { λ r. ⌜ r ≡ growerAnswer 0 grower records (readsOf blocks) ⌝ }
+// An answer after so many blocks, or check 19.
+fn found(dated: bool, grower: u32, records: u64, blocks: u64) -> GrowerAnswer
+    ensures { λ r. ⌜ r ≡ datedAnswer dated (growerAnswer 0 grower records (readsOf blocks)) ⌝ }
 {
+    if !dated {
+        return refused(19);
+    }
     let counts = scan::reads_of(blocks);
     GrowerAnswer {
         refusal: 0,
@@ -301,11 +313,12 @@ fn begins(edge: usize, length: usize, up: bool) -> usize
 }
 
 // The partitions from one, which begins at start, to the last or the first; it stops at the first that holds a grower at or past the given one.
-// An empty one is passed over.
+// An empty one is passed over. Days are judged after all values of the partitions scanned.
 pub fn search(
     g: &[u32],
     w: &[u32],
     y: &[u32],
+    n: &[u32],
     lens: &[u32],
     from: usize,
     start: usize,
@@ -315,32 +328,34 @@ pub fn search(
 ) -> GrowerAnswer
     requires { ⌜ (from < length (now lens)) × (length (now lens) ≤ blockLimit) × (sumOf (now lens) ≤ length (now g)) × (1 ≤ block)
         × (start ≡ startOf (now lens) from) ⌝ }
-    requires { ⌜ (length (now g) ≤ mostSlots) × Even (now g) (now w) (now y) ⌝ }
-    ensures { λ r. ⌜ r ≡ searched block (directionOf up) grower (parts (now (lens .entry)) (rows (now (g .entry)) (now (w .entry)) (now (y .entry))))
-        (path (directionOf up) (length (now (lens .entry))) from) 0 ⌝ }
+    requires { ⌜ (length (now g) ≤ mostSlots) × Even (slicesAt g w y n) ⌝ }
+    ensures { λ r. ⌜ r ≡ searched block (directionOf up) grower (parts (now (lens .entry)) (rows (slicesIn g w y n)))
+        (path (directionOf up) (length (now (lens .entry))) from) true 0 ⌝ }
 {
     let steps = either(lens.len() - from, from + 1, up);
     let mut edge = either(start, start + lens[from] as usize, up);
     let mut j = 0;
     let mut blocks: u64 = 0;
+    let mut dated = true;
     while j < steps {
         let i = partition_after(from, j, up);
-        let n = lens[i] as usize;
+        let k = lens[i] as usize;
         j += 1;
-        if 0 < n {
-            let a = begins(edge, n, up);
-            let e = a + n;
-            let s = near_all(&g[a..e], &w[a..e], &y[a..e], grower, up);
+        if 0 < k {
+            let a = begins(edge, k, up);
+            let e = a + k;
+            let s = near_all(&g[a..e], &w[a..e], &y[a..e], &n[a..e], grower, up);
             if !s.good {
                 return refused(8);
             }
-            let m = scan::blocks_of(n, block);
+            dated = scan::both(dated, checks::days_ok(&n[a..e]));
+            let m = scan::blocks_of(k, block);
             blocks += m;
             if 0 < s.records {
-                return found(s.grower, s.records, blocks);
+                return found(dated, s.grower, s.records, blocks);
             }
             edge = either(e, a, up);
         }
     }
-    found(0, 0, blocks)
+    found(dated, 0, 0, blocks)
 }

@@ -60,15 +60,15 @@ module _ (k b c d : ℕ) where
 
   pub insert-d : k ≡ 3 → Says (eqb d 0)
   unfolding callOf
-  insert-d e a = rw e (is-cond (eqb d 0) (insert (delivery a b c)))
+  insert-d e a = rw e (is-cond (eqb d 0) (insert (delivery a b c 0)))
 
   pub delete-d : k ≡ 4 → Says (eqb d 0)
   unfolding callOf
-  delete-d e a = rw e (is-cond (eqb d 0) (delete (delivery a b c)))
+  delete-d e a = rw e (is-cond (eqb d 0) (delete (delivery a b c 0)))
 
   pub move-or-none : k ≢ 1 → k ≢ 2 → k ≢ 3 → k ≢ 4 → Says (eqb k 5)
   unfolding callOf
-  move-or-none p q r s a = rw (ne-eqb k 1 p, ne-eqb k 2 q, ne-eqb k 3 r, ne-eqb k 4 s) (is-only (eqb k 5) (move (delivery a b c) d))
+  move-or-none p q r s a = rw (ne-eqb k 1 p, ne-eqb k 2 q, ne-eqb k 3 r, ne-eqb k 4 s) (is-only (eqb k 5) (move (delivery a b c 0) d))
 
 -- A call by its kind.
 
@@ -104,15 +104,15 @@ module _ (k a b c d : ℕ) where
 
   form-3 : k ≡ 3 → Form
   unfolding callOf callBy
-  form-3 e = rw e (cond-form (eqb d 0) (insert (delivery a b c)))
+  form-3 e = rw e (cond-form (eqb d 0) (insert (delivery a b c 0)))
 
   form-4 : k ≡ 4 → Form
   unfolding callOf callBy
-  form-4 e = rw e (cond-form (eqb d 0) (delete (delivery a b c)))
+  form-4 e = rw e (cond-form (eqb d 0) (delete (delivery a b c 0)))
 
   form-5 : k ≢ 1 → k ≢ 2 → k ≢ 3 → k ≢ 4 → Form
   unfolding callOf callBy
-  form-5 p q r s = rw (ne-eqb k 1 p, ne-eqb k 2 q, ne-eqb k 3 r, ne-eqb k 4 s) (only-form (eqb k 5) (move (delivery a b c) d))
+  form-5 p q r s = rw (ne-eqb k 1 p, ne-eqb k 2 q, ne-eqb k 3 r, ne-eqb k 4 s) (only-form (eqb k 5) (move (delivery a b c 0) d))
 
   call-form : Form
   call-form = decided k 1 form-1 (λ p. decided k 2 form-2 (λ q. decided k 3 form-3 (λ r. decided k 4 form-4 (λ s. form-5 p q r s))))
@@ -126,15 +126,15 @@ module _ (k a b c d : ℕ) where
   unfolding callBy
   by-range e = rw e
 
-  by-insert : k ≡ 3 → callBy ns ≡ insert (delivery a b c)
+  by-insert : k ≡ 3 → callBy ns ≡ insert (delivery a b c 0)
   unfolding callBy
   by-insert e = rw e
 
-  by-delete : k ≡ 4 → callBy ns ≡ delete (delivery a b c)
+  by-delete : k ≡ 4 → callBy ns ≡ delete (delivery a b c 0)
   unfolding callBy
   by-delete e = rw e
 
-  by-move : k ≢ 1 → k ≢ 2 → k ≢ 3 → k ≢ 4 → callBy ns ≡ move (delivery a b c) d
+  by-move : k ≢ 1 → k ≢ 2 → k ≢ 3 → k ≢ 4 → callBy ns ≡ move (delivery a b c 0) d
   unfolding callBy
   by-move p q r s = rw (ne-eqb k 1 p, ne-eqb k 2 q, ne-eqb k 3 r, ne-eqb k 4 s)
 
@@ -302,11 +302,11 @@ module _ (L : ℕ) {t : List ℕ} {at k a b c : ℕ} (w : Four t at k a b c) (s 
   pub ranged-at : k ≡ 2 → r ≡ recordCall L s hs (range a b) → Here
   ranged-at i = by-kind fifth refl (range a b) (by-range k a b c fifth i)
 
-  pub inserted-at : k ≡ 3 → r ≡ recordCall L s hs (insert (delivery a b c)) → Here
-  inserted-at i = by-kind fifth refl (insert (delivery a b c)) (by-insert k a b c fifth i)
+  pub inserted-at : k ≡ 3 → r ≡ recordCall L s hs (insert (delivery a b c 0)) → Here
+  inserted-at i = by-kind fifth refl (insert (delivery a b c 0)) (by-insert k a b c fifth i)
 
-  pub deleted-at : k ≡ 4 → r ≡ recordCall L s hs (delete (delivery a b c)) → Here
-  deleted-at i = by-kind fifth refl (delete (delivery a b c)) (by-delete k a b c fifth i)
+  pub deleted-at : k ≡ 4 → r ≡ recordCall L s hs (delete (delivery a b c 0)) → Here
+  deleted-at i = by-kind fifth refl (delete (delivery a b c 0)) (by-delete k a b c fifth i)
 
-  pub moved-at : (d : ℕ) → d ≡ fifth → k ≢ 1 → k ≢ 2 → k ≢ 3 → k ≢ 4 → r ≡ recordCall L s hs (move (delivery a b c) d) → Here
-  moved-at d i l m n o = by-kind d i (move (delivery a b c) d) (by-move k a b c d l m n o)
+  pub moved-at : (d : ℕ) → d ≡ fifth → k ≢ 1 → k ≢ 2 → k ≢ 3 → k ≢ 4 → r ≡ recordCall L s hs (move (delivery a b c 0) d) → Here
+  moved-at d i l m n o = by-kind d i (move (delivery a b c 0) d) (by-move k a b c d l m n o)

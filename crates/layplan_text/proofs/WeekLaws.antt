@@ -1,5 +1,5 @@
 -- The whole input: what it says, if it is one. Assumes nothing.
-use Prim.Native.Nat.{ℕ, _+_, _*_, _≤_, _<_}
+use Prim.Native.Nat.{ℕ, zero, suc, _+_, _*_, _≤_, _<_}
 use mathlib.Core.Path.{_≡_, refl, sym, ap, ap₂, _∙_}
 use mathlib.Core.Bool.{Bool, true, false, _&&_, and-assoc}
 use mathlib.Core.Option.{Option}
@@ -7,17 +7,18 @@ use mathlib.Core.List.{List, [], _∷_, _++_}
 use native.Mathlib.Omega.{arith}
 use borrow.Author.Tests.{le-leb, lt-leb}
 use lib.Dec.{T, leb, eqb, leb→le}
-use lib.ListN.{length, drop, take}
+use lib.ListN.{length, drop, take, replicate}
 use lib.Seq.{take-all, length-take-le}
 use Rattle.model.specs.Bounds.{mostDeliveries, mostCalls}
 use Rattle.model.specs.Lists.{onlyIf, andThen}
 use Rattle.model.specs.Prices.{prices, limits}
+use Rattle.model.specs.Deliveries.{slicesOf}
 use Rattle.model.specs.Calls.{Call}
 use Rattle.model.specs.Fields.{Taken, taken, takeLine, takeLines, nth}
 use Rattle.model.specs.Program.{Week, callsOf, setOf, sizesOk, takeSizes, readWeek, weekText, refusalText, layplan}
 use Rattle.model.proofs.Tests.{of-true, and-fst, and-snd, leb-no}
 use Rattle.fields.specs.Reading.{fieldOk}
-use Rattle.lines.specs.Lines.{textRefusal, columnAt, lineOk, linesOk, rowsAt}
+use Rattle.lines.specs.Lines.{textRefusal, columnAt, lineLength, lineOk, linesOk, rowsAt}
 use Rattle.lines.proofs.Forms.{chain, line-at, lines-at, column-of, nothing-left}
 use Rattle.layplan_text.specs.Week.{callsAt, callsOk, usedIn, countIn, callsFrom, headOk, weekOk, weekIn}
 use Rattle.layplan_text.proofs.CallLaws.{areCalls, calls-form, calls-are, first-field, later-fields}
@@ -43,6 +44,12 @@ group true true c d r = refl
 group true false c d r = refl
 group false b c d r = refl
 
+-- as many rows as lines
+length-rows : (t : List ℕ) (n m at : ℕ) → length (rowsAt n m at t) ≡ m
+unfolding rowsAt
+length-rows t n zero at = refl
+length-rows t n (suc m) at = ap (λ (k : ℕ). suc k) (length-rows t n m (at + lineLength n))
+
 module _ (t : List ℕ) where
   abbrev m : ℕ
   m = usedIn t
@@ -57,8 +64,9 @@ module _ (t : List ℕ) where
   abbrev pub slots : ℕ → List ℕ
   slots at = columnAt 34 at m t ++ 0 ∷ []
 
+  -- and days that are all 0
   abbrev pub weekAt : Week
-  weekAt = weekIn t (slots 91) (slots 102) (slots 113)
+  weekAt = weekIn t (slicesOf (slots 91) (slots 102) (slots 113) (replicate (m + 1) 0))
 
   abbrev prices3 : List ℕ
   prices3 = columnAt 11 0 3 t
@@ -88,7 +96,9 @@ module _ (t : List ℕ) where
 
   made-is : made ds3 (callsAt q a t) ≡ weekAt
   unfolding columnAt
-  made-is = rw (column-of t 3 0 (omega arith) m 91, column-of t 3 1 (omega arith) m 91, column-of t 3 2 (omega arith) m 91)
+  made-is =
+      let l : length ds3 ≡ m = length-rows t 3 m 91 in
+      rw (column-of t 3 0 (omega arith) m 91, column-of t 3 1 (omega arith) m 91, column-of t 3 2 (omega arith) m 91, l)
 
   ending : ended ds3 (drop (a + 56 * q) t) (callsAt q a t) ≡ onlyIf left weekAt
   ending = rw (nothing-left t (a + 56 * q)) (ap (onlyIf left) made-is)

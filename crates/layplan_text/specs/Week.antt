@@ -8,12 +8,11 @@ use Rattle.model.specs.declared.PriceCard.{PriceCard}
 use Rattle.model.specs.declared.Limits.{Limits}
 use Rattle.model.specs.Lists.{isSome}
 use Rattle.model.specs.Prices.{prices, limits}
-use Rattle.model.specs.Deliveries.{delivery}
+use Rattle.model.specs.Deliveries.{delivery, Slices}
 use Rattle.model.specs.Calls.{Call, find, range, insert, delete, move}
 use Rattle.model.specs.Fields.{nth}
 use Rattle.model.specs.Planner.{PlanResult, planCall}
 use Rattle.model.specs.Program.{Week, callOf, sizesOk}
-use Rattle.model.specs.Lent.{setOf}
 use Rattle.fields.specs.Reading.{valueAt}
 use Rattle.lines.specs.Lines.{columnAt, lineOk, linesOk}
 
@@ -22,9 +21,9 @@ unfoldable pub callBy : List ℕ → Call
 callBy ns =
     cond (eqb (nth 0 ns) 1) (find (nth 1 ns))
     (cond (eqb (nth 0 ns) 2) (range (nth 1 ns) (nth 2 ns))
-    (cond (eqb (nth 0 ns) 3) (insert (delivery (nth 1 ns) (nth 2 ns) (nth 3 ns)))
-    (cond (eqb (nth 0 ns) 4) (delete (delivery (nth 1 ns) (nth 2 ns) (nth 3 ns)))
-    (move (delivery (nth 1 ns) (nth 2 ns) (nth 3 ns)) (nth 4 ns)))))
+    (cond (eqb (nth 0 ns) 3) (insert (delivery (nth 1 ns) (nth 2 ns) (nth 3 ns) 0))
+    (cond (eqb (nth 0 ns) 4) (delete (delivery (nth 1 ns) (nth 2 ns) (nth 3 ns) 0))
+    (move (delivery (nth 1 ns) (nth 2 ns) (nth 3 ns) 0) (nth 4 ns)))))
 
 -- the call of the line of five numbers at a byte, and the calls of q such lines
 abbrev pub callAt : ℕ → List ℕ → Call
@@ -60,21 +59,21 @@ headOk t = lineOk 3 0 t && (lineOk 2 34 t && (lineOk 3 57 t && sizesOk (usedIn t
 unfoldable pub weekOk : List ℕ → Bool
 weekOk t = headOk t && (linesOk 3 (usedIn t) 91 t && (callsOk (countIn t) (callsFrom t) t && leb (length t) (callsFrom t + 56 * countIn t)))
 
--- what it says, with the deliveries in three slices
+-- what it says, with the deliveries in slices
 abbrev pub cardIn : List ℕ → PriceCard
 cardIn t = prices (valueAt 0 t) (valueAt 11 t) (valueAt 22 t)
 
 abbrev pub limitsIn : List ℕ → Limits
 limitsIn t = limits (valueAt 34 t) (valueAt 45 t)
 
-abbrev pub weekIn : List ℕ → List ℕ → List ℕ → List ℕ → Week
-weekIn t gs ws ys = record {
+abbrev pub weekIn : List ℕ → Slices → Week
+weekIn t s = record {
   card = cardIn t;
   limit = limitsIn t;
-  set = setOf (valueAt 57 t) (usedIn t) gs ws ys;
+  set = record { block = valueAt 57 t; used = usedIn t; slices = s };
   calls = callsAt (countIn t) (callsFrom t) t;
 }
 
 -- the planner's answer to it at the block limit L, from the histograms that its calls left
-abbrev pub planIn : ℕ → List ℕ → List ℕ → List ℕ → List ℕ → List ℕ → List ℕ → PlanResult
-planIn L t gs ws ys hs out = planCall L (cardIn t) (limitsIn t) (weekIn t gs ws ys .set) hs out
+abbrev pub planIn : ℕ → List ℕ → Slices → List ℕ → List ℕ → PlanResult
+planIn L t s hs out = planCall L (cardIn t) (limitsIn t) (weekIn t s .set) hs out

@@ -9,7 +9,7 @@ ghost use Rattle.model.specs.Bounds.{blockLimit, mostCalls};
 ghost use Rattle.model.specs.Lists.{isSome};
 ghost use Rattle.model.specs.Recorder.{recordCall};
 ghost use Rattle.model.specs.Program.{callOf, sizesOk, recordUntilRefused, refusalText, partitionTexts, weekText, planText, layplan};
-ghost use Rattle.model.specs.Lent.{setIn};
+ghost use Rattle.model.specs.Lent.{setIn, slicesIn};
 ghost use Rattle.fields.specs.Writing.{placed};
 ghost use Rattle.lines.specs.Lines.{textRefusal, lineOk};
 ghost use Rattle.layplan_text.specs.Week.{callAt, callsAt, callOk, callsOk, headOk, weekOk, cardIn, limitsIn, weekIn, planIn};
@@ -217,16 +217,17 @@ fn judge_week(text: &[u8]) -> u32
 fn record_at(
     text: &[u8],
     at: usize,
-    histograms: &mut [u32],
+    h: &mut [u32],
     block: u32,
     used: u32,
-    growers: &[u32],
-    weights: &[u32],
-    yields: &[u32],
+    g: &[u32],
+    w: &[u32],
+    y: &[u32],
+    n: &[u32],
 ) -> u32
     requires { ⌜ (at ≤ 1000000) × T (lineOk 5 at (now text)) ⌝ }
-    ensures { λ r. ⌜ record { refusal = r; histograms = now (histograms .exit) }
-        ≡ recordCall blockLimit (setIn block used growers weights yields) (now (histograms .entry)) (callAt at (now (text .entry))) ⌝ }
+    ensures { λ r. ⌜ record { refusal = r; histograms = now (h .exit) }
+        ≡ recordCall blockLimit (setIn block used g w y n) (now (h .entry)) (callAt at (now (text .entry))) ⌝ }
 {
     let kind = fields::spelled_at(text, at);
     let a = fields::spelled_at(text, at + WIDTH);
@@ -234,24 +235,25 @@ fn record_at(
     let b = fields::spelled_at(text, p);
     let c = fields::spelled_at(text, p + WIDTH);
     if kind == FIND {
-        return recorder::record_find(histograms, block, used, growers, weights, yields, a);
+        return recorder::record_find(h, block, used, g, w, y, n, a);
     }
     if kind == RANGE {
-        return recorder::record_range(histograms, block, used, growers, weights, yields, a, b);
+        return recorder::record_range(h, block, used, g, w, y, n, a, b);
     }
     let d = Delivery {
         grower: a,
         weight: b,
         oil_yield: c,
+        day: 0,
     };
     if kind == INSERT {
-        return recorder::record_insert(histograms, block, used, growers, weights, yields, d);
+        return recorder::record_insert(h, block, used, g, w, y, n, d);
     }
     if kind == DELETE {
-        return recorder::record_delete(histograms, block, used, growers, weights, yields, d);
+        return recorder::record_delete(h, block, used, g, w, y, n, d);
     }
-    let n = fields::spelled_at(text, p + WIDTH + WIDTH);
-    recorder::record_move(histograms, block, used, growers, weights, yields, d, n)
+    let e = fields::spelled_at(text, p + WIDTH + WIDTH);
+    recorder::record_move(h, block, used, g, w, y, n, d, e)
 }
 
 // Records q calls, from a byte on, up to the first that is refused.
@@ -265,15 +267,26 @@ fn record_lines(
     growers: &[u32],
     weights: &[u32],
     yields: &[u32],
+    days: &[u32],
 ) -> u32
     requires { ⌜ (at ≤ 100000) × (q ≤ mostCalls) × T (callsOk q at (now text)) ⌝ }
     ensures { λ r. ⌜ record { refusal = r; histograms = now (histograms .exit) }
-        ≡ recordUntilRefused (setIn block used growers weights yields) (now (histograms .entry)) (callsAt q at (now (text .entry))) ⌝ }
+        ≡ recordUntilRefused (setIn block used growers weights yields days) (now (histograms .entry)) (callsAt q at (now (text .entry))) ⌝ }
 {
     let mut i = 0;
     let mut e = at;
     while i < q {
-        let n = record_at(text, e, histograms, block, used, growers, weights, yields);
+        let n = record_at(
+            text,
+            e,
+            histograms,
+            block,
+            used,
+            growers,
+            weights,
+            yields,
+            days,
+        );
         if n != 0 {
             return n;
         }
@@ -348,10 +361,17 @@ fn limits_of(text: &[u8]) -> Limits
 }
 
 // Plans from the recorded calls.
-fn plan(text: &[u8], histograms: &[u32], growers: &[u32], weights: &[u32], yields: &[u32]) -> Output
+fn plan(
+    text: &[u8],
+    histograms: &[u32],
+    growers: &[u32],
+    weights: &[u32],
+    yields: &[u32],
+    days: &[u32],
+) -> Output
     requires { ⌜ T (headOk (now text)) ⌝ }
     ensures { λ r. ⌜ r ≡ outputOf (planText (planIn blockLimit (now (text .entry))
-        (now (growers .entry)) (now (weights .entry)) (now (yields .entry)) (now (histograms .entry)) (replicate blockLimit 0))) ⌝ }
+        (slicesIn growers weights yields days) (now (histograms .entry)) (replicate blockLimit 0))) ⌝ }
 {
     let card = card_of(text);
     let limits = limits_of(text);
@@ -366,6 +386,7 @@ fn plan(text: &[u8], histograms: &[u32], growers: &[u32], weights: &[u32], yield
         growers,
         weights,
         yields,
+        days,
         histograms,
         &mut ends[..],
     );
@@ -377,10 +398,10 @@ fn plan(text: &[u8], histograms: &[u32], growers: &[u32], weights: &[u32], yield
     planned(p.cost, &ends[..k])
 }
 
-// Records the calls and plans, the deliveries in three slices.
-fn answer(text: &[u8], growers: &[u32], weights: &[u32], yields: &[u32]) -> Output
+// Records the calls and plans, the deliveries in slices.
+fn answer(text: &[u8], growers: &[u32], weights: &[u32], yields: &[u32], days: &[u32]) -> Output
     requires { ⌜ T (weekOk (now text)) ⌝ }
-    ensures { λ r. ⌜ r ≡ outputOf (weekText (weekIn (now (text .entry)) (now (growers .entry)) (now (weights .entry)) (now (yields .entry)))) ⌝ }
+    ensures { λ r. ⌜ r ≡ outputOf (weekText (weekIn (now (text .entry)) (slicesIn growers weights yields days))) ⌝ }
 {
     let block = fields::spelled_at(text, SIZES_AT);
     let used = fields::spelled_at(text, USED_AT);
@@ -397,11 +418,12 @@ fn answer(text: &[u8], growers: &[u32], weights: &[u32], yields: &[u32]) -> Outp
         growers,
         weights,
         yields,
+        days,
     );
     if stop != 0 {
         return refused(stop);
     }
-    plan(text, &histograms[..], growers, weights, yields)
+    plan(text, &histograms[..], growers, weights, yields, days)
 }
 
 // The program's output for an input.
@@ -416,9 +438,10 @@ pub fn layplan_text(text: &[u8]) -> Output
     let mut growers = [0u32; SLOTS];
     let mut weights = [0u32; SLOTS];
     let mut yields = [0u32; SLOTS];
+    let days = [0u32; SLOTS];
     lines::store(text, DELIVERIES_AT, &mut growers[..], m);
     lines::store(text, WEIGHTS_AT, &mut weights[..], m);
     lines::store(text, YIELDS_AT, &mut yields[..], m);
     let c = m + 1;
-    answer(text, &growers[..c], &weights[..c], &yields[..c])
+    answer(text, &growers[..c], &weights[..c], &yields[..c], &days[..c])
 }

@@ -33,7 +33,7 @@ use Rattle.listing.proofs.Rests.{listed-permitted-ones, length-listing,
 
 -- what the recursion lists, by rules and blocks that are what they must be
 the-ones : (p : PriceCard) (l : Limits) (s : Set) {rules : Rules} {n : ℕ} {old flags : List Bool} → rules ≡ rulesOf p l n → n ≡ blocks s → 1 ≤ blocks s
-    → Marked (s .block) (s .used) (s .growers) n old flags → rests (okBy flags (rules .longest)) (rules .most) (rules .blocks) 0 0 0 ≡ permittedLayouts p l s
+    → Marked (s .block) (s .used) (s .slices .growers) n old flags → rests (okBy flags (rules .longest)) (rules .most) (rules .blocks) 0 0 0 ≡ permittedLayouts p l s
 the-ones p l s {rules} {n} {old} {flags} er eb ok m =
     ap (λ (r : Rules). rests (okBy flags (r .longest)) (r .most) (r .blocks) 0 0 0) (er ∙ ap (rulesOf p l) eb) ∙ listed-permitted-ones p l (flagged s n old flags eb ok m)
 
@@ -78,7 +78,7 @@ pub record Counted (L : ℕ) (p : PriceCard) (l : Limits) (s : Set) (hs : List �
   pub size : bytes ≡ length (listingText L p l s hs)
 
 pub counted : (L : ℕ) (p : PriceCard) (l : Limits) (s : Set) (hs : List ℕ) {layouts bytes n : ℕ} {rules : Rules} {old flags : List Bool} → firstFailed (givenChecks L p l s hs) ≡ 0
-    → blocks s ≤ mostListedBlocks → rules ≡ rulesOf p l n → n ≡ blocks s → 1 ≤ blocks s → Marked (s .block) (s .used) (s .growers) n old flags
+    → blocks s ≤ mostListedBlocks → rules ≡ rulesOf p l n → n ≡ blocks s → 1 ≤ blocks s → Marked (s .block) (s .used) (s .slices .growers) n old flags
     → LinesSize layouts bytes 0 (rests (okBy flags (rules .longest)) (rules .most) (rules .blocks) 0 0 0) → Counted L p l s hs layouts bytes
 counted L p l s hs given small er eb ok m z =
     let e = the-ones p l s er eb ok m in
@@ -168,7 +168,7 @@ module _ (L : ℕ) (p : PriceCard) (l : Limits) (s : Set) (hs out : List ℕ) (x
 
 -- what the recursion is to write
 pub lines-are : (L : ℕ) (p : PriceCard) (l : Limits) (s : Set) (hs sums : List ℕ) (rules : Rules) (n : ℕ) (old flags : List Bool) → rules ≡ rulesOf p l n → n ≡ blocks s → 1 ≤ blocks s
-    → Summed L p hs ((n + 1) * sumsPerPlace) sums → Holds sums n → Marked (s .block) (s .used) (s .growers) n old flags
+    → Summed L p hs ((n + 1) * sumsPerPlace) sums → Holds sums n → Marked (s .block) (s .used) (s .slices .growers) n old flags
     → linesAfter sums 0 0 (2 ^ 60) [] (rests (okBy flags (rules .longest)) (rules .most) (rules .blocks) 0 0 0) ≡ listingText L p l s hs
 lines-are L p l s hs sums rules n old flags er eb ok added holds m =
     let f = flagged s n old flags eb ok m in

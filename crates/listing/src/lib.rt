@@ -47,7 +47,7 @@ fn rules_of(card: PriceCard, limits: Limits, blocks: usize) -> Rules
     }
 }
 
-// Checks 1, 2, 3, 4, 5, 8, 9, 23, 11 and 15 of a listing, and how many layouts and bytes there are.
+// Checks 1, 2, 3, 4, 5, 8, 19, 9, 23, 11 and 15 of a listing, and how many layouts and bytes there are.
 fn check_listing(
     card: PriceCard,
     limits: Limits,
@@ -56,10 +56,11 @@ fn check_listing(
     growers: &[u32],
     weights: &[u32],
     yields: &[u32],
+    days: &[u32],
     histograms: &[u32],
     room: usize,
 ) -> Listed
-    ensures { λ r. ⌜ r ≡ checkedOf blockLimit card limits (setIn block used growers weights yields) (now (histograms .entry)) room ⌝ }
+    ensures { λ r. ⌜ r ≡ checkedOf blockLimit card limits (setIn block used growers weights yields days) (now (histograms .entry)) room ⌝ }
 {
     let refusal = permitted::plan_refusal(
         card,
@@ -69,6 +70,7 @@ fn check_listing(
         growers,
         weights,
         yields,
+        days,
         histograms,
     );
     if refusal != 0 {
@@ -104,11 +106,12 @@ pub fn list_layouts(
     growers: &[u32],
     weights: &[u32],
     yields: &[u32],
+    days: &[u32],
     histograms: &[u32],
     text: &mut [u8],
 ) -> Listed
     ensures { λ r. ⌜ record { answer = r; text = now (text .exit) }
-        ≡ listCall blockLimit card limits (setIn block used growers weights yields)
+        ≡ listCall blockLimit card limits (setIn block used growers weights yields days)
         (now (histograms .entry)) (now (text .entry)) ⌝ }
 {
     let checked = check_listing(
@@ -119,6 +122,7 @@ pub fn list_layouts(
         growers,
         weights,
         yields,
+        days,
         histograms,
         text.len(),
     );

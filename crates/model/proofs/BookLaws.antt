@@ -10,7 +10,7 @@ use lib.ListN.{length, length-map}
 use Rattle.model.specs.declared.Delivery.{Delivery}
 use Rattle.model.specs.Bounds.{mostNumber, mostSlots, mostBlockLength, mostWeight, mostYield}
 use Rattle.model.specs.Lists.{sumOf, every, rising, onlyIf, andThen}
-use Rattle.model.specs.Deliveries.{growerOf, inRange}
+use Rattle.model.specs.Deliveries.{delivery, growerOf, inRange, noDay}
 use Rattle.model.specs.Blocks.{blockLengthOk}
 use Rattle.model.specs.Column.{soundGrowers}
 use Rattle.model.specs.Fields.{line, lines, Taken, taken, takeLine, takeLines, nth}
@@ -32,6 +32,7 @@ pub record Good (L : ℕ) (b : Book) : Type 0 where
   pub slots : length (b .deliveries) ≤ mostSlots
   pub rises : T (rising (b .directory .fences))
   pub values : T (every inRange (b .deliveries))
+  pub no-days : T (every noDay (b .deliveries))
   pub sound : T (soundGrowers (b .directory .lengths) (b .directory .fences) (map growerOf (b .deliveries)))
   pub fences-fit : Fit (b .directory .fences)
   pub growers-fit : Fit (map growerOf (b .deliveries))
@@ -87,9 +88,18 @@ fit-nth n j (ns ∷ rs) (row r o) = fit-cons (nth j ns) (map (nth j) rs) (go ns 
 
 -- The delivery lines.
 
-threes-deliveries : (ds : List Delivery) → map deliveryOf (map deliveryRow ds) ≡ ds
-threes-deliveries [] = refl
-threes-deliveries (d ∷ ds) = ap (λ (l : List Delivery). d ∷ l) (threes-deliveries ds)
+threes-deliveries : (ds : List Delivery) → T (every noDay ds) → map deliveryOf (map deliveryRow ds) ≡ ds
+unfolding every
+threes-deliveries [] t = refl
+threes-deliveries (d ∷ ds) t =
+    ap₂ (λ (n : ℕ) (l : List Delivery). delivery (d .grower) (d .weight) (d .«oil_yield») n ∷ l)
+    (sym (eqb→eq (d .day) 0 (and-fst (noDay d) (every noDay ds) t))) (threes-deliveries ds (and-snd (noDay d) (every noDay ds) t))
+
+-- the deliveries of lines are on day 0
+pub lines-undated : (rs : List (List ℕ)) → T (every noDay (map deliveryOf rs))
+unfolding every
+lines-undated [] = tt
+lines-undated (l ∷ rs) = lines-undated rs
 
 threes-rows : (ds : List Delivery) → T (every inRange ds) → Fit (map growerOf ds) → Rows 3 (map deliveryRow ds)
 unfolding every
@@ -219,7 +229,7 @@ module _ (L : ℕ) (b : Book) (g : Good L b) where
       (pairs-lengths ns fs (g .even))
       ∙ ap (λ (l : List ℕ). record { directory = record { block = b .directory .block; lengths = ns; fences = l }; deliveries = map deliveryOf ds })
       (pairs-fences ns fs (g .even))
-      ∙ ap (λ (l : List Delivery). record { directory = b .directory; deliveries = l }) (threes-deliveries (b .deliveries))
+      ∙ ap (λ (l : List Delivery). record { directory = b .directory; deliveries = l }) (threes-deliveries (b .deliveries) (g .no-days))
 
   header-read : takeHeader L (bookText b) ≡ some (taken head (lines ps ++ (lines ds ++ [])))
   unfolding head
@@ -309,6 +319,7 @@ module _ (L : ℕ) where
           slots = omega (arith, m, hg .used);
           rises = numbers .rises;
           values = numbers .values;
+          no-days = lines-undated ds;
           sound = numbers .sound;
           fences-fit = fit-nth 2 1 ps (parts .rows);
           growers-fit = subst Fit (sym (growers-again ds)) (fit-nth 3 0 ds (rest .rows));

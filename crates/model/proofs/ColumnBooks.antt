@@ -2,14 +2,12 @@
 use Prim.Native.Nat.{ℕ, _-_, _*_, _≤_}
 use mathlib.Core.Path.{_≡_, refl, sym, ap, ap₂, _∙_, subst}
 use mathlib.Core.Bool.{_&&_}
-use mathlib.Core.List.{List, [], _∷_, _++_, map}
+use mathlib.Core.List.{List, [], _∷_, _++_}
 use native.Mathlib.Omega.{arith}
 use lib.Dec.{T, eqb, eqb→eq}
 use lib.ListN.{length, take, drop, replicate, length-drop, take-append-drop}
 use lib.Seq.{length-take-le, take-append-le, drop-append-le, take-take}
-use Rattle.model.specs.declared.Delivery.{Delivery}
 use Rattle.model.specs.Lists.{sumOf, every}
-use Rattle.model.specs.Deliveries.{growerOf, weightOf, yieldOf, rows}
 use Rattle.model.specs.Partitions.{parts}
 use Rattle.model.specs.Directory.{directoryOf, unusedNumbers, padded, directoryNumbers}
 use Rattle.model.specs.Column.{soundGrowers}
@@ -34,13 +32,6 @@ parts-used {A} (n ∷ ns) s t h =
 pub sound-used : (ns fs gs rest : List ℕ) → sumOf ns ≤ length gs → soundGrowers ns fs (gs ++ rest) ≡ soundGrowers ns fs gs
 unfolding soundGrowers
 sound-used ns fs gs rest h = rw (parts-used ns gs rest h)
-
--- The slots as rows.
-
-pub rows-joined : (ds : List Delivery) (gs ws ys : List ℕ) → rows (map growerOf ds ++ gs) (map weightOf ds ++ ws) (map yieldOf ds ++ ys) ≡ ds ++ rows gs ws ys
-unfolding rows
-rows-joined [] gs ws ys = refl
-rows-joined (d ∷ ds) gs ws ys = ap (λ (l : List Delivery). d ∷ l) (rows-joined ds gs ws ys)
 
 -- The directory's numbers.
 

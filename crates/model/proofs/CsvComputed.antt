@@ -113,4 +113,4 @@ csv-written = record {
 
 pub csv-questions : CsvQuestions
 unfolding computed
-csv-questions = record { importing = λ text gs ws ys. refl; exporting = λ m room gs ws ys. refl }
+csv-questions = record { importing = λ text s. refl; exporting = λ m room s. refl }

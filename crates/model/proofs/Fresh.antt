@@ -14,7 +14,7 @@ use lib.Seq.{take-all}
 use Rattle.model.specs.declared.Delivery.{Delivery}
 use Rattle.model.specs.Lists.{sumOf, every, rising}
 use Rattle.model.specs.Place.{place}
-use Rattle.model.specs.Deliveries.{rows, same, among, inRange}
+use Rattle.model.specs.Deliveries.{rows, same, among, inRange, dayOk}
 use Rattle.model.specs.Blocks.{Set, held, blocks, blockStop, lastGrower, blockOf}
 use Rattle.model.specs.Layouts.{endOf, firstOf, separatesNone, blockCounts}
 use Rattle.model.specs.Partitions.{startOf, between}
@@ -32,7 +32,7 @@ use Rattle.model.proofs.SetLaws.{Good, spot, past-early, past-last, sto
 -- The slots of a set as rows, and the lengths of its partitions.
 
 abbrev slotRows : Set → List Delivery
-slotRows s = rows (s .growers) (s .weights) (s .yields)
+slotRows s = rows (s .slices)
 
 abbrev lens : Set → List ℕ → List ℕ
 lens s ends = lengthsFrom s 0 ends
@@ -98,15 +98,15 @@ module _ (L : ℕ) (s : Set) (o : Good L s) where
 
   -- growers differ across an end
   differ : (e : ℕ) → e + 1 < blocks s → T (separatesNone s e)
-      → ((e + 1) * s .block < s .used) × (getD (s .growers) ((e + 1) * s .block - 1) 0 < getD (s .growers) ((e + 1) * s .block) 0)
+      → ((e + 1) * s .block < s .used) × (getD (s .slices .growers) ((e + 1) * s .block - 1) 0 < getD (s .slices .growers) ((e + 1) * s .block) 0)
   differ e h t =
       let k : (e + 2) * s .block ≤ blocks s * s .block = mul-le-mul-right (s .block) (omega arith) in
       let i : ℕ = (e + 1) * s .block in
       let w : i < s .used = omega (arith, k, ceil-most (s .used) (s .block) (o .b-least)) in
       let g = growers-rise L s o (i - 1) i (omega arith) w in
       let a : Bool = ltb i (s .used) in
-      let b : Bool = eqb (getD (s .growers) (i - 1) 0) (getD (s .growers) i 0) in
-      let n : getD (s .growers) (i - 1) 0 ≢ getD (s .growers) i 0 = λ q. T-not (a && b) t (and-mk a b (lt→ltb i (s .used) w) (eq→eqb _ _ q)) in
+      let b : Bool = eqb (getD (s .slices .growers) (i - 1) 0) (getD (s .slices .growers) i 0) in
+      let n : getD (s .slices .growers) (i - 1) 0 ≢ getD (s .slices .growers) i 0 = λ q. T-not (a && b) t (and-mk a b (lt→ltb i (s .used) w) (eq→eqb _ _ q)) in
       (w, omega arith)
 
   pub fences-rise : (f : ℕ) (ends : List ℕ) → Cut f ends (blocks s) → T (every (separatesNone s) ends) → T (rising (map (lastGrower s) ends))
@@ -119,7 +119,7 @@ module _ (L : ℕ) (s : Set) (o : Good L s) where
       let p = past-early L s o e (omega (arith, c .2 .0, c .2 .1)) in
       let k : (e + 2) * s .block ≤ (d + 1) * s .block = mul-le-mul-right (s .block) (omega (arith, c .2 .0)) in
       let g = growers-rise L s o ((e + 1) * s .block) (blockStop s d - 1) (omega (arith, w .0, o .b-least)) (omega (arith, o .m-least)) in
-      let q : lastGrower s e ≡ getD (s .growers) ((e + 1) * s .block - 1) 0 = ap (λ (n : ℕ). getD (s .growers) (n - 1) 0) p in
+      let q : lastGrower s e ≡ getD (s .slices .growers) ((e + 1) * s .block - 1) 0 = ap (λ (n : ℕ). getD (s .slices .growers) (n - 1) 0) p in
       and-mk (ltb (lastGrower s e) (lastGrower s d)) (rising (map (lastGrower s) (d ∷ es))) (lt→ltb (lastGrower s e) (lastGrower s d) (omega (arith, w .1)))
       (fences-rise (e + 1) (d ∷ es) (c .2) (and-snd (separatesNone s e) rest t))
 
@@ -156,14 +156,20 @@ module _ (L : ℕ) (s : Set) (o : Good L s) where
         let e : q + 1 - p ≡ suc m = omega arith in
         rw (map-take, map-drop, fresh-blocks-from 0 0 ends (omega arith) (l .cut), e) (span-sizes 0 ends (blocks s) p m q (l .cut) (omega arith) k)
 
-    -- every delivery scanned is in range
-    pub all-in-range : (p q : ℕ) → p ≤ q → q < length ends → T (every inRange (between (lens s ends) p q (slotRows s)))
-    all-in-range p q h k =
+    -- every delivery scanned passes a test that the set's pass: it is in range, and its day too
+    all-pass : (f : Delivery → Bool) → T (every f (held s)) → (p q : ℕ) → p ≤ q → q < length ends → T (every f (between (lens s ends) p q (slotRows s)))
+    all-pass f t p q h k =
         rw (between-is (lens s ends) p q (slotRows s))
-        (every-part inRange (startOf (lens s ends) p) (sumOf (take (q + 1 - p) (drop p (lens s ends)))) (s .used) (slotRows s) (omega (arith, stop-of p q h k)) (o .values-ok))
+        (every-part f (startOf (lens s ends) p) (sumOf (take (q + 1 - p) (drop p (lens s ends)))) (s .used) (slotRows s) (omega (arith, stop-of p q h k)) t)
+
+    pub all-in-range : (p q : ℕ) → p ≤ q → q < length ends → T (every inRange (between (lens s ends) p q (slotRows s)))
+    all-in-range = all-pass inRange (o .values-ok)
+
+    pub all-days-ok : (p q : ℕ) → p ≤ q → q < length ends → T (every dayOk (between (lens s ends) p q (slotRows s)))
+    all-days-ok = all-pass dayOk (o .days-ok)
 
     -- the slot of a grower lies in the grower's partition
-    pub lower : (g i p : ℕ) → i < s .used → getD (s .growers) i 0 ≡ g → Placed ends (blockOf s g) p → startOf (lens s ends) p ≤ i
+    pub lower : (g i p : ℕ) → i < s .used → getD (s .slices .growers) i 0 ≡ g → Placed ends (blockOf s g) p → startOf (lens s ends) p ≤ i
     lower g i zero h e c = rw start-zero (omega arith)
     lower g i (suc p) h e c = rw (start-next p (omega (arith, c .within))) (go (decLt i (blockStop s (endOf ends p))))
       where
@@ -174,7 +180,7 @@ module _ (L : ℕ) (s : Set) (o : Good L s) where
             let b = growers-rise L s o i (blockStop s (endOf ends p) - 1) (omega arith) (omega (arith, o .m-least)) in
             absurd (omega arith)
 
-    pub upper : (g i p : ℕ) → i < s .used → getD (s .growers) i 0 ≡ g → Placed ends (blockOf s g) p → i < blockStop s (endOf ends p)
+    pub upper : (g i p : ℕ) → i < s .used → getD (s .slices .growers) i 0 ≡ g → Placed ends (blockOf s g) p → i < blockStop s (endOf ends p)
     upper g i p h e c = go (ℕ-discrete (p + 1) (length ends)) (decLt i (blockStop s (endOf ends p)))
       where
         go : Dec (p + 1 ≡ length ends) → Dec (i < blockStop s (endOf ends p)) → i < blockStop s (endOf ends p)
@@ -188,7 +194,7 @@ module _ (L : ℕ) (s : Set) (o : Good L s) where
             let y : blockOf s g ≤ endOf ends p = c .here k in
             let a = spot L s o g .here (omega arith) in
             let b = lasts-rise L s o (blockOf s g) (endOf ends p) y in
-            let r : lastGrower s (endOf ends p) ≡ getD (s .growers) ((endOf ends p + 1) * s .block - 1) 0 = ap (λ (n : ℕ). getD (s .growers) (n - 1) 0) u in
+            let r : lastGrower s (endOf ends p) ≡ getD (s .slices .growers) ((endOf ends p + 1) * s .block - 1) 0 = ap (λ (n : ℕ). getD (s .slices .growers) (n - 1) 0) u in
             let f = growers-rise L s o ((endOf ends p + 1) * s .block) i (omega arith) h in
             absurd (omega (arith, x .1))
 
@@ -208,5 +214,5 @@ module _ (L : ℕ) (s : Set) (o : Good L s) where
         only : (i : ℕ) → i < s .used → i < length (slotRows s) → T (same d (getD (slotRows s) i nobody))
             → (startOf (lens s ends) p ≤ i) × (i < startOf (lens s ends) p + sumOf (take (p + 1 - p) (drop p (lens s ends))))
         only i h k t =
-            let q : getD (s .growers) i 0 ≡ d .grower = sym (ap (λ (r : Delivery). r .grower) (same-equal d (getD (slotRows s) i nobody) t) ∙ rows-grower (s .growers) (s .weights) (s .yields) i k) in
+            let q : getD (s .slices .growers) i 0 ≡ d .grower = sym (ap (λ (r : Delivery). r .grower) (same-equal d (getD (slotRows s) i nobody) t) ∙ rows-grower (s .slices) i k) in
             (lower (d .grower) i p h q c, omega (arith, e, upper (d .grower) i p h q c))

@@ -117,8 +117,8 @@ pub range-counts : (L : ℕ) (c : Column) (g : ℕ) → firstFailed (lentChecks 
 unfolding scannedFor
 range-counts L c g h =
     let c2 = yes-first 1 (directoryBlockOk L (c .directory)) _ h in
-    let c3 = yes-first 2 (slicesOk (c .growers) (c .weights) (c .yields)) _ (c2 .1) in
-    let c6 = yes-first 5 (directoryOk L (length (c .growers)) (c .directory)) _ (c3 .1) in
+    let c3 = yes-first 2 (slicesOk (c .slices)) _ (c2 .1) in
+    let c6 = yes-first 5 (directoryOk L (length (c .slices .growers)) (c .directory)) _ (c3 .1) in
     let s = shaped L _ _ (c6 .0) in
     let k : length (fencesOf L c) ≡ length (lengthsOf L c) = length-fences L _ _ s ∙ sym (length-lengths L _ _ s) in
     let there : target L c g < length (lengthsOf L c) = omega (arith, placed (fencesOf L c) g (omega (arith, length-fences L _ _ s, s .some)) .within) in

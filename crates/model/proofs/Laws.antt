@@ -1,6 +1,9 @@
 -- The laws that specs/Laws.antt states. Assumes nothing.
 use Prim.Native.Nat.{ℕ}
-use Rattle.model.specs.Laws.{BlocksInPartitions, FreshBlocks, KeepsRecords, KeepsPartitions, LeavesSlots, CommutesWithMap, SlicesMoveAsOne}
+use mathlib.Core.Path.{refl}
+use Rattle.model.specs.Histograms.{raises}
+use Rattle.model.specs.Accesses.{callCounts}
+use Rattle.model.specs.Laws.{BlocksInPartitions, FreshBlocks, KeepsRecords, KeepsPartitions, LeavesSlots, CommutesWithMap, SlicesMoveAsOne, DaysOfARange}
 use Rattle.model.specs.Laws.{CostAdds, LimitsArePrices, NearestIsFirst, CountsOfARange, SheetsAddUp, EveryLayoutListed, TotalOrder, AnswerUnique}
 use native.Mathlib.Omega.{arith}
 use Rattle.model.proofs.LayoutLaws.{laid, every-layout}
@@ -18,6 +21,7 @@ use Rattle.model.proofs.MovesBag.{insertAt-bag, deleteAt-bag, moveAt-ba
 use Rattle.model.proofs.MovesKeep.{insertAt-sound, deleteAt-sound, moveAt-sound}
 use Rattle.model.proofs.MovesAgain.{inserted-again, deleted-again, moved-again}
 use Rattle.model.proofs.SoundLaws.{everyAt-sound, sound-everyAt}
+use Rattle.model.proofs.DayLaws.{nothing-during, over-all-days}
 use Rattle.model.proofs.SliceLaws.{slots-inserted, slots-deleted, slots-moved}
 use lib.Dec.{T}
 
@@ -52,6 +56,10 @@ commutes-with-map f = record { insert = map-inserted f; delete = map-deleted f; 
 
 pub slices-move-as-one : SlicesMoveAsOne
 slices-move-as-one = record { insert = slots-inserted; delete = slots-deleted; move = slots-moved }
+
+pub days-of-a-range : DaysOfARange
+unfolding callCounts raises
+days-of-a-range = record { nothing = nothing-during; all-days = over-all-days; scanned = λ d lo hi s. refl; recorded = λ s lo hi days. refl }
 
 pub cost-adds : CostAdds
 cost-adds = cost-added

@@ -21,8 +21,8 @@ pub mod MovesKeep
 pub mod SoundLaws
 pub mod MovesLengths
 pub mod MovesAgain
-pub mod MovesRows
 pub mod SliceLaws
+pub mod DayLaws
 pub mod FieldLaws
 pub mod LineLaws
 pub mod BookLaws
@@ -44,3 +44,4 @@ pub mod CsvComputed
 pub mod GrowersComputed
 pub mod SheetsComputed
 pub mod ListingComputed
+pub mod DaysComputed

@@ -246,6 +246,30 @@ every-kept f p (x ∷ l) t = go (p x) (every-kept f p l (and-snd (f x) (every f 
     go true h = and-mk (f x) (every f (keep p l)) (and-fst (f x) (every f l) t) h
     go false h = h
 
+-- two tests one after the other are both at once, and in either order
+pub keep-both : {A : Type 0} (f g : A → Bool) (l : List A) → keep f (keep g l) ≡ keep (λ (x : A). f x && g x) l
+unfolding keep
+keep-both f g [] = refl
+keep-both {A} f g (x ∷ l) = rw (← keep-both f g l) (go (f x) (g x) refl)
+  where
+    go : (a b : Bool) → f x ≡ a → keep f (cond b (x ∷ keep g l) (keep g l)) ≡ cond (a && b) (x ∷ keep f (keep g l)) (keep f (keep g l))
+    go true true e = rw e
+    go false true e = rw e
+    go true false e = refl
+    go false false e = refl
+
+pub keep-swap : {A : Type 0} (f g : A → Bool) (l : List A) → keep f (keep g l) ≡ keep g (keep f l)
+unfolding keep
+keep-swap f g [] = refl
+keep-swap {A} f g (x ∷ l) = go (f x) (g x) refl refl (keep-swap f g l)
+  where
+    go : (a b : Bool) → f x ≡ a → g x ≡ b → keep f (keep g l) ≡ keep g (keep f l)
+        → keep f (cond b (x ∷ keep g l) (keep g l)) ≡ keep g (cond a (x ∷ keep f l) (keep f l))
+    go true true e k h = rw (e, k, h)
+    go true false e k h = rw (k, h)
+    go false true e k h = rw (e, h)
+    go false false e k h = h
+
 -- lists with the same elements in some order
 pub bag-length : {A : Type 0} {a b : List A} → List·Permᴰ a b → length a ≡ length b
 bag-length List·Permᴰ·nil = refl

@@ -13,9 +13,8 @@ use Rattle.model.specs.Bounds.{mostSlots, mostBlockLength}
 use Rattle.model.specs.Lists.{upFrom, every, neverFalls}
 use Rattle.model.specs.Checks.{ask, firstFailed}
 use Rattle.model.specs.Place.{place}
-use Rattle.model.specs.Deliveries.{inRange}
-use Rattle.model.specs.Blocks.{Set, held, blocks, blockStop, lastGrower, blockOf, blockLengthOk, slotsOk, slicesOk, usedOk, growersOk, valuesOk}
-use Rattle.model.specs.Lent.{Even}
+use Rattle.model.specs.Deliveries.{Slices, Even, inRange, dayOk}
+use Rattle.model.specs.Blocks.{Set, held, blocks, blockStop, lastGrower, blockOf, blockLengthOk, slotsOk, slicesOk, usedOk, growersOk, valuesOk, daysOk}
 use Rattle.model.specs.Layouts.{endOf, firstOf}
 use Rattle.model.specs.Questions.{setChecks}
 use Rattle.model.proofs.Tests.{and-fst, and-snd, and-mk, eq→eqb, yes-first}
@@ -25,59 +24,68 @@ use Rattle.model.proofs.LayoutLaws.{cut-count, cut-last, cut-early, Lai
 
 -- Check 3, taken apart.
 
-pub record Sliced (gs ws ys : List ℕ) : Type 0 where
-  pub even : Even gs ws ys
-  pub one : 1 ≤ length gs
-  pub most : length gs ≤ mostSlots
+pub record Sliced (s : Slices) : Type 0 where
+  pub even : Even s
+  pub one : 1 ≤ length (s .growers)
+  pub most : length (s .growers) ≤ mostSlots
 
-pub sliced : (gs ws ys : List ℕ) → T (slicesOk gs ws ys) → Sliced gs ws ys
+pub sliced : (s : Slices) → T (slicesOk s) → Sliced s
 unfolding slicesOk slotsOk
-sliced gs ws ys t =
-    let a = eqb (length ws) (length gs) in
-    let b = eqb (length ys) (length gs) in
-    let c = leb 1 (length gs) && leb (length gs) mostSlots in
-    let u = and-fst (a && b) c t in
-    let v = and-snd (a && b) c t in
+sliced s t =
+    let n : ℕ = length (s .growers) in
+    let a = eqb (length (s .weights)) n in
+    let b = eqb (length (s .yields)) n in
+    let d = eqb (length (s .days)) n in
+    let c = leb 1 n && leb n mostSlots in
+    let u = and-fst (a && b && d) c t in
+    let x = and-fst (a && b) d u in
+    let v = and-snd (a && b && d) c t in
     record {
-      even = record { weights = eqb→eq _ _ (and-fst a b u); yields = eqb→eq _ _ (and-snd a b u) };
-      one = leb→le _ _ (and-fst (leb 1 (length gs)) (leb (length gs) mostSlots) v);
-      most = leb→le _ _ (and-snd (leb 1 (length gs)) (leb (length gs) mostSlots) v);
+      even = record { weights = eqb→eq _ _ (and-fst a b x); yields = eqb→eq _ _ (and-snd a b x); days = eqb→eq _ _ (and-snd (a && b) d u) };
+      one = leb→le _ _ (and-fst (leb 1 n) (leb n mostSlots) v);
+      most = leb→le _ _ (and-snd (leb 1 n) (leb n mostSlots) v);
     }
 
-pub slices-pass : (gs ws ys : List ℕ) → Sliced gs ws ys → T (slicesOk gs ws ys)
+pub slices-pass : (s : Slices) → Sliced s → T (slicesOk s)
 unfolding slicesOk slotsOk
-slices-pass gs ws ys s =
-    and-mk (eqb (length ws) (length gs) && eqb (length ys) (length gs)) (leb 1 (length gs) && leb (length gs) mostSlots)
-    (and-mk (eqb (length ws) (length gs)) (eqb (length ys) (length gs)) (eq→eqb _ _ (s .even .weights)) (eq→eqb _ _ (s .even .yields)))
-    (and-mk (leb 1 (length gs)) (leb (length gs) mostSlots) (le→leb 1 (length gs) (s .one)) (le→leb (length gs) mostSlots (s .most)))
+slices-pass s k =
+    let n : ℕ = length (s .growers) in
+    let a = eqb (length (s .weights)) n in
+    let b = eqb (length (s .yields)) n in
+    let d = eqb (length (s .days)) n in
+    and-mk (a && b && d) (leb 1 n && leb n mostSlots) (and-mk (a && b) d (and-mk a b (eq→eqb _ _ (k .even .weights)) (eq→eqb _ _ (k .even .yields))) (eq→eqb _ _ (k .even .days)))
+    (and-mk (leb 1 n) (leb n mostSlots) (le→leb 1 n (k .one)) (le→leb n mostSlots (k .most)))
 
--- Checks 2 to 5 and 8 of the set, taken apart.
+-- Checks 2 to 5, 8 and 19 of the set, taken apart.
 
 module _ (L : ℕ) where
   pub record Good (s : Set) : Type 0 where
     pub block-ok : T (blockLengthOk (s .block))
-    pub slices-ok : T (slicesOk (s .growers) (s .weights) (s .yields))
+    pub slices-ok : T (slicesOk (s .slices))
     pub values-ok : T (every inRange (held s))
-    pub falls-not : T (neverFalls (take (s .used) (s .growers)))
+    pub days-ok : T (every dayOk (held s))
+    pub falls-not : T (neverFalls (take (s .used) (s .slices .growers)))
     pub b-least : 1 ≤ s .block
     pub m-least : 1 ≤ s .used
-    pub m-fits : s .used ≤ length (s .growers)
+    pub m-fits : s .used ≤ length (s .slices .growers)
     pub m-most : s .used ≤ L * s .block
 
-  pub good : (s : Set) → firstFailed (setChecks L s ++ ask 8 (valuesOk s) ∷ []) ≡ 0 → Good s
-  unfolding blockLengthOk slotsOk slicesOk usedOk growersOk valuesOk
+  pub good : (s : Set) → firstFailed (setChecks L s ++ ask 8 (valuesOk s) ∷ ask 19 (daysOk s) ∷ []) ≡ 0 → Good s
+  unfolding blockLengthOk slotsOk slicesOk usedOk growersOk valuesOk daysOk
   good s h =
-      let c = length (s .growers) in
+      let c = length (s .slices .growers) in
       let c2 = yes-first 1 (blockLengthOk (s .block)) _ h in
-      let c3 = yes-first 2 (slicesOk (s .growers) (s .weights) (s .yields)) _ (c2 .1) in
+      let c3 = yes-first 2 (slicesOk (s .slices)) _ (c2 .1) in
       let c4 = yes-first 3 (usedOk L s) _ (c3 .1) in
       let c5 = yes-first 4 (growersOk s) _ (c4 .1) in
       let c8 = yes-first 7 (valuesOk s) _ (c5 .1) in
+      let c19 = yes-first 18 (daysOk s) _ (c8 .1) in
       let u = and-fst (leb 1 (s .used) && leb (s .used) c) (leb (s .used) (L * s .block)) (c4 .0) in
       record {
         block-ok = c2 .0;
         slices-ok = c3 .0;
         values-ok = c8 .0;
+        days-ok = c19 .0;
         falls-not = c5 .0;
         b-least = leb→le _ _ (and-fst (leb 1 (s .block)) (leb (s .block) mostBlockLength) (c2 .0));
         m-least = leb→le _ _ (and-fst (leb 1 (s .used)) (leb (s .used) c) u);
@@ -158,10 +166,10 @@ module _ (L : ℕ) (s : Set) (o : Good L s) where
       omega arith
 
   -- growers never fall
-  pub growers-rise : (i j : ℕ) → i ≤ j → j < s .used → getD (s .growers) i 0 ≤ getD (s .growers) j 0
+  pub growers-rise : (i j : ℕ) → i ≤ j → j < s .used → getD (s .slices .growers) i 0 ≤ getD (s .slices .growers) j 0
   growers-rise i j h k =
-      let r = sorted (take (s .used) (s .growers)) i j (o .falls-not) h (rw (length-take-le (s .used) (s .growers) (o .m-fits)) k) in
-      rw (← getD-take (s .used) (s .growers) i 0 (omega arith), ← getD-take (s .used) (s .growers) j 0 k) r
+      let r = sorted (take (s .used) (s .slices .growers)) i j (o .falls-not) h (rw (length-take-le (s .used) (s .slices .growers) (o .m-fits)) k) in
+      rw (← getD-take (s .used) (s .slices .growers) i 0 (omega arith), ← getD-take (s .used) (s .slices .growers) j 0 k) r
 
   pub lasts-rise : (i j : ℕ) → i ≤ j → lastGrower s i ≤ lastGrower s j
   lasts-rise i j h = growers-rise (blockStop s i - 1) (blockStop s j - 1) (omega (arith, stop-mono s i j h)) (omega (arith, o .m-least))

@@ -5,7 +5,7 @@ use lib.ListN.{length, take, drop}
 use Rattle.model.specs.declared.Counts.{Counts}
 use Rattle.model.specs.Lists.{sumOf, ceilDiv}
 use Rattle.model.specs.Place.{place}
-use Rattle.model.specs.Calls.{Call, find, range, insert, delete, move}
+use Rattle.model.specs.Calls.{Call, find, range, rangeDays, insert, delete, move}
 use Rattle.model.specs.Directory.{Directory}
 
 abbrev pub counts : ℕ → ℕ → ℕ → Counts
@@ -48,10 +48,11 @@ apart p q = (p - q) + (q - p)
 unfoldable pub scanNear : Directory → ℕ → Counts
 scanNear d g = scanCounts d (place (d .fences) g) (place (d .fences) g)
 
--- what an accepted call reports
+-- what an accepted call reports; a range over days "scans .. as any range"
 unfoldable pub callCounts : Directory → Call → Counts
 callCounts d (find g) = scanNear d g
 callCounts d (range lo hi) = scanCounts d (place (d .fences) lo) (place (d .fences) hi)
+callCounts d (rangeDays lo hi s) = scanCounts d (place (d .fences) lo) (place (d .fences) hi)
 callCounts d (insert x) = let n : ℕ = onward d (place (d .fences) (x .grower)) in counts (1 + n) 0 (1 + n)
 callCounts d (delete x) = let n : ℕ = onward d (place (d .fences) (x .grower)) in andAlso (scanNear d (x .grower)) n (1 + n)
 callCounts d (move x g) =
@@ -62,6 +63,7 @@ callCounts d (move x g) =
 unfoldable pub missCounts : Directory → Call → Counts
 missCounts d (find g) = noCounts
 missCounts d (range lo hi) = noCounts
+missCounts d (rangeDays lo hi s) = noCounts
 missCounts d (insert x) = noCounts
 missCounts d (delete x) = scanNear d (x .grower)
 missCounts d (move x g) = scanNear d (x .grower)

@@ -12,6 +12,10 @@ mostWeight = 100000
 abbrev pub mostYield : ℕ
 mostYield = 10000
 
+-- a day number (02: Slip 7): "0 is 1 January 2000, 36,524 is 31 December 2099"
+abbrev pub mostDay : ℕ
+mostDay = 36524
+
 -- "three lent slices of one length C (1 to 262,144)"; a snapshot's "M is 0 to 262,144"
 abbrev pub mostSlots : ℕ
 mostSlots = 262144

@@ -7,21 +7,19 @@ use lib.Dec.{ltb, eqb}
 use Rattle.model.specs.declared.Delivery.{Delivery}
 use Rattle.model.specs.Lists.{sumOf, every}
 use Rattle.model.specs.Place.{place}
-use Rattle.model.specs.Deliveries.{rows, inRange, among}
+use Rattle.model.specs.Deliveries.{Slices, rows, inRange, dayOk, among}
 use Rattle.model.specs.Blocks.{Set, blockStop, lastGrower}
 use Rattle.model.specs.Partitions.{parts, between, everyAt}
 use Rattle.model.specs.Directory.{Directory, directoryOf}
 
--- what is lent to a call: the directory's numbers and the three slices
+-- what is lent to a call: the directory's numbers and the slices
 pub record Column : Type 0 where
   pub directory : List ℕ
-  pub growers : List ℕ
-  pub weights : List ℕ
-  pub yields : List ℕ
+  pub slices : Slices
 
 -- the slots as deliveries
 abbrev pub slots : Column → List Delivery
-slots c = rows (c .growers) (c .weights) (c .yields)
+slots c = rows (c .slices)
 
 -- partition p is grower g's: "the first partition whose fence is at least g, else .. the last"
 abbrev pub inPlace : List ℕ → ℕ → ℕ → Bool
@@ -57,15 +55,19 @@ module _ (L : ℕ) where
 
   -- check 6 of writing: "and sound?"
   unfoldable pub sound : Column → Bool
-  sound c = soundGrowers (lengthsOf c) (fencesOf c) (c .growers)
+  sound c = soundGrowers (lengthsOf c) (fencesOf c) (c .slices .growers)
 
   -- check 8: "in each partition scanned"
   unfoldable pub scannedOk : Column → ℕ → ℕ → Bool
   scannedOk c lo hi = every inRange (recordsOf c (target c lo) (target c hi))
 
+  -- check 19, likewise
+  unfoldable pub scannedDaysOk : Column → ℕ → ℕ → Bool
+  scannedDaysOk c lo hi = every dayOk (recordsOf c (target c lo) (target c hi))
+
   -- check 12: "is there a free slot?"
   unfoldable pub hasFreeSlot : Column → Bool
-  hasFreeSlot c = ltb (sumOf (lengthsOf c)) (length (c .growers))
+  hasFreeSlot c = ltb (sumOf (lengthsOf c)) (length (c .slices .growers))
 
   -- check 13: "is the delivery in the partition?"
   unfoldable pub hasDelivery : Column → Delivery → Bool

@@ -12,9 +12,9 @@ use Rattle.model.specs.declared.Applied.{Applied}
 use Rattle.model.specs.declared.PartitionSlice.{PartitionSlice}
 use Rattle.model.specs.Checks.{firstFailed}
 use Rattle.model.specs.Place.{place}
-use Rattle.model.specs.Deliveries.{delivery, noTotals, totalsBetween, firstMatch}
+use Rattle.model.specs.Deliveries.{delivery, withGrower, storing, noTotals, totalsBetween, totalsDuring, firstMatch}
 use Rattle.model.specs.Blocks.{Set}
-use Rattle.model.specs.Calls.{Call, find, range, insert, delete, move}
+use Rattle.model.specs.Calls.{Call, find, range, rangeDays, insert, delete, move}
 use Rattle.model.specs.Partitions.{startOf, oneMore, oneFewer}
 use Rattle.model.specs.Moves.{inserted, deleted, moved}
 use Rattle.model.specs.Directory.{Directory, directoryOf, directoryNumbers, noDirectory, withLengths}
@@ -27,18 +27,13 @@ pub record Called : Type 0 where
   pub answer : Answer
   pub column : Column
 
--- "the freed slot becomes 0, 0, 0"
+-- "the freed slot becomes 0, 0, 0"; 02, Slip 7: "a freed slot's day becomes 0"
 abbrev pub freed : Delivery
-freed = delivery 0 0 0
+freed = delivery 0 0 0 0
 
--- the three slices each changed by the one move f, which stores a number of d, and the lengths that the move leaves
+-- the slices each changed by the one move f, which stores a number of d, and the lengths that the move leaves
 unfoldable pub moveSlices : (ℕ → List ℕ → List ℕ) → Delivery → List ℕ → Column → Column
-moveSlices f d ns c = record {
-  directory = withLengths ns (c .directory);
-  growers = f (d .grower) (c .growers);
-  weights = f (d .weight) (c .weights);
-  yields = f (d .«oil_yield») (c .yields);
-}
+moveSlices f d ns c = record { directory = withLengths ns (c .directory); slices = storing f d (c .slices) }
 
 -- L is the block limit
 module _ (L : ℕ) where
@@ -52,7 +47,7 @@ module _ (L : ℕ) where
 
   -- the column that laying returns: the set's own slices under the layout's directory
   unfoldable pub laidColumn : Set → List ℕ → Column
-  laidColumn s ends = record { directory = applyCall s ends .directory; growers = s .growers; weights = s .weights; yields = s .yields }
+  laidColumn s ends = record { directory = applyCall s ends .directory; slices = s .slices }
 
   -- The five calls.
 
@@ -64,6 +59,7 @@ module _ (L : ℕ) where
   unfoldable pub callTotals : Column → Call → Totals
   callTotals c (find g) = totalsBetween g g (recordsNear L c g)
   callTotals c (range lo hi) = totalsBetween lo hi (recordsOf L c (target L c lo) (target L c hi))
+  callTotals c (rangeDays lo hi s) = totalsDuring lo hi s (recordsOf L c (target L c lo) (target L c hi))
   callTotals c (insert d) = noTotals
   callTotals c (delete d) = noTotals
   callTotals c (move d g) = noTotals
@@ -72,6 +68,7 @@ module _ (L : ℕ) where
   unfoldable pub columnAfter : Column → Call → Column
   columnAfter c (find g) = c
   columnAfter c (range lo hi) = c
+  columnAfter c (rangeDays lo hi s) = c
   columnAfter c (insert d) =
       let ns : List ℕ = lengthsOf L c in
       let t : ℕ = target L c (d .grower) in
@@ -84,7 +81,7 @@ module _ (L : ℕ) where
       let ns : List ℕ = lengthsOf L c in
       let t : ℕ = target L c (d .grower) in
       let u : ℕ = target L c g in
-      moveSlices (moved ns t (slotOf c d) u) (delivery g (d .weight) (d .«oil_yield»)) (oneMore u (oneFewer t ns)) c
+      moveSlices (moved ns t (slotOf c d) u) (withGrower g d) (oneMore u (oneFewer t ns)) c
 
   unfoldable pub columnRefusal : Column → Call → ℕ
   columnRefusal c k = firstFailed (columnChecks L c k)

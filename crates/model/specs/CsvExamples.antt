@@ -5,9 +5,9 @@ use mathlib.Core.Path.{_≡_}
 use mathlib.Core.Option.{none, some}
 use mathlib.Core.List.{List, [], _∷_, _++_ as _++ₗ_, map}
 use lib.ListN.{replicate}
-use Rattle.model.specs.Deliveries.{delivery}
+use Rattle.model.specs.Deliveries.{Slices, alike, delivery}
 use Rattle.model.specs.Text.{bytesOf}
-use Rattle.model.specs.Examples.{number}
+use Rattle.model.specs.Examples.{undated, number}
 use Rattle.model.specs.Fields.{taken}
 use Rattle.model.specs.Csv.{takeField, recordsOf}
 use Rattle.model.specs.Weighbridge.{numberIn, rowCount, csvText}
@@ -34,16 +34,16 @@ pub record CsvNumbers : Type 0 where
 
 -- a text imported into c slots that hold 7
 abbrev pub importOf : String → ℕ → ImportResult
-importOf t c = importCall (bytesOf t) (replicate c 7) (replicate c 7) (replicate c 7)
+importOf t c = importCall (bytesOf t) (alike (replicate c 7))
 
 abbrev pub importRefusal : String → ℕ → ℕ
 importRefusal t c = importOf t c .answer .refusal
 
 abbrev pub growersAfter : String → ℕ → List ℕ
-growersAfter t c = importOf t c .growers
+growersAfter t c = importOf t c .slices .growers
 
 abbrev pub yieldsAfter : String → ℕ → List ℕ
-yieldsAfter t c = importOf t c .yields
+yieldsAfter t c = importOf t c .slices .yields
 
 abbrev pub head : String
 head = "grower,weight,yield\r\n"
@@ -116,18 +116,22 @@ pub record CsvSlots : Type 0 where
   pub no-row-counted : rowCount (bytesOf head) ≡ 0
   pub bad-rows-counted : rowCount (bytesOf (head ++ "1\n\n2,\"")) ≡ 3
 
+-- two slots, the second with a weight out of range
+abbrev pub heavySecond : Slices
+heavySecond = undated (1 ∷ 2 ∷ []) (3 ∷ 100001 ∷ []) (4 ∷ 5 ∷ [])
+
 -- "the header line `grower,weight,yield` and, in that order, the first M slots .. with CRLF, unquoted (M 0 to C, else 4)"
 pub record CsvWritten : Type 0 where
   pub no-delivery : csvText [] ≡ bytesOf head
-  pub two-deliveries : csvText (delivery 4294967295 100000 10000 ∷ delivery 0 10 0 ∷ []) ≡ bytesOf (head ++ "4294967295,100000,10000\r\n0,10,0\r\n")
-  pub no-slot : exportCall 0 (1 ∷ []) (100001 ∷ []) (2 ∷ []) (replicate 22 7) ≡ record { answer = record { refusal = 0; bytes = 21 }; text = csvText [] ++ₗ 7 ∷ [] }
-  pub one-slot : exportCall 1 (1 ∷ 2 ∷ []) (3 ∷ 100001 ∷ []) (4 ∷ 5 ∷ []) (replicate 28 7) .answer ≡ record { refusal = 0; bytes = 28 }
-  pub one-byte-short : exportCall 1 (1 ∷ 2 ∷ []) (3 ∷ 100001 ∷ []) (4 ∷ 5 ∷ []) (replicate 27 7) ≡ record { answer = record { refusal = 15; bytes = 0 }; text = replicate 27 7 }
-  pub heavy : exportCall 2 (1 ∷ 2 ∷ []) (3 ∷ 100001 ∷ []) (4 ∷ 5 ∷ []) [] .answer .refusal ≡ 8
-  pub past-the-slots : exportCall 3 (1 ∷ 2 ∷ []) (3 ∷ 100001 ∷ []) (4 ∷ 5 ∷ []) [] .answer .refusal ≡ 4
-  pub no-slices : exportCall 3 [] [] [] [] .answer .refusal ≡ 3
+  pub two-deliveries : csvText (delivery 4294967295 100000 10000 0 ∷ delivery 0 10 0 36524 ∷ []) ≡ bytesOf (head ++ "4294967295,100000,10000\r\n0,10,0\r\n")
+  pub no-slot : exportCall 0 (undated (1 ∷ []) (100001 ∷ []) (2 ∷ [])) (replicate 22 7) ≡ record { answer = record { refusal = 0; bytes = 21 }; text = csvText [] ++ₗ 7 ∷ [] }
+  pub one-slot : exportCall 1 heavySecond (replicate 28 7) .answer ≡ record { refusal = 0; bytes = 28 }
+  pub one-byte-short : exportCall 1 heavySecond (replicate 27 7) ≡ record { answer = record { refusal = 15; bytes = 0 }; text = replicate 27 7 }
+  pub heavy : exportCall 2 heavySecond [] .answer .refusal ≡ 8
+  pub past-the-slots : exportCall 3 heavySecond [] .answer .refusal ≡ 4
+  pub no-slices : exportCall 3 (alike []) [] .answer .refusal ≡ 3
 
 -- The numbers of the checks that both calls put, in order.
 pub record CsvQuestions : Type 0 where
-  pub importing : (text gs ws ys : List ℕ) → map number (importChecks text gs ws ys) ≡ 3 ∷ 16 ∷ 17 ∷ 18 ∷ 12 ∷ []
-  pub exporting : (m room : ℕ) (gs ws ys : List ℕ) → map number (exportChecks m gs ws ys room) ≡ 3 ∷ 4 ∷ 8 ∷ 15 ∷ []
+  pub importing : (text : List ℕ) (s : Slices) → map number (importChecks text s) ≡ 3 ∷ 16 ∷ 17 ∷ 18 ∷ 12 ∷ []
+  pub exporting : (m room : ℕ) (s : Slices) → map number (exportChecks m s room) ≡ 3 ∷ 4 ∷ 8 ∷ 19 ∷ 15 ∷ []

@@ -3,7 +3,7 @@ use Prim.Native.Nat.{ℕ}
 use Prim.Native.String.{String, _++_}
 use mathlib.Core.Path.{_≡_}
 use mathlib.Core.List.{List, [], _∷_, map}
-use lib.ListN.{replicate}
+use lib.ListN.{length, replicate}
 use lib.IntN.{pos}
 use Rattle.model.specs.declared.Delivery.{Delivery}
 use Rattle.model.specs.declared.Totals.{Totals}
@@ -12,10 +12,11 @@ use Rattle.model.specs.declared.PriceCard.{PriceCard}
 use Rattle.model.specs.declared.Limits.{Limits}
 use Rattle.model.specs.Bounds.{blockLimit}
 use Rattle.model.specs.Checks.{Check}
+use Rattle.model.specs.Calendar.{Span}
 use Rattle.model.specs.Prices.{factory, limits}
-use Rattle.model.specs.Deliveries.{delivery, noTotals, firstMatch}
+use Rattle.model.specs.Deliveries.{Slices, slicesOf, delivery, noTotals, firstMatch}
 use Rattle.model.specs.Blocks.{Set, blocks}
-use Rattle.model.specs.Calls.{Call, find, range, insert, delete, move}
+use Rattle.model.specs.Calls.{Call, find, range, rangeDays, insert, delete, move}
 use Rattle.model.specs.Layouts.{mostPartitions}
 use Rattle.model.specs.Cost.{costOf}
 use Rattle.model.specs.Moves.{inserted, deleted, moved}
@@ -31,19 +32,24 @@ use Rattle.model.specs.ColumnCalls.{Called, laidColumn, columnCall}
 use Rattle.model.specs.Text.{bytesOf}
 use Rattle.model.specs.Program.{layplan}
 
+-- 01's deliveries have no day: each on day 0
+abbrev pub undated : List ℕ → List ℕ → List ℕ → Slices
+undated gs ws ys = slicesOf gs ws ys (replicate (length gs) 0)
+
 -- "B 2; growers 10, 20 up to 80, each 100 kg, yield 2000", and a free slot
 abbrev pub week : Set
 week = record {
   block = 2;
   used = 8;
-  growers = 10 ∷ 20 ∷ 30 ∷ 40 ∷ 50 ∷ 60 ∷ 70 ∷ 80 ∷ 0 ∷ [];
-  weights = 100 ∷ 100 ∷ 100 ∷ 100 ∷ 100 ∷ 100 ∷ 100 ∷ 100 ∷ 0 ∷ [];
-  yields = 2000 ∷ 2000 ∷ 2000 ∷ 2000 ∷ 2000 ∷ 2000 ∷ 2000 ∷ 2000 ∷ 0 ∷ [];
+  slices = undated
+      (10 ∷ 20 ∷ 30 ∷ 40 ∷ 50 ∷ 60 ∷ 70 ∷ 80 ∷ 0 ∷ [])
+      (100 ∷ 100 ∷ 100 ∷ 100 ∷ 100 ∷ 100 ∷ 100 ∷ 100 ∷ 0 ∷ [])
+      (2000 ∷ 2000 ∷ 2000 ∷ 2000 ∷ 2000 ∷ 2000 ∷ 2000 ∷ 2000 ∷ 0 ∷ []);
 }
 
 -- a delivery of that week
 abbrev pub of : ℕ → Delivery
-of g = delivery g 100 2000
+of g = delivery g 100 2000 0
 
 -- "five finds of 30, one insert of 15 (100, 2000)"
 abbrev pub calls : List Call
@@ -54,11 +60,11 @@ abbrev pub halves : List ℕ
 halves = 1 ∷ 3 ∷ []
 
 -- that column, with these lengths and slices
-abbrev pub columnWith : List ℕ → List ℕ → List ℕ → List ℕ → Column
-columnWith ns gs ws ys = record { directory = directoryNumbers blockLimit (record { block = 2; lengths = ns; fences = 40 ∷ 80 ∷ [] }); growers = gs; weights = ws; yields = ys }
+abbrev pub columnWith : List ℕ → Slices → Column
+columnWith ns s = record { directory = directoryNumbers blockLimit (record { block = 2; lengths = ns; fences = 40 ∷ 80 ∷ [] }); slices = s }
 
 abbrev pub thatColumn : Column
-thatColumn = columnWith (4 ∷ 4 ∷ []) (week .growers) (week .weights) (week .yields)
+thatColumn = columnWith (4 ∷ 4 ∷ []) (week .slices)
 
 -- an accepted call
 abbrev pub gives : Totals → Counts → Column → Called
@@ -87,18 +93,20 @@ pub record OnThatColumn : Type 0 where
   -- "range 40 to 50: 2 records, rr 1 sr 3"
   pub range-40-50 : columnCall blockLimit thatColumn (range 40 50) ≡ gives (totals 2 200 400000) (counts 1 3 0) thatColumn
   -- "insert 15: rr 3 rw 3; growers 10 20 30 40 15 60 70 80 50"
-  pub insert-15 : columnCall blockLimit thatColumn (insert (of 15)) ≡ gives noTotals (counts 3 0 3) (columnWith (5 ∷ 4 ∷ []) (10 ∷ 20 ∷ 30 ∷ 40 ∷ 15 ∷ 60 ∷ 70 ∷ 80 ∷ 50 ∷ []) (nine 100) (nine 2000))
+  pub insert-15 : columnCall blockLimit thatColumn (insert (of 15))
+      ≡ gives noTotals (counts 3 0 3) (columnWith (5 ∷ 4 ∷ []) (undated (10 ∷ 20 ∷ 30 ∷ 40 ∷ 15 ∷ 60 ∷ 70 ∷ 80 ∷ 50 ∷ []) (nine 100) (nine 2000)))
   -- "delete 30: rr 3 sr 1 rw 3; 10 20 40 80 50 60 70"
-  pub delete-30 : columnCall blockLimit thatColumn (delete (of 30)) ≡ gives noTotals (counts 3 1 3) (columnWith (3 ∷ 4 ∷ []) (10 ∷ 20 ∷ 40 ∷ 80 ∷ 50 ∷ 60 ∷ 70 ∷ 0 ∷ 0 ∷ []) (seven 100) (seven 2000))
+  pub delete-30 : columnCall blockLimit thatColumn (delete (of 30))
+      ≡ gives noTotals (counts 3 1 3) (columnWith (3 ∷ 4 ∷ []) (undated (10 ∷ 20 ∷ 40 ∷ 80 ∷ 50 ∷ 60 ∷ 70 ∷ 0 ∷ 0 ∷ []) (seven 100) (seven 2000)))
   -- "move 20 to 70: rr 3 sr 1 rw 3; 10 40 30 70 50 60 70 80"
   pub move-20-70 : columnCall blockLimit thatColumn (move (of 20) 70)
-      ≡ gives noTotals (counts 3 1 3) (columnWith (3 ∷ 5 ∷ []) (10 ∷ 40 ∷ 30 ∷ 70 ∷ 50 ∷ 60 ∷ 70 ∷ 80 ∷ 0 ∷ []) (eight 100) (eight 2000))
+      ≡ gives noTotals (counts 3 1 3) (columnWith (3 ∷ 5 ∷ []) (undated (10 ∷ 40 ∷ 30 ∷ 70 ∷ 50 ∷ 60 ∷ 70 ∷ 80 ∷ 0 ∷ []) (eight 100) (eight 2000)))
   -- "move 70 to 20: same counts; 10 20 30 40 20 60 50 80"
   pub move-70-20 : columnCall blockLimit thatColumn (move (of 70) 20)
-      ≡ gives noTotals (counts 3 1 3) (columnWith (5 ∷ 3 ∷ []) (10 ∷ 20 ∷ 30 ∷ 40 ∷ 20 ∷ 60 ∷ 50 ∷ 80 ∷ 0 ∷ []) (eight 100) (eight 2000))
+      ≡ gives noTotals (counts 3 1 3) (columnWith (5 ∷ 3 ∷ []) (undated (10 ∷ 20 ∷ 30 ∷ 40 ∷ 20 ∷ 60 ∷ 50 ∷ 80 ∷ 0 ∷ []) (eight 100) (eight 2000)))
   -- "move 20 to 25: rr 2 sr 1 rw 2"
   pub move-20-25 : columnCall blockLimit thatColumn (move (of 20) 25)
-      ≡ gives noTotals (counts 2 1 2) (columnWith (4 ∷ 4 ∷ []) (10 ∷ 40 ∷ 30 ∷ 25 ∷ 50 ∷ 60 ∷ 70 ∷ 80 ∷ 0 ∷ []) (eight 100) (eight 2000))
+      ≡ gives noTotals (counts 2 1 2) (columnWith (4 ∷ 4 ∷ []) (undated (10 ∷ 40 ∷ 30 ∷ 25 ∷ 50 ∷ 60 ∷ 70 ∷ 80 ∷ 0 ∷ []) (eight 100) (eight 2000)))
 
 -- "Three partitions also cost 35; one costs 40."
 pub record Costs : Type 0 where
@@ -167,9 +175,7 @@ pub record EmptyPartitions : Type 0 where
 abbrev pub threeParts : List ℕ → Column
 threeParts ns = record {
   directory = directoryNumbers blockLimit (record { block = 2; lengths = ns; fences = 10 ∷ 15 ∷ 80 ∷ [] });
-  growers = week .growers;
-  weights = week .weights;
-  yields = week .yields;
+  slices = week .slices;
 }
 
 pub record AllRecords : Type 0 where
@@ -195,18 +201,18 @@ abbrev pub refuses : ℕ → Counts → Called
 refuses n k = refusedOn thatColumn n k
 
 abbrev pub fullColumn : Column
-fullColumn = columnWith (4 ∷ 5 ∷ []) (nine 50) (nine 100) (nine 2000)
+fullColumn = columnWith (4 ∷ 5 ∷ []) (undated (nine 50) (nine 100) (nine 2000))
 
 pub record Refusals : Type 0 where
   -- "13 reports its scan"
   pub missing : columnCall blockLimit thatColumn (delete (of 31)) ≡ refuses 13 (counts 1 1 0)
   pub nowhere : columnCall blockLimit thatColumn (move (of 31) 20) ≡ refuses 13 (counts 1 1 0)
   pub backwards : columnCall blockLimit thatColumn (range 5 4) ≡ refuses 7 (counts 0 0 0)
-  pub heavy : columnCall blockLimit thatColumn (insert (delivery 15 100001 2000)) ≡ refuses 8 (counts 0 0 0)
+  pub heavy : columnCall blockLimit thatColumn (insert (delivery 15 100001 2000 0)) ≡ refuses 8 (counts 0 0 0)
   pub full : columnCall blockLimit fullColumn (insert (of 15)) .answer .refusal ≡ 12
   -- 8 goes ahead of 12 and of 13
-  pub heavy-and-full : columnCall blockLimit fullColumn (insert (delivery 15 100001 2000)) .answer .refusal ≡ 8
-  pub rich-and-missing : columnCall blockLimit thatColumn (delete (delivery 31 100 10001)) ≡ refuses 8 (counts 0 0 0)
+  pub heavy-and-full : columnCall blockLimit fullColumn (insert (delivery 15 100001 2000 0)) .answer .refusal ≡ 8
+  pub rich-and-missing : columnCall blockLimit thatColumn (delete (delivery 31 100 10001 0)) ≡ refuses 8 (counts 0 0 0)
   -- of two equal deliveries the lower slot goes
   pub lowest : firstMatch (of 20) (of 10 ∷ of 20 ∷ of 20 ∷ []) ≡ 1
 
@@ -239,21 +245,23 @@ number c = c .number
 
 -- The numbers of the checks that each call puts, in order.
 pub record QuestionsInOrder (L : ℕ) : Type 0 where
-  pub recorder : (s : Set) (hs : List ℕ) (c : Call) → map number (recorderChecks L s hs c) ≡ 2 ∷ 3 ∷ 4 ∷ 5 ∷ 7 ∷ 8 ∷ 9 ∷ 10 ∷ []
-  pub cost : (p : PriceCard) (s : Set) (ends hs : List ℕ) → map number (costChecks L p s ends hs) ≡ 1 ∷ 2 ∷ 3 ∷ 4 ∷ 5 ∷ 6 ∷ 8 ∷ 9 ∷ []
-  pub planner : (p : PriceCard) (l : Limits) (s : Set) (hs : List ℕ) (needed room : ℕ) → map number (plannerChecks L p l s hs needed room) ≡ 1 ∷ 2 ∷ 3 ∷ 4 ∷ 5 ∷ 8 ∷ 9 ∷ 11 ∷ 15 ∷ []
-  pub applying : (s : Set) (ends : List ℕ) → map number (applyChecks L s ends) ≡ 2 ∷ 3 ∷ 4 ∷ 5 ∷ 6 ∷ 8 ∷ []
-  pub finding : (c : Column) (g : ℕ) → map number (columnChecks L c (find g)) ≡ 2 ∷ 3 ∷ 6 ∷ 8 ∷ []
-  pub ranging : (c : Column) (lo hi : ℕ) → map number (columnChecks L c (range lo hi)) ≡ 2 ∷ 3 ∷ 6 ∷ 7 ∷ 8 ∷ []
-  pub inserting : (c : Column) (d : Delivery) → map number (columnChecks L c (insert d)) ≡ 2 ∷ 3 ∷ 6 ∷ 8 ∷ 12 ∷ []
-  pub deleting : (c : Column) (d : Delivery) → map number (columnChecks L c (delete d)) ≡ 2 ∷ 3 ∷ 6 ∷ 8 ∷ 13 ∷ []
-  pub moving : (c : Column) (d : Delivery) (g : ℕ) → map number (columnChecks L c (move d g)) ≡ 2 ∷ 3 ∷ 6 ∷ 8 ∷ 13 ∷ []
+  pub recorder : (s : Set) (hs : List ℕ) (c : Call) → map number (recorderChecks L s hs c) ≡ 2 ∷ 3 ∷ 4 ∷ 5 ∷ 7 ∷ 8 ∷ 19 ∷ 9 ∷ 10 ∷ []
+  pub cost : (p : PriceCard) (s : Set) (ends hs : List ℕ) → map number (costChecks L p s ends hs) ≡ 1 ∷ 2 ∷ 3 ∷ 4 ∷ 5 ∷ 6 ∷ 8 ∷ 19 ∷ 9 ∷ []
+  pub planner : (p : PriceCard) (l : Limits) (s : Set) (hs : List ℕ) (needed room : ℕ) → map number (plannerChecks L p l s hs needed room) ≡ 1 ∷ 2 ∷ 3 ∷ 4 ∷ 5 ∷ 8 ∷ 19 ∷ 9 ∷ 11 ∷ 15 ∷ []
+  pub applying : (s : Set) (ends : List ℕ) → map number (applyChecks L s ends) ≡ 2 ∷ 3 ∷ 4 ∷ 5 ∷ 6 ∷ 8 ∷ 19 ∷ []
+  pub finding : (c : Column) (g : ℕ) → map number (columnChecks L c (find g)) ≡ 2 ∷ 3 ∷ 6 ∷ 8 ∷ 19 ∷ []
+  pub ranging : (c : Column) (lo hi : ℕ) → map number (columnChecks L c (range lo hi)) ≡ 2 ∷ 3 ∷ 6 ∷ 7 ∷ 8 ∷ 19 ∷ []
+  pub ranging-days : (c : Column) (lo hi : ℕ) (s : Span) → map number (columnChecks L c (rangeDays lo hi s)) ≡ 2 ∷ 3 ∷ 6 ∷ 7 ∷ 8 ∷ 19 ∷ []
+  pub inserting : (c : Column) (d : Delivery) → map number (columnChecks L c (insert d)) ≡ 2 ∷ 3 ∷ 6 ∷ 8 ∷ 19 ∷ 12 ∷ []
+  pub deleting : (c : Column) (d : Delivery) → map number (columnChecks L c (delete d)) ≡ 2 ∷ 3 ∷ 6 ∷ 8 ∷ 19 ∷ 13 ∷ []
+  pub moving : (c : Column) (d : Delivery) (g : ℕ) → map number (columnChecks L c (move d g)) ≡ 2 ∷ 3 ∷ 6 ∷ 8 ∷ 19 ∷ 13 ∷ []
   pub partition : (ns gs : List ℕ) → map number (partitionChecks L ns gs) ≡ 2 ∷ 3 ∷ 6 ∷ []
-  pub writing : (c : Column) (room : ℕ) → map number (writeChecks L c room) ≡ 2 ∷ 3 ∷ 6 ∷ 6 ∷ 8 ∷ 15 ∷ []
-  pub reading : (text gs ws ys : List ℕ) → map number (readChecks L text gs ws ys) ≡ 3 ∷ 12 ∷ 14 ∷ []
+  pub writing : (c : Column) (room : ℕ) → map number (writeChecks L c room) ≡ 2 ∷ 3 ∷ 6 ∷ 6 ∷ 8 ∷ 19 ∷ 15 ∷ []
+  pub reading : (text : List ℕ) (s : Slices) → map number (readChecks L text s) ≡ 3 ∷ 12 ∷ 14 ∷ []
   pub tallying : (t : Tally) (n : Counts) → map number (tallyChecks t n) ≡ 10 ∷ []
   pub ledger-finding : (c : ℕ) (bag : List Delivery) (g : ℕ) → map number (ledgerChecks c bag (find g)) ≡ []
   pub ledger-ranging : (c : ℕ) (bag : List Delivery) (lo hi : ℕ) → map number (ledgerChecks c bag (range lo hi)) ≡ 7 ∷ []
-  pub ledger-inserting : (c : ℕ) (bag : List Delivery) (d : Delivery) → map number (ledgerChecks c bag (insert d)) ≡ 8 ∷ 12 ∷ []
-  pub ledger-deleting : (c : ℕ) (bag : List Delivery) (d : Delivery) → map number (ledgerChecks c bag (delete d)) ≡ 8 ∷ 13 ∷ []
-  pub ledger-moving : (c : ℕ) (bag : List Delivery) (d : Delivery) (g : ℕ) → map number (ledgerChecks c bag (move d g)) ≡ 8 ∷ 13 ∷ []
+  pub ledger-ranging-days : (c : ℕ) (bag : List Delivery) (lo hi : ℕ) (s : Span) → map number (ledgerChecks c bag (rangeDays lo hi s)) ≡ 7 ∷ 19 ∷ []
+  pub ledger-inserting : (c : ℕ) (bag : List Delivery) (d : Delivery) → map number (ledgerChecks c bag (insert d)) ≡ 8 ∷ 19 ∷ 12 ∷ []
+  pub ledger-deleting : (c : ℕ) (bag : List Delivery) (d : Delivery) → map number (ledgerChecks c bag (delete d)) ≡ 8 ∷ 19 ∷ 13 ∷ []
+  pub ledger-moving : (c : ℕ) (bag : List Delivery) (d : Delivery) (g : ℕ) → map number (ledgerChecks c bag (move d g)) ≡ 8 ∷ 19 ∷ 13 ∷ []

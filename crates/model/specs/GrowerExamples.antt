@@ -13,11 +13,11 @@ use Rattle.model.specs.Accesses.{counts, noCounts}
 use Rattle.model.specs.Questions.{growerChecks}
 use Rattle.model.specs.Growers.{Direction, up, down, nearest, nearestOf, holdsOne, path, upToFirst, countsScanned, scannedFor}
 use Rattle.model.specs.GrowerCalls.{growerAnswer, growerCall, ledgerGrower}
-use Rattle.model.specs.Examples.{number}
+use Rattle.model.specs.Examples.{undated, number}
 
 -- B 2 and fences 10, 20, 30, 40
 abbrev pub fourParts : List ℕ → List ℕ → List ℕ → List ℕ → Column
-fourParts ns gs ws ys = record { directory = directoryNumbers blockLimit (record { block = 2; lengths = ns; fences = 10 ∷ 20 ∷ 30 ∷ 40 ∷ [] }); growers = gs; weights = ws; yields = ys }
+fourParts ns gs ws ys = record { directory = directoryNumbers blockLimit (record { block = 2; lengths = ns; fences = 10 ∷ 20 ∷ 30 ∷ 40 ∷ [] }); slices = undated gs ws ys }
 
 -- growers 9, 0, 9; none; none; 40, 4294967295, 35, 35; and two free slots, which hold growers too
 abbrev pub gapped : List ℕ → Column
@@ -94,7 +94,7 @@ pub record GrowerPieces : Type 0 where
   pub path-down : path down 4 0 ≡ 0 ∷ []
   pub stops-at-once : upToFirst (λ (i : ℕ). true) (1 ∷ 2 ∷ []) ≡ 1 ∷ []
   pub never-stops : upToFirst (λ (i : ℕ). false) (1 ∷ 2 ∷ []) ≡ 1 ∷ 2 ∷ []
-  pub holds-himself : holdsOne down 5 (delivery 5 0 0 ∷ []) ≡ true
+  pub holds-himself : holdsOne down 5 (delivery 5 0 0 0 ∷ []) ≡ true
   pub holds-nothing : holdsOne down 5 [] ≡ false
   pub counts-empty : countsScanned (directoryOf blockLimit (gaps .directory)) (1 ∷ 2 ∷ []) ≡ noCounts
   pub counts-last : countsScanned (directoryOf blockLimit (gaps .directory)) (3 ∷ []) ≡ counts 1 1 0
@@ -104,4 +104,4 @@ pub record GrowerPieces : Type 0 where
 
 -- The numbers of the checks that both calls put, in order.
 pub record GrowerQuestions (L : ℕ) : Type 0 where
-  pub asked : (c : Column) (w : Direction) (g : ℕ) → map number (growerChecks L c w g) ≡ 2 ∷ 3 ∷ 6 ∷ 8 ∷ []
+  pub asked : (c : Column) (w : Direction) (g : ℕ) → map number (growerChecks L c w g) ≡ 2 ∷ 3 ∷ 6 ∷ 8 ∷ 19 ∷ []

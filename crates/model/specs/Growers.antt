@@ -7,7 +7,7 @@ use lib.Dec.{leb, ltb, eqb}
 use Rattle.model.specs.declared.Delivery.{Delivery}
 use Rattle.model.specs.declared.Counts.{Counts}
 use Rattle.model.specs.Lists.{sumOf, upFrom, every, keep}
-use Rattle.model.specs.Deliveries.{growerOf, inRange}
+use Rattle.model.specs.Deliveries.{growerOf, inRange, dayOk}
 use Rattle.model.specs.Partitions.{parts, part}
 use Rattle.model.specs.Directory.{Directory}
 use Rattle.model.specs.Column.{Column, slots, lengthsOf, fencesOf, target}
@@ -91,3 +91,7 @@ module _ (L : ℕ) where
   -- check 8: "in each partition scanned"
   unfoldable pub scannedForOk : Column → Direction → ℕ → Bool
   scannedForOk c w g = every inRange (recordsScanned c (scannedFor c w g))
+
+  -- check 19, likewise
+  unfoldable pub scannedForDaysOk : Column → Direction → ℕ → Bool
+  scannedForDaysOk c w g = every dayOk (recordsScanned c (scannedFor c w g))

@@ -8,7 +8,7 @@ use Rattle.model.specs.Bounds.{mostCount}
 use Rattle.model.specs.Lists.{upFrom, every}
 use Rattle.model.specs.Deliveries.{among}
 use Rattle.model.specs.Blocks.{Set, held, blockOf}
-use Rattle.model.specs.Calls.{Call, find, range, insert, delete, move}
+use Rattle.model.specs.Calls.{Call, find, range, rangeDays, insert, delete, move}
 
 -- "in the order pq, rs, re, sc, de, in, udf, utf, udb, utb" (`in` is a reserved word, so that one is `ins`)
 pub data Histogram : Type 0 where
@@ -48,10 +48,11 @@ rangeRaises a b = cond (eqb a b) (at pq a ∷ []) (spanRaises a b)
 unfoldable pub moveRaises : Set → ℕ → ℕ → List Entry
 moveRaises s g g' = cond (leb g g') (at udf (blockOf s g) ∷ at utf (blockOf s g') ∷ []) (at udb (blockOf s g) ∷ at utb (blockOf s g') ∷ [])
 
--- what a call raises; "if the set has no such delivery, pq at its grower's block instead"
+-- what a call raises; a range over days "is recorded as any range"; "if the set has no such delivery, pq at its grower's block instead"
 unfoldable pub raises : Set → Call → List Entry
 raises s (find g) = at pq (blockOf s g) ∷ []
 raises s (range lo hi) = rangeRaises (blockOf s lo) (blockOf s hi)
+raises s (rangeDays lo hi days) = rangeRaises (blockOf s lo) (blockOf s hi)
 raises s (insert d) = at ins (blockOf s (d .grower)) ∷ []
 raises s (delete d) = cond (among d (held s)) (at de (blockOf s (d .grower)) ∷ []) (at pq (blockOf s (d .grower)) ∷ [])
 raises s (move d g) = cond (among d (held s)) (moveRaises s (d .grower) g) (at pq (blockOf s (d .grower)) ∷ [])

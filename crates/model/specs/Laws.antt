@@ -11,28 +11,31 @@ use Rattle.model.specs.declared.Delivery.{Delivery}
 use Rattle.model.specs.declared.PriceCard.{PriceCard}
 use Rattle.model.specs.declared.Limits.{Limits}
 use Rattle.model.specs.Lists.{sumOf, keep, rising}
+use Rattle.model.specs.Bounds.{mostDay}
 use Rattle.model.specs.Checks.{ask, firstFailed}
 use Rattle.model.specs.Place.{place}
-use Rattle.model.specs.Deliveries.{totalsOf}
-use Rattle.model.specs.Blocks.{Set, blocks, lastGrower, blockOf, valuesOk}
+use Rattle.model.specs.Calendar.{Span, span}
+use Rattle.model.specs.Deliveries.{Even, noTotals, totalsOf, totalsDuring}
+use Rattle.model.specs.Blocks.{Set, blocks, lastGrower, blockOf, valuesOk, daysOk}
+use Rattle.model.specs.Calls.{range, rangeDays}
+use Rattle.model.specs.Histograms.{raises}
 use Rattle.model.specs.Prices.{pricesOk}
 use Rattle.model.specs.Layouts.{endOf, firstOf, partitionOf, isLayout, layoutOk, blockCounts, mostPartitions, longestPartition, permitted, everyLayout}
 use Rattle.model.specs.Cost.{costOf}
 use Rattle.model.specs.Plan.{comesBefore}
 use Rattle.model.specs.Partitions.{part, parts, free, everyAt, oneMore, oneFewer}
 use Rattle.model.specs.Moves.{insertAt, deleteAt, moveAt, inserted, deleted, moved}
-use Rattle.model.specs.Lent.{Even}
 use Rattle.model.specs.Directory.{Directory, directoryOf}
 use Rattle.model.specs.Column.{Column, slots, target, lengthsFrom}
-use Rattle.model.specs.Accesses.{blocksOf, scanCounts}
+use Rattle.model.specs.Accesses.{blocksOf, scanCounts, callCounts}
 use Rattle.model.specs.Growers.{Direction, up, down, atOrPast, GrowerCount, nearestOf, countsScanned, scannedFor, growersOf}
 use Rattle.model.specs.Sheet.{lineGrower, sheetLines, linesTotals}
 use Rattle.model.specs.Questions.{setChecks, lentChecks}
-use Rattle.model.specs.ColumnCalls.{moveSlices}
+use Rattle.model.specs.ColumnCalls.{moveSlices, columnCall}
 
--- checks 2 to 5 and 8 of the set are answered by yes
+-- checks 2 to 5, 8 and 19 of the set are answered by yes
 abbrev pub SetPasses : ℕ → Set → Type 0
-SetPasses L s = firstFailed (setChecks L s ++ ask 8 (valuesOk s) ∷ []) ≡ 0
+SetPasses L s = firstFailed (setChecks L s ++ ask 8 (valuesOk s) ∷ ask 19 (daysOk s) ∷ []) ≡ 0
 
 -- A grower's block lies in its partition, for every layout that parts no equal growers.
 pub record BlockInPartition (s : Set) (ends : List ℕ) (g : ℕ) : Type 0 where
@@ -74,18 +77,26 @@ pub record LeavesSlots (A : Type 0) : Type 0 where
   pub move : (ns : List ℕ) (s : List A) (t i u : ℕ) (x : A) → sumOf ns ≤ length s → t < length ns → u < length ns → i < getD ns t 0
       → CutAgain (oneMore u (oneFewer t ns)) (moved ns t i u x s) (moveAt t i u x (parts ns s)) (free ns s)
 
--- Each move commutes with map, so that the three slices move as one: the deliveries afterwards are the move of the deliveries.
+-- Each move commutes with map, so that the slices move as one: the deliveries afterwards are the move of the deliveries.
 pub record CommutesWithMap {A B : Type 0} (f : A → B) : Type 0 where
   pub insert : (ns : List ℕ) (t : ℕ) (x : A) (s : List A) → map f (inserted ns t x s) ≡ inserted ns t (f x) (map f s)
   pub delete : (ns : List ℕ) (t i : ℕ) (x : A) (s : List A) → map f (deleted ns t i x s) ≡ deleted ns t i (f x) (map f s)
   pub move : (ns : List ℕ) (t i u : ℕ) (x : A) (s : List A) → map f (moved ns t i u x s) ≡ moved ns t i u (f x) (map f s)
 
 pub record SlicesMoveAsOne : Type 0 where
-  pub insert : (c : Column) → Even (c .growers) (c .weights) (c .yields) → (ns : List ℕ) (t : ℕ) (d : Delivery) (ms : List ℕ) → slots (moveSlices (inserted ns t) d ms c) ≡ inserted ns t d (slots c)
-  pub delete : (c : Column) → Even (c .growers) (c .weights) (c .yields) → (ns : List ℕ) (t i : ℕ) (d : Delivery) (ms : List ℕ)
+  pub insert : (c : Column) → Even (c .slices) → (ns : List ℕ) (t : ℕ) (d : Delivery) (ms : List ℕ) → slots (moveSlices (inserted ns t) d ms c) ≡ inserted ns t d (slots c)
+  pub delete : (c : Column) → Even (c .slices) → (ns : List ℕ) (t i : ℕ) (d : Delivery) (ms : List ℕ)
       → slots (moveSlices (deleted ns t i) d ms c) ≡ deleted ns t i d (slots c)
-  pub move : (c : Column) → Even (c .growers) (c .weights) (c .yields) → (ns : List ℕ) (t i u : ℕ) (d : Delivery) (ms : List ℕ)
+  pub move : (c : Column) → Even (c .slices) → (ns : List ℕ) (t i u : ℕ) (d : Delivery) (ms : List ℕ)
       → slots (moveSlices (moved ns t i u) d ms c) ≡ moved ns t i u d (slots c)
+
+-- A range over days (02: Slip 7): "if the last is earlier, it matches nothing"; a range is the one over all days, since 19 is put of what it scans;
+-- "either way it scans and is recorded as any range".
+pub record DaysOfARange : Type 0 where
+  pub nothing : (lo hi : ℕ) (s : Span) (ds : List Delivery) → s .last < s .first → totalsDuring lo hi s ds ≡ noTotals
+  pub all-days : (L : ℕ) (c : Column) (lo hi : ℕ) → columnCall L c (rangeDays lo hi (span 0 mostDay)) ≡ columnCall L c (range lo hi)
+  pub scanned : (d : Directory) (lo hi : ℕ) (s : Span) → callCounts d (rangeDays lo hi s) ≡ callCounts d (range lo hi)
+  pub recorded : (s : Set) (lo hi : ℕ) (days : Span) → raises s (rangeDays lo hi days) ≡ raises s (range lo hi)
 
 -- two slices of counts, added count by count
 unfoldable pub addCounts : List ℕ → List ℕ → List ℕ

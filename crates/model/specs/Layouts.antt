@@ -38,7 +38,7 @@ isLayout n ends = leb 1 (length ends) && rising ends && eqb (endOf ends (length 
 
 -- end block e does not separate equal growers: the last of block e differs from the first of the next block, if there is one
 abbrev pub separatesNone : Set → ℕ → Bool
-separatesNone s e = not (ltb ((e + 1) * s .block) (s .used) && eqb (getD (s .growers) ((e + 1) * s .block - 1) 0) (getD (s .growers) ((e + 1) * s .block) 0))
+separatesNone s e = not (ltb ((e + 1) * s .block) (s .used) && eqb (getD (s .slices .growers) ((e + 1) * s .block - 1) 0) (getD (s .slices .growers) ((e + 1) * s .block) 0))
 
 -- check 6, of a layout: "counts in range, ends .. strictly rising, last end N - 1, no equal growers parted".
 -- A rising list whose last is N - 1 has at most N ends, and check 4 keeps N within the block limit.

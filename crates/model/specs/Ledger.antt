@@ -1,4 +1,4 @@
--- The ledger (01: the laid column): "a bag of at most C deliveries".
+-- The ledger (01: the laid column): "a bag of at most C deliveries". 02, Slip 7: "the ledger's deliveries have [the day] too".
 use Prim.Native.Nat.{ℕ}
 use mathlib.Core.Bool.{cond}
 use mathlib.Core.List.{List, [], _∷_}
@@ -6,8 +6,8 @@ use lib.Dec.{eqb}
 use Rattle.model.specs.declared.Delivery.{Delivery}
 use Rattle.model.specs.declared.Totals.{Totals}
 use Rattle.model.specs.Checks.{firstFailed}
-use Rattle.model.specs.Deliveries.{delivery, same, noTotals, totalsBetween}
-use Rattle.model.specs.Calls.{Call, find, range, insert, delete, move}
+use Rattle.model.specs.Deliveries.{same, withGrower, noTotals, totalsBetween, totalsDuring}
+use Rattle.model.specs.Calls.{Call, find, range, rangeDays, insert, delete, move}
 use Rattle.model.specs.Questions.{ledgerChecks}
 
 -- what a call answers, and the bag it leaves: "compared are refusal number, totals and bag"
@@ -24,12 +24,13 @@ removeOne d (r ∷ rs) = cond (same d r) rs (r ∷ removeOne d rs)
 -- "move changes one grower"
 unfoldable pub changeOne : Delivery → ℕ → List Delivery → List Delivery
 changeOne d g [] = []
-changeOne d g (r ∷ rs) = cond (same d r) (delivery g (d .weight) (d .«oil_yield») ∷ rs) (r ∷ changeOne d g rs)
+changeOne d g (r ∷ rs) = cond (same d r) (withGrower g d ∷ rs) (r ∷ changeOne d g rs)
 
 -- "find and range read"; "a find on it is a range from g to g"
 unfoldable pub ledgerTotals : List Delivery → Call → Totals
 ledgerTotals bag (find g) = totalsBetween g g bag
 ledgerTotals bag (range lo hi) = totalsBetween lo hi bag
+ledgerTotals bag (rangeDays lo hi s) = totalsDuring lo hi s bag
 ledgerTotals bag (insert d) = noTotals
 ledgerTotals bag (delete d) = noTotals
 ledgerTotals bag (move d g) = noTotals
@@ -38,6 +39,7 @@ ledgerTotals bag (move d g) = noTotals
 unfoldable pub bagAfter : List Delivery → Call → List Delivery
 bagAfter bag (find g) = bag
 bagAfter bag (range lo hi) = bag
+bagAfter bag (rangeDays lo hi s) = bag
 bagAfter bag (insert d) = d ∷ bag
 bagAfter bag (delete d) = removeOne d bag
 bagAfter bag (move d g) = changeOne d g bag

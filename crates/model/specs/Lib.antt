@@ -3,6 +3,8 @@ pub mod Bounds
 pub mod Lists
 pub mod Checks
 pub mod Place
+pub mod Calendar
+pub mod SettlementTerms
 pub mod Deliveries
 pub mod Blocks
 pub mod Calls
@@ -44,3 +46,4 @@ pub mod SnapshotExamples
 pub mod SheetExamples
 pub mod ListingExamples
 pub mod CsvExamples
+pub mod DayExamples

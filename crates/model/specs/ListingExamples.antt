@@ -19,15 +19,15 @@ use Rattle.model.specs.Questions.{listingChecks}
 use Rattle.model.specs.Recorder.{recordedFromZeros}
 use Rattle.model.specs.ListingCalls.{listed, listCall}
 use Rattle.model.specs.Text.{bytesOf}
-use Rattle.model.specs.Examples.{number, week, calls}
+use Rattle.model.specs.Examples.{undated, number, week, calls}
 
 -- n deliveries of n growers, a block each
 abbrev pub single : ℕ → Set
-single n = record { block = 1; used = n; growers = upFrom 1 n; weights = replicate n 0; yields = replicate n 0 }
+single n = record { block = 1; used = n; slices = undated (upFrom 1 n) (replicate n 0) (replicate n 0) }
 
 -- three deliveries in three blocks, the last two of one grower
 abbrev pub twoOfOne : Set
-twoOfOne = record { block = 1; used = 3; growers = 7 ∷ 9 ∷ 9 ∷ []; weights = 0 ∷ 0 ∷ 0 ∷ []; yields = 0 ∷ 0 ∷ 0 ∷ [] }
+twoOfOne = record { block = 1; used = 3; slices = undated (7 ∷ 9 ∷ 9 ∷ []) (0 ∷ 0 ∷ 0 ∷ []) (0 ∷ 0 ∷ 0 ∷ []) }
 
 -- what the main case's calls leave; and one end of a move forward in block 0, that no list of calls leaves alone
 abbrev pub recorded : List ℕ
@@ -80,4 +80,4 @@ pub record ListingComputed : Type 0 where
 
 -- 02's checks of a listing, in order
 pub record ListingQuestions (L : ℕ) : Type 0 where
-  pub asked : (p : PriceCard) (l : Limits) (s : Set) (hs : List ℕ) (room : ℕ) → map number (listingChecks L p l s hs room) ≡ 1 ∷ 2 ∷ 3 ∷ 4 ∷ 5 ∷ 8 ∷ 9 ∷ 23 ∷ 11 ∷ 15 ∷ []
+  pub asked : (p : PriceCard) (l : Limits) (s : Set) (hs : List ℕ) (room : ℕ) → map number (listingChecks L p l s hs room) ≡ 1 ∷ 2 ∷ 3 ∷ 4 ∷ 5 ∷ 8 ∷ 19 ∷ 9 ∷ 23 ∷ 11 ∷ 15 ∷ []

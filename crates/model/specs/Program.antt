@@ -10,7 +10,7 @@ use Rattle.model.specs.declared.Limits.{Limits}
 use Rattle.model.specs.Lists.{onlyIf, andThen, valueOr}
 use Rattle.model.specs.Bounds.{blockLimit, mostDeliveries, mostCalls}
 use Rattle.model.specs.Prices.{prices, limits}
-use Rattle.model.specs.Deliveries.{delivery}
+use Rattle.model.specs.Deliveries.{delivery, slicesOf}
 use Rattle.model.specs.Blocks.{Set}
 use Rattle.model.specs.Calls.{Call, find, range, insert, delete, move}
 use Rattle.model.specs.Histograms.{zeros}
@@ -26,6 +26,7 @@ pub record Week : Type 0 where
   pub calls : List Call
 
 -- a call's five numbers: "kind 1 find, 2 range, 3 insert, 4 delete, 5 move; grower or lo; weight or hi; yield; new grower; unused 0"
+-- 02, Slip 7: "old books, imports and `layplan` give day 0"
 unfoldable pub callOf : List ℕ → Option Call
 callOf ns =
     let a : ℕ = nth 1 ns in
@@ -34,9 +35,9 @@ callOf ns =
     let d : ℕ = nth 4 ns in
     cond (eqb (nth 0 ns) 1 && eqb b 0 && eqb c 0 && eqb d 0) (some (find a))
     (cond (eqb (nth 0 ns) 2 && eqb c 0 && eqb d 0) (some (range a b))
-    (cond (eqb (nth 0 ns) 3 && eqb d 0) (some (insert (delivery a b c)))
-    (cond (eqb (nth 0 ns) 4 && eqb d 0) (some (delete (delivery a b c)))
-    (onlyIf (eqb (nth 0 ns) 5) (move (delivery a b c) d)))))
+    (cond (eqb (nth 0 ns) 3 && eqb d 0) (some (insert (delivery a b c 0)))
+    (cond (eqb (nth 0 ns) 4 && eqb d 0) (some (delete (delivery a b c 0)))
+    (onlyIf (eqb (nth 0 ns) 5) (move (delivery a b c 0) d)))))
 
 unfoldable pub callsOf : List (List ℕ) → Option (List Call)
 callsOf [] = some []
@@ -47,7 +48,7 @@ abbrev pub withFreeSlot : ℕ → List (List ℕ) → List ℕ
 withFreeSlot j ls = map (nth j) ls ++ 0 ∷ []
 
 abbrev pub setOf : ℕ → ℕ → List (List ℕ) → Set
-setOf b m ls = record { block = b; used = m; growers = withFreeSlot 0 ls; weights = withFreeSlot 1 ls; yields = withFreeSlot 2 ls }
+setOf b m ls = record { block = b; used = m; slices = slicesOf (withFreeSlot 0 ls) (withFreeSlot 1 ls) (withFreeSlot 2 ls) (replicate (length ls + 1) 0) }
 
 -- "M is 1 to 1,024, Q 0 to 1,000"
 unfoldable pub sizesOk : ℕ → ℕ → Bool

@@ -1,4 +1,4 @@
--- The settlement sheet (02: Slip 4): its lines, its text, and the used slots in the order of its lines.
+-- The settlement sheet (02: Slip 4; of a term by Slip 7): its lines, its text, and the used slots in the order of its lines.
 use Prim.Native.Nat.{ℕ}
 use mathlib.Core.Bool.{cond}
 use mathlib.Core.List.{List, [], _∷_, _++_, map, flatten}
@@ -7,8 +7,10 @@ use lib.Dec.{ltb, eqb}
 use Rattle.model.specs.declared.Delivery.{Delivery}
 use Rattle.model.specs.declared.Totals.{Totals}
 use Rattle.model.specs.Lists.{sumOf, upFrom, keep}
-use Rattle.model.specs.Deliveries.{totalsOf, totalsBetween}
-use Rattle.model.specs.Column.{Column, allRecords}
+use Rattle.model.specs.Calendar.{Span, isIn}
+use Rattle.model.specs.SettlementTerms.{termOf}
+use Rattle.model.specs.Deliveries.{onDays, totalsOf, totalsBetween}
+use Rattle.model.specs.Column.{Column, lengthsOf, allRecords}
 use Rattle.model.specs.Growers.{growersOf}
 use Rattle.model.specs.Fields.{blank, lineEnd, justified}
 
@@ -71,6 +73,10 @@ sheetOf bag = flatten (map lineText (sheetLines bag)) ++ wideLine (totalsRow (to
 abbrev pub sheetText : ℕ → Column → List ℕ
 sheetText L c = sheetOf (allRecords L c)
 
+-- 02, Slip 7: the sheet "for the term that holds a given day, from that term's records alone"
+abbrev pub termSheetText : ℕ → Column → ℕ → List ℕ
+termSheetText L c n = sheetOf (keep (onDays (termOf n)) (allRecords L c))
+
 -- Slots by grower: those of each grower together, in the order in which they are listed, the growers in rising order.
 
 -- those of grower g among slots that hold the growers gs
@@ -83,3 +89,10 @@ byGrower gs is = flatten (map (slotsOf gs is) (eachOnce (map (λ (i : ℕ). getD
 -- the first m slots in rising order of grower, those of one grower in rising order
 abbrev pub slotsInOrder : List ℕ → ℕ → List ℕ
 slotsInOrder gs m = byGrower gs (upFrom 0 m)
+
+-- those of the first m slots whose day lies in a span; a term's records are in such slots
+abbrev pub slotsDuring : Span → List ℕ → ℕ → List ℕ
+slotsDuring s ns m = keep (λ (i : ℕ). isIn s (getD ns i 0)) (upFrom 0 m)
+
+abbrev pub termSlots : ℕ → Column → ℕ → List ℕ
+termSlots L c n = slotsDuring (termOf n) (c .slices .days) (sumOf (lengthsOf L c))

@@ -13,7 +13,7 @@ use Rattle.model.specs.Questions.{sheetChecks}
 use Rattle.model.specs.Sheet.{placedOnce, eachOnce, SheetLine, lineOf, sheetLines, linesTotals, wideField, wideLine, totalsRow, lineText, sheetOf, slotsOf, byGrower, slotsInOrder}
 use Rattle.model.specs.SheetCalls.{sheetCall, settlement}
 use Rattle.model.specs.Text.{bytesOf}
-use Rattle.model.specs.Examples.{number}
+use Rattle.model.specs.Examples.{undated, number}
 
 abbrev totals : ℕ → ℕ → ℕ → Totals
 totals r w o = record { records = r; weight = w; oil = o }
@@ -23,15 +23,13 @@ row g t = record { grower = g; totals = t }
 
 -- five deliveries of four growers, the least and the greatest number among them
 abbrev pub five : List Delivery
-five = delivery 30 100 2 ∷ delivery 10 5 1 ∷ delivery 4294967295 0 9 ∷ delivery 30 1 7 ∷ delivery 0 2 2 ∷ []
+five = delivery 30 100 2 0 ∷ delivery 10 5 1 0 ∷ delivery 4294967295 0 9 0 ∷ delivery 30 1 7 0 ∷ delivery 0 2 2 0 ∷ []
 
 -- two partitions with fences 20 and 30, of the lengths given, and a free slot
 abbrev pub laid : List ℕ → List ℕ → Column
 laid lens gs = record {
   directory = 2 ∷ 2 ∷ lens ++ replicate 62 0 ++ 20 ∷ 30 ∷ replicate 62 0;
-  growers = gs;
-  weights = 100 ∷ 200 ∷ 300 ∷ 400 ∷ 0 ∷ [];
-  yields = 1 ∷ 2 ∷ 3 ∷ 4 ∷ 0 ∷ [];
+  slices = undated gs (100 ∷ 200 ∷ 300 ∷ 400 ∷ 0 ∷ []) (1 ∷ 2 ∷ 3 ∷ 4 ∷ 0 ∷ []);
 }
 
 -- a record of grower 20 lies in his partition, or in the next
@@ -61,7 +59,7 @@ pub record SheetComputed : Type 0 where
   pub of-three : length (wideLine (totalsRow (totals 0 0 0))) ≡ 61
   -- "an empty column prints only a line of zeros"
   pub empty : sheetOf [] ≡ bytesOf "                   0                   0                   0" ++ 10 ∷ []
-  pub whole : sheetOf (delivery 9 300 1 ∷ delivery 7 100 20 ∷ delivery 7 50 2 ∷ [])
+  pub whole : sheetOf (delivery 9 300 1 0 ∷ delivery 7 100 20 0 ∷ delivery 7 50 2 0 ∷ [])
       ≡ bytesOf "                   7                   2                 150                2100" ++ 10 ∷
       bytesOf "                   9                   1                 300                 300" ++ 10 ∷ bytesOf "                   3                 450                2400" ++ 10 ∷ []
   pub no-slot : slotsOf (20 ∷ 10 ∷ 20 ∷ []) (0 ∷ 1 ∷ 2 ∷ []) 30 ≡ []
@@ -90,4 +88,4 @@ pub record SheetComputed : Type 0 where
 
 -- 02's checks of a sheet, in order
 pub record SheetQuestions (L : ℕ) : Type 0 where
-  pub asked : (c : Column) (room orderRoom workRoom : ℕ) → map number (sheetChecks L c room orderRoom workRoom) ≡ 2 ∷ 3 ∷ 6 ∷ 6 ∷ 8 ∷ 15 ∷ []
+  pub asked : (c : Column) (room orderRoom workRoom : ℕ) → map number (sheetChecks L c room orderRoom workRoom) ≡ 2 ∷ 3 ∷ 6 ∷ 6 ∷ 8 ∷ 19 ∷ 15 ∷ []

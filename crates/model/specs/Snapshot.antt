@@ -67,9 +67,9 @@ bookOk h b =
     && every inRange (b .deliveries)
     && soundGrowers (b .directory .lengths) (b .directory .fences) (map growerOf (b .deliveries))
 
--- the delivery of a line
+-- the delivery of a line: "old books .. give day 0"
 abbrev pub deliveryOf : List ℕ → Delivery
-deliveryOf l = delivery (nth 0 l) (nth 1 l) (nth 2 l)
+deliveryOf l = delivery (nth 0 l) (nth 1 l) (nth 2 l) 0
 
 -- the book of a header, its partition lines and its delivery lines
 abbrev pub bookOf : Header → List (List ℕ) → List (List ℕ) → Book

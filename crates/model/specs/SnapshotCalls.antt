@@ -8,7 +8,7 @@ use lib.Dec.{eqb}
 use Rattle.model.specs.declared.Delivery.{Delivery}
 use Rattle.model.specs.declared.Written.{Written}
 use Rattle.model.specs.Checks.{firstFailed}
-use Rattle.model.specs.Deliveries.{growerOf, weightOf, yieldOf}
+use Rattle.model.specs.Deliveries.{Slices, slicesFor, eachSlice, joined}
 use Rattle.model.specs.Directory.{directoryNumbers, noDirectory}
 use Rattle.model.specs.Column.{Column}
 use Rattle.model.specs.Snapshot.{Book, snapshotText, readBook}
@@ -28,6 +28,10 @@ pub record ReadResult : Type 0 where
 abbrev pub slotsRead : (Delivery → ℕ) → List Delivery → List ℕ → List ℕ
 slotsRead f ds old = map f ds ++ drop (length ds) old
 
+-- the slices afterwards
+abbrev pub slicesRead : List Delivery → Slices → Slices
+slicesRead ds old = joined (slicesFor ds) (eachSlice (drop (length ds)) old)
+
 -- L is the block limit
 module _ (L : ℕ) where
   -- "bytes .. past what is written stay"
@@ -40,17 +44,12 @@ module _ (L : ℕ) where
       (record { answer = record { refusal = n; bytes = 0 }; text = out })
 
   -- the column of a book
-  unfoldable pub columnRead : Option Book → List ℕ → List ℕ → List ℕ → Column
-  columnRead none gs ws ys = record { directory = noDirectory L; growers = gs; weights = ws; yields = ys }
-  columnRead (some b) gs ws ys = record {
-    directory = directoryNumbers L (b .directory);
-    growers = slotsRead growerOf (b .deliveries) gs;
-    weights = slotsRead weightOf (b .deliveries) ws;
-    yields = slotsRead yieldOf (b .deliveries) ys;
-  }
+  unfoldable pub columnRead : Option Book → Slices → Column
+  columnRead none s = record { directory = noDirectory L; slices = s }
+  columnRead (some b) s = record { directory = directoryNumbers L (b .directory); slices = slicesRead (b .deliveries) s }
 
   -- "the directory of a refused .. reading all 0"
-  unfoldable pub readCall : List ℕ → List ℕ → List ℕ → List ℕ → ReadResult
-  readCall text gs ws ys =
-      let n : ℕ = firstFailed (readChecks L text gs ws ys) in
-      record { refusal = n; column = columnRead (cond (eqb n 0) (readBook L text) none) gs ws ys }
+  unfoldable pub readCall : List ℕ → Slices → ReadResult
+  readCall text s =
+      let n : ℕ = firstFailed (readChecks L text s) in
+      record { refusal = n; column = columnRead (cond (eqb n 0) (readBook L text) none) s }

@@ -6,6 +6,7 @@ use mathlib.Core.Option.{none, some}
 use mathlib.Core.List.{_∷_, []}
 use lib.ListN.{take, drop, replicate}
 use lib.IntN.{pos, negsuc}
+use Rattle.model.specs.Deliveries.{alike}
 use Rattle.model.specs.Fields.{numberField, signedField, readField}
 use Rattle.model.specs.SnapshotCalls.{writeCall, readCall}
 use Rattle.model.specs.Text.{bytesOf}
@@ -29,7 +30,7 @@ pub record NumberFields : Type 0 where
 
 -- the refusal of a text that is read into c slots
 abbrev pub refusalFor : ℕ → String → ℕ
-refusalFor c t = readCall 64 (bytesOf t) (replicate c 7) (replicate c 7) (replicate c 7) .refusal
+refusalFor c t = readCall 64 (bytesOf t) (alike (replicate c 7)) .refusal
 
 -- lines that several texts below share
 abbrev pub oneEmpty : String
@@ -76,5 +77,5 @@ pub record BooksWritten : Type 0 where
   pub past : drop 352 (writeCall 64 thatColumn (replicate 354 7) .text) ≡ 7 ∷ 7 ∷ []
   pub just-room : writeCall 64 thatColumn (replicate 352 7) .answer .refusal ≡ 0
   pub one-byte-short : writeCall 64 thatColumn (replicate 351 7) ≡ record { answer = record { refusal = 15; bytes = 0 }; text = replicate 351 7 }
-  pub read-again : readCall 64 (bytesOf thatText) (thatColumn .growers) (thatColumn .weights) (thatColumn .yields) ≡ record { refusal = 0; column = thatColumn }
-  pub unsound : writeCall 64 (columnWith (3 ∷ 5 ∷ []) (thatColumn .growers) (thatColumn .weights) (thatColumn .yields)) [] .answer .refusal ≡ 6
+  pub read-again : readCall 64 (bytesOf thatText) (thatColumn .slices) ≡ record { refusal = 0; column = thatColumn }
+  pub unsound : writeCall 64 (columnWith (3 ∷ 5 ∷ []) (thatColumn .slices)) [] .answer .refusal ≡ 6

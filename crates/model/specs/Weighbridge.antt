@@ -70,14 +70,14 @@ fieldAt i fs = getD fs i []
 abbrev pub numberNamed : Bytes → ℕ → List Bytes → List Bytes → Option ℕ
 numberNamed name most header fs = numberIn most (fieldAt (columnNamed name header) fs)
 
--- a row's delivery; 18: "a row has another field count, .. or a number out of range"
+-- a row's delivery, on day 0 (02, Slip 7: "imports .. give day 0"); 18: "a row has another field count, .. or a number out of range"
 unfoldable pub rowOf : List Bytes → List Bytes → Option Delivery
 rowOf header fs =
     andThen (onlyIf (eqb (length fs) (length header)) fs) (λ fs.
     andThen (numberNamed growerName mostNumber header fs) (λ g.
     andThen (numberNamed weightName mostWeight header fs) (λ w.
     andThen (numberNamed yieldName mostYield header fs) (λ y.
-    some (delivery g w y)))))
+    some (delivery g w y 0)))))
 
 -- the deliveries of all rows, if each is good; 18: ".. a broken quote"
 unfoldable pub rowsOf : List Bytes → List (Option (List Bytes)) → Option (List Delivery)

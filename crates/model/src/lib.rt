@@ -18,6 +18,8 @@ pub const MOST_BLOCK_LENGTH: u32 = 4096;
 pub const MOST_WEIGHT: u32 = 100000;
 
 pub const MOST_YIELD: u32 = 10000;
+// The greatest day number (02: 31 December 2099).
+pub const MOST_DAY: u32 = 36524;
 // The greatest count, price, limit and number of a tally.
 pub const MOST_COUNT: u32 = 1000000;
 
@@ -68,12 +70,13 @@ const HISTOGRAM_COUNT: usize = 10;
 
 pub const HISTOGRAMS_SIZE: usize = HISTOGRAM_COUNT * BLOCK_LIMIT;
 
-// One delivery (01: a grower number, a weight in kg, an oil yield in hundredths of a per cent).
+// One delivery (01: a grower number, a weight in kg, an oil yield in hundredths of a per cent; 02: a day number).
 #[repr(C)]
 pub struct Delivery {
     pub grower: u32,
     pub weight: u32,
     pub oil_yield: u32,
+    pub day: u32,
 }
 
 // The prices of a random read, a sequential read and a random write (01: the card).

@@ -1,6 +1,6 @@
 -- What it says that the checks of a plan and of a cost are passed. Assumes nothing.
 use Prim.Native.Nat.{ℕ, _+_, _-_, _/_, _≤_, _<_}
-use mathlib.Core.Path.{_≡_, refl, ap, _∙_}
+use mathlib.Core.Path.{_≡_, refl, ap₂, _∙_}
 use mathlib.Core.Bool.{Bool, true, false, not, _&&_, and-true}
 use mathlib.Core.List.{List, [], _∷_, _++_}
 use native.Mathlib.Omega.{arith}
@@ -11,7 +11,7 @@ use Rattle.model.specs.declared.PriceCard.{PriceCard}
 use Rattle.model.specs.declared.Limits.{Limits}
 use Rattle.model.specs.Checks.{Check, ask, firstFailed}
 use Rattle.model.specs.Prices.{priceOk, pricesOk, limitsOk}
-use Rattle.model.specs.Blocks.{Set, blocks, valuesOk}
+use Rattle.model.specs.Blocks.{Set, blocks, valuesOk, daysOk}
 use Rattle.model.specs.Histograms.{countsOk}
 use Rattle.model.specs.Layouts.{layoutOk, separatesNone, longestPartition}
 use Rattle.model.specs.Plan.{permittedLayouts}
@@ -41,10 +41,14 @@ module _ (p : PriceCard) where
   rw-left e f = rw (e, f)
 
 module _ (L : ℕ) (s : Set) where
-  -- 7 asks nothing here, and no values are offered
-  pub counted-given : (hs : List ℕ) → firstFailed (countedChecks L s hs true true) ≡ firstFailed (setChecks L s ++ ask 8 (valuesOk s) ∷ ask 9 (countsOk L hs) ∷ [])
+  -- the set's checks of values and days, by their answers, and 9
+  abbrev valued : List ℕ → Bool → Bool → List Check
+  valued hs values days = setChecks L s ++ ask 8 values ∷ ask 19 days ∷ ask 9 (countsOk L hs) ∷ []
+
+  -- 7 asks nothing here, and no values and no days are offered
+  pub counted-given : (hs : List ℕ) → firstFailed (countedChecks L s hs true true true) ≡ firstFailed (valued hs (valuesOk s) (daysOk s))
   unfolding firstFailed
-  counted-given hs = ap (λ (b : Bool). firstFailed (setChecks L s ++ ask 8 b ∷ ask 9 (countsOk L hs) ∷ [])) (and-true (valuesOk s))
+  counted-given hs = ap₂ (λ (b d : Bool). firstFailed (valued hs b d)) (and-true (valuesOk s)) (and-true (daysOk s))
 
   -- what comes after the checks of a layout
   pub apply-passed : (ends : List ℕ) (cs : List Check) → firstFailed (applyChecks L s ends) ≡ 0 → firstFailed (applyChecks L s ends ++ cs) ≡ firstFailed cs
@@ -54,7 +58,7 @@ module _ (L : ℕ) (s : Set) where
 -- what the checks of a plan and of a cost have in common
 pub record Given (L : ℕ) (p : PriceCard) (s : Set) (hs : List ℕ) : Type 0 where
   pub prices : PricesPass p
-  pub size : Sized L (s .block) (s .used) (length (s .growers))
+  pub size : Sized L (s .block) (s .used) (length (s .slices .growers))
   pub counts : Counted L hs
   pub some : 1 ≤ blocks s
   pub few : blocks s ≤ L
@@ -72,7 +76,8 @@ module _ (L : ℕ) (p : PriceCard) (s : Set) (hs : List ℕ) where
       let c5 = set-first L s _ (c1 .1) in
       let c6 = yes-first 5 (layoutOk s ends) _ (c5 .1) in
       let c8 = yes-first 7 (valuesOk s) _ (c6 .1) in
-      let c9 = yes-first 8 (countsOk L hs) _ (c8 .1) in
+      let c19 = yes-first 18 (daysOk s) _ (c8 .1) in
+      let c9 = yes-first 8 (countsOk L hs) _ (c19 .1) in
       (given (c1 .0) (c5 .0) (c9 .0), c6 .0)
 
   module _ (l : Limits) where
@@ -81,7 +86,8 @@ module _ (L : ℕ) (p : PriceCard) (s : Set) (hs : List ℕ) where
         let c1 = yes-first 0 (pricesOk p && limitsOk l) _ h in
         let c5 = set-first L s _ (c1 .1) in
         let c8 = yes-first 7 (valuesOk s) _ (c5 .1) in
-        let c9 = yes-first 8 (countsOk L hs) _ (c8 .1) in
+        let c19 = yes-first 18 (daysOk s) _ (c8 .1) in
+        let c9 = yes-first 8 (countsOk L hs) _ (c19 .1) in
         given (and-fst (pricesOk p) (limitsOk l) (c1 .0)) (c5 .0) (c9 .0)
 
     -- 11 and 15 after the others
@@ -111,5 +117,5 @@ module _ (block used : ℕ) (growers : List ℕ) where
   marked-start old = record { long = refl; here = λ x g. absurd (omega arith) }
 
   pub marked-more : (i : ℕ) (v : Bool) (old fits : List Bool) → Marked block used growers i old fits → i < length old
-      → v ≡ separatesNone (setOf block used growers [] []) i → Marked block used growers (i + 1) old (set fits i v)
+      → v ≡ separatesNone (setOf block used growers [] [] []) i → Marked block used growers (i + 1) old (set fits i v)
   marked-more i v old fits l g e = record { long = length-set fits i v ∙ l .long; here = stored-more _ false v i fits (omega (arith, l .long)) e (l .here) }

@@ -57,7 +57,7 @@ fn given_ok(card: PriceCard, limits: Limits) -> bool
     limits_ok(limits)
 }
 
-// Checks 1, 2, 3, 4, 5, 8 and 9 of the planner and of the listing.
+// Checks 1, 2, 3, 4, 5, 8, 19 and 9 of the planner and of the listing.
 pub fn plan_refusal(
     card: PriceCard,
     limits: Limits,
@@ -66,9 +66,10 @@ pub fn plan_refusal(
     growers: &[u32],
     weights: &[u32],
     yields: &[u32],
+    days: &[u32],
     histograms: &[u32],
 ) -> u32
-    ensures { λ r. ⌜ r ≡ firstFailed (givenChecks blockLimit card limits (setIn block used growers weights yields)
+    ensures { λ r. ⌜ r ≡ firstFailed (givenChecks blockLimit card limits (setIn block used growers weights yields days)
         (now (histograms .entry))) ⌝ }
 {
     if !given_ok(card, limits) {
@@ -81,6 +82,8 @@ pub fn plan_refusal(
         growers,
         weights,
         yields,
+        days,
+        true,
         true,
         true,
     )

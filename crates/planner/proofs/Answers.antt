@@ -111,7 +111,7 @@ module _ (L : ℕ) (p : PriceCard) (l : Limits) (s : Set) (hs out : List ℕ) wh
     -- the search's answer, where n, longest and most are what they must be
     pub answered-plan : (n longest most : ℕ) (sums : List ℕ) (were fits : List Bool) (new : List ℕ) (r : Planned)
         → n ≡ blocks s → longest ≡ longestPartition p l → most ≡ mostPartitions p l → 1 ≤ blocks s
-        → Summed L p hs ((n + 1) * sumsPerPlace) sums → Marked (s .block) (s .used) (s .growers) n were fits → Answered (taskOf sums fits longest n) most out new r
+        → Summed L p hs ((n + 1) * sumsPerPlace) sums → Marked (s .block) (s .used) (s .slices .growers) n were fits → Answered (taskOf sums fits longest n) most out new r
         → _≡_ {A = PlanResult} (record { answer = r; ends = new }) (planCall L p l s hs out)
     answered-plan n longest most sums were fits new r a b c few added marks h =
         let w : Ready L p s hs sums fits = record { summed = rw a at added; flagged = flagged s n were fits a few marks } in

@@ -26,7 +26,7 @@ const FEW_BLOCKS: usize = 32;
 
 const SMALL_TABLE: usize = 2 * FEW_BLOCKS * FEW_BLOCKS;
 
-// Checks 1, 2, 3, 4, 5, 6, 8 and 9 of a cost.
+// Checks 1, 2, 3, 4, 5, 6, 8, 19 and 9 of a cost.
 fn cost_refusal(
     card: PriceCard,
     block: u32,
@@ -34,16 +34,17 @@ fn cost_refusal(
     growers: &[u32],
     weights: &[u32],
     yields: &[u32],
+    days: &[u32],
     ends: &[u32],
     histograms: &[u32],
 ) -> u32
-    ensures { λ r. ⌜ r ≡ firstFailed (costChecks blockLimit card (setIn block used growers weights yields)
+    ensures { λ r. ⌜ r ≡ firstFailed (costChecks blockLimit card (setIn block used growers weights yields days)
         (now (ends .entry)) (now (histograms .entry))) ⌝ }
 {
     if !permitted::prices_ok(card) {
         return 1;
     }
-    let n = sets::layout_refusal(block, used, growers, weights, yields, ends);
+    let n = sets::layout_refusal(block, used, growers, weights, yields, days, ends);
     if n != 0 {
         return n;
     }
@@ -83,11 +84,12 @@ pub fn plan(
     growers: &[u32],
     weights: &[u32],
     yields: &[u32],
+    days: &[u32],
     histograms: &[u32],
     ends: &mut [u32],
 ) -> Planned
     ensures { λ r. ⌜ record { answer = r; ends = now (ends .exit) }
-        ≡ planCall blockLimit card limits (setIn block used growers weights yields)
+        ≡ planCall blockLimit card limits (setIn block used growers weights yields days)
         (now (histograms .entry)) (now (ends .entry)) ⌝ }
 {
     let refusal = permitted::plan_refusal(
@@ -98,6 +100,7 @@ pub fn plan(
         growers,
         weights,
         yields,
+        days,
         histograms,
     );
     if refusal != 0 {
@@ -121,10 +124,11 @@ pub fn cost(
     growers: &[u32],
     weights: &[u32],
     yields: &[u32],
+    days: &[u32],
     ends: &[u32],
     histograms: &[u32],
 ) -> Costed
-    ensures { λ r. ⌜ r ≡ costCall blockLimit card (setIn block used growers weights yields)
+    ensures { λ r. ⌜ r ≡ costCall blockLimit card (setIn block used growers weights yields days)
         (now (ends .entry)) (now (histograms .entry)) ⌝ }
 {
     let refusal = cost_refusal(
@@ -134,6 +138,7 @@ pub fn cost(
         growers,
         weights,
         yields,
+        days,
         ends,
         histograms,
     );

@@ -1,6 +1,6 @@
 -- What a recorder call answers: the checks ahead of 10, and the slots of each call. Assumes nothing.
 use Prim.Native.Nat.{ℕ, _+_, _*_, _≤_, _<_}
-use mathlib.Core.Path.{_≡_, refl, sym, ap, ap₂, _∙_}
+use mathlib.Core.Path.{_≡_, refl, sym, ap, _∙_}
 use mathlib.Core.Bool.{Bool, true, false, cond, _&&_}
 use mathlib.Core.List.{List, [], _∷_, _++_, map}
 use native.Mathlib.Omega.{arith}
@@ -9,12 +9,13 @@ use lib.Dec.{T, ltb, eqb}
 use lib.ListN.{length, take}
 use lib.Seq.{length-take-le}
 use Rattle.model.specs.declared.Delivery.{Delivery}
+use Rattle.model.specs.Calendar.{Span, span}
+use Rattle.model.specs.Bounds.{mostDay}
 use Rattle.model.specs.Checks.{Check, ask, firstFailed}
-use Rattle.model.specs.Deliveries.{rows, among, firstMatch}
-use Rattle.model.specs.Blocks.{Set, held, blockOf, valuesOk}
-use Rattle.model.specs.Calls.{Call, find, range, insert, delete, move, ordered, offeredOk}
+use Rattle.model.specs.Deliveries.{Slices, rows, Even, firstSlots, eachSlice, among, firstMatch}
+use Rattle.model.specs.Blocks.{Set, held, blockOf, valuesOk, daysOk}
+use Rattle.model.specs.Calls.{Call, find, range, rangeDays, insert, delete, move, ordered, offeredOk, offeredDaysOk}
 use Rattle.model.specs.Histograms.{position, slot, histogramsSize, raises, rangeRaises, moveRaises, raiseAll, countsOk, roomToRaise}
-use Rattle.model.specs.Lent.{Even}
 use Rattle.model.specs.Questions.{recorderChecks}
 use Rattle.model.specs.Recorder.{recorderRefusal, recordCall}
 use Rattle.model.proofs.Tests.{yes-first, is-true}
@@ -29,13 +30,12 @@ use Rattle.sets.proofs.Sets.{Whole, whole, set-first, blocks-least, blocks-most
 
 -- The set has the delivery.
 
-pub has-law : (d : Delivery) (m n : ℕ) (g w y : List ℕ)
-    → m ≤ length g → Even g w y → n ≡ firstMatch d (rows (take m g) (take m w) (take m y)) → ltb n m ≡ among d (take m (rows g w y))
-has-law d m n g w y h v e =
-    let k : length (take m (rows g w y)) ≡ m = length-take-le m (rows g w y) (omega (arith, length-rows g w y (v .weights) (v .yields))) in
-    ap (λ (j : ℕ). ltb j m) (e ∙ ap (firstMatch d) (rows-part m 0 g w y))
-    ∙ ap (ltb (firstMatch d (take m (rows g w y)))) (sym k)
-    ∙ first-among d (take m (rows g w y))
+pub has-law : (d : Delivery) (m n : ℕ) (s : Slices) → m ≤ length (s .growers) → Even s → n ≡ firstMatch d (rows (eachSlice (take m) s)) → ltb n m ≡ among d (firstSlots m s)
+has-law d m n s h v e =
+    let k : length (firstSlots m s) ≡ m = length-take-le m (rows s) (omega (arith, length-rows s v)) in
+    ap (λ (j : ℕ). ltb j m) (e ∙ ap (firstMatch d) (rows-part m 0 s))
+    ∙ ap (ltb (firstMatch d (firstSlots m s))) (sym k)
+    ∙ first-among d (firstSlots m s)
 
 -- L is the block limit
 module _ (L : ℕ) where
@@ -57,7 +57,7 @@ module _ (L : ℕ) where
 
   module _ (s : Set) (hs : List ℕ) (c : Call) where
     abbrev ahead : List Check
-    ahead = countedChecks L s hs (ordered c) (offeredOk c)
+    ahead = countedChecks L s hs (ordered c) (offeredOk c) (offeredDaysOk c)
 
     abbrev ten : Check
     ten = ask 10 (roomToRaise L hs (raises s c))
@@ -91,7 +91,8 @@ module _ (L : ℕ) where
         let r = set-first L s _ h in
         let c7 = yes-first 6 (ordered c) _ (r .1) in
         let c8 = yes-first 7 (valuesOk s && offeredOk c) _ (c7 .1) in
-        let c9 = yes-first 8 (countsOk L hs) _ (c8 .1) in
+        let c19 = yes-first 18 (daysOk s && offeredDaysOk c) _ (c8 .1) in
+        let c9 = yes-first 8 (countsOk L hs) _ (c19 .1) in
         let w = whole L s (r .0) in
         record {
           whole-set = w;
@@ -102,9 +103,9 @@ module _ (L : ℕ) where
           answers = λ ks k. then-raised ks k (passed-first ahead (ten ∷ []) tt h);
         }
 
-    pub decided : (n : ℕ) (p q : Bool) → ordered c ≡ p → q ≡ offeredOk c → n ≡ firstFailed (countedChecks L s hs p q) → Decided s hs c n
-    decided n p q e f h =
-        let g : n ≡ firstFailed ahead = h ∙ ap₂ (λ (a b : Bool). firstFailed (countedChecks L s hs a b)) (sym e) f in
+    pub decided : (n : ℕ) (o v d : Bool) → o ≡ ordered c → v ≡ offeredOk c → d ≡ offeredDaysOk c → n ≡ firstFailed (countedChecks L s hs o v d) → Decided s hs c n
+    decided n o v d e f k h =
+        let g : n ≡ firstFailed ahead = h ∙ (λ i. firstFailed (countedChecks L s hs (e i) (f i) (k i))) in
         record { refused = then-refused n g; passed = λ z. then-passed (sym g ∙ z) }
 
   -- The slots of each call.
@@ -140,11 +141,16 @@ module _ (L : ℕ) where
       unfolding raises moveRaises slot position
       move-backward g a f t h = rw (sym v ∙ t, lt-leb (d .grower) g h, e, f)
 
-  module _ (s : Set) (lo hi a b : ℕ) (e : a ≡ blockOf s lo) (f : b ≡ blockOf s hi) where
-    pub range-one : a ≡ b → map (slot L) (raises s (range lo hi)) ≡ (0 * L + a) ∷ []
+  module _ (s : Set) (lo hi : ℕ) (p : Span) (a b : ℕ) (e : a ≡ blockOf s lo) (f : b ≡ blockOf s hi) where
+    pub range-one : a ≡ b → map (slot L) (raises s (rangeDays lo hi p)) ≡ (0 * L + a) ∷ []
     unfolding raises rangeRaises slot position
     range-one h = rw (eq-eqb (blockOf s lo) (blockOf s hi) (omega arith), e)
 
-    pub range-span : (a ≡ b → ⊥) → map (slot L) (raises s (range lo hi)) ≡ spanSlots L a b
+    pub range-span : (a ≡ b → ⊥) → map (slot L) (raises s (rangeDays lo hi p)) ≡ spanSlots L a b
     unfolding raises rangeRaises
     range-span h = rw (sym e, sym f, ne-eqb a b h)
+
+  -- a range is one over all days
+  pub range-days : (s : Set) (hs : List ℕ) (lo hi : ℕ) → recordCall L s hs (rangeDays lo hi (span 0 mostDay)) ≡ recordCall L s hs (range lo hi)
+  unfolding recordCall recorderRefusal recorderChecks ordered offeredOk offeredDaysOk raises
+  range-days s hs lo hi = refl

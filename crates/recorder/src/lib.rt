@@ -1,15 +1,20 @@
 // The recorder (01, 002 section 4.2): what each call raises in the histograms. A refused call leaves them as they are.
 ghost use mathlib.Core.Path.{_≡_};
+ghost use mathlib.Core.Bool.{true};
 ghost use Prim.Native.Nat.{_≤_};
-ghost use lib.ListN.{length, take};
+ghost use lib.ListN.{length};
 ghost use Rattle.model.specs.Bounds.{blockLimit};
-ghost use Rattle.model.specs.Deliveries.{rows, among};
-ghost use Rattle.model.specs.Calls.{find, range, insert, delete, move};
-ghost use Rattle.model.specs.Lent.{setIn, Even};
+ghost use Rattle.model.specs.Calendar.{span};
+ghost use Rattle.model.specs.Deliveries.{Even, firstSlots, inRange, dayOk, among};
+ghost use Rattle.model.specs.Calls.{find, range, rangeDays, insert, delete, move};
+ghost use Rattle.model.specs.Checks.{firstFailed};
+ghost use Rattle.model.specs.Lent.{setIn, slicesAt, slicesIn};
 ghost use Rattle.model.specs.Recorder.{recordCall};
+ghost use Rattle.sets.specs.Sized.{countedChecks};
 use model::DE;
 use model::Delivery;
 use model::IN;
+use model::MOST_DAY;
 use model::PQ;
 use model::UDB;
 use model::UDF;
@@ -17,12 +22,30 @@ use model::UTB;
 use model::UTF;
 
 // Whether the set has the delivery.
-fn has_delivery(used: u32, g: &[u32], w: &[u32], y: &[u32], d: Delivery) -> bool
-    requires { ⌜ (used ≤ length (now g)) × Even (now g) (now w) (now y) ⌝ }
-    ensures { λ r. ⌜ r ≡ among d (take used (rows (now (g .entry)) (now (w .entry)) (now (y .entry)))) ⌝ }
+fn has_delivery(used: u32, g: &[u32], w: &[u32], y: &[u32], n: &[u32], d: Delivery) -> bool
+    requires { ⌜ (used ≤ length (now g)) × Even (slicesAt g w y n) ⌝ }
+    ensures { λ r. ⌜ r ≡ among d (firstSlots used (slicesIn g w y n)) ⌝ }
 {
     let m = used as usize;
-    slices::first_match(&g[..m], &w[..m], &y[..m], d) < m
+    slices::first_match(&g[..m], &w[..m], &y[..m], &n[..m], d) < m
+}
+
+// The checks ahead of 10 of a call that offers a delivery.
+fn delivery_refusal(
+    h: &[u32],
+    block: u32,
+    used: u32,
+    g: &[u32],
+    w: &[u32],
+    y: &[u32],
+    n: &[u32],
+    d: Delivery,
+) -> u32
+    ensures { λ r. ⌜ r ≡ firstFailed (countedChecks blockLimit (setIn block used g w y n) (now (h .entry)) true (inRange d) (dayOk d)) ⌝ }
+{
+    let values = checks::in_range(d);
+    let day = checks::day_ok(d);
+    sets::counted_refusal(h, block, used, g, w, y, n, true, values, day)
 }
 
 // Records a find: pq at the grower's block.
@@ -33,10 +56,11 @@ pub fn record_find(
     growers: &[u32],
     weights: &[u32],
     yields: &[u32],
+    days: &[u32],
     grower: u32,
 ) -> u32
     ensures { λ r. ⌜ record { refusal = r; histograms = now (histograms .exit) }
-        ≡ recordCall blockLimit (setIn block used growers weights yields) (now (histograms .entry)) (find grower) ⌝ }
+        ≡ recordCall blockLimit (setIn block used growers weights yields days) (now (histograms .entry)) (find grower) ⌝ }
 {
     let n = sets::counted_refusal(
         histograms,
@@ -45,6 +69,8 @@ pub fn record_find(
         growers,
         weights,
         yields,
+        days,
+        true,
         true,
         true,
     );
@@ -55,19 +81,23 @@ pub fn record_find(
     histograms::raise_one(histograms, PQ, b)
 }
 
-// Records a range: rs at the block of lo, re at that of hi, sc at each between; pq where they are one block.
-pub fn record_range(
+// Records a range over days as any range: rs at the block of lo, re at that of hi, sc at each between; pq where they are one block.
+pub fn record_range_days(
     histograms: &mut [u32],
     block: u32,
     used: u32,
     growers: &[u32],
     weights: &[u32],
     yields: &[u32],
+    days: &[u32],
     lo: u32,
     hi: u32,
+    first: u32,
+    last: u32,
 ) -> u32
     ensures { λ r. ⌜ record { refusal = r; histograms = now (histograms .exit) }
-        ≡ recordCall blockLimit (setIn block used growers weights yields) (now (histograms .entry)) (range lo hi) ⌝ }
+        ≡ recordCall blockLimit (setIn block used growers weights yields days) (now (histograms .entry))
+        (rangeDays lo hi (span first last)) ⌝ }
 {
     let n = sets::counted_refusal(
         histograms,
@@ -76,8 +106,10 @@ pub fn record_range(
         growers,
         weights,
         yields,
+        days,
         lo <= hi,
         true,
+        checks::span_ok(first, last),
     );
     if n != 0 {
         return n;
@@ -90,6 +122,36 @@ pub fn record_range(
     histograms::raise_span(histograms, a, b)
 }
 
+// Records a range: one over all days.
+pub fn record_range(
+    histograms: &mut [u32],
+    block: u32,
+    used: u32,
+    growers: &[u32],
+    weights: &[u32],
+    yields: &[u32],
+    days: &[u32],
+    lo: u32,
+    hi: u32,
+) -> u32
+    ensures { λ r. ⌜ record { refusal = r; histograms = now (histograms .exit) }
+        ≡ recordCall blockLimit (setIn block used growers weights yields days) (now (histograms .entry)) (range lo hi) ⌝ }
+{
+    record_range_days(
+        histograms,
+        block,
+        used,
+        growers,
+        weights,
+        yields,
+        days,
+        lo,
+        hi,
+        0,
+        MOST_DAY,
+    )
+}
+
 // Records an insert: in at the grower's block.
 pub fn record_insert(
     histograms: &mut [u32],
@@ -98,13 +160,13 @@ pub fn record_insert(
     growers: &[u32],
     weights: &[u32],
     yields: &[u32],
+    days: &[u32],
     d: Delivery,
 ) -> u32
     ensures { λ r. ⌜ record { refusal = r; histograms = now (histograms .exit) }
-        ≡ recordCall blockLimit (setIn block used growers weights yields) (now (histograms .entry)) (insert d) ⌝ }
+        ≡ recordCall blockLimit (setIn block used growers weights yields days) (now (histograms .entry)) (insert d) ⌝ }
 {
-    let ok = checks::in_range(d);
-    let n = sets::counted_refusal(histograms, block, used, growers, weights, yields, true, ok);
+    let n = delivery_refusal(histograms, block, used, growers, weights, yields, days, d);
     if n != 0 {
         return n;
     }
@@ -120,18 +182,18 @@ pub fn record_delete(
     growers: &[u32],
     weights: &[u32],
     yields: &[u32],
+    days: &[u32],
     d: Delivery,
 ) -> u32
     ensures { λ r. ⌜ record { refusal = r; histograms = now (histograms .exit) }
-        ≡ recordCall blockLimit (setIn block used growers weights yields) (now (histograms .entry)) (delete d) ⌝ }
+        ≡ recordCall blockLimit (setIn block used growers weights yields days) (now (histograms .entry)) (delete d) ⌝ }
 {
-    let ok = checks::in_range(d);
-    let n = sets::counted_refusal(histograms, block, used, growers, weights, yields, true, ok);
+    let n = delivery_refusal(histograms, block, used, growers, weights, yields, days, d);
     if n != 0 {
         return n;
     }
     let b = sets::block_of(block, used, growers, d.grower);
-    if has_delivery(used, growers, weights, yields, d) {
+    if has_delivery(used, growers, weights, yields, days, d) {
         return histograms::raise_one(histograms, DE, b);
     }
     histograms::raise_one(histograms, PQ, b)
@@ -146,19 +208,19 @@ pub fn record_move(
     growers: &[u32],
     weights: &[u32],
     yields: &[u32],
+    days: &[u32],
     d: Delivery,
     new_grower: u32,
 ) -> u32
     ensures { λ r. ⌜ record { refusal = r; histograms = now (histograms .exit) }
-        ≡ recordCall blockLimit (setIn block used growers weights yields) (now (histograms .entry)) (move d «new_grower») ⌝ }
+        ≡ recordCall blockLimit (setIn block used growers weights yields days) (now (histograms .entry)) (move d «new_grower») ⌝ }
 {
-    let ok = checks::in_range(d);
-    let n = sets::counted_refusal(histograms, block, used, growers, weights, yields, true, ok);
+    let n = delivery_refusal(histograms, block, used, growers, weights, yields, days, d);
     if n != 0 {
         return n;
     }
     let a = sets::block_of(block, used, growers, d.grower);
-    if !has_delivery(used, growers, weights, yields, d) {
+    if !has_delivery(used, growers, weights, yields, days, d) {
         return histograms::raise_one(histograms, PQ, a);
     }
     let b = sets::block_of(block, used, growers, new_grower);

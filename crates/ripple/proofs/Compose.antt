@@ -7,6 +7,7 @@ use native.Mathlib.Numerals.{add-one}
 use lib.ListN.{length, getD, take, drop, set, length-take, length-drop, take-append-drop, drop-of-length-le}
 use lib.Seq.{drop-cons, drop-drop, getD-drop, getD-take, take-take, take-all, slice-empty, take-set-le, drop-set-add, drop-append-le, length-take-le}
 use Rattle.model.specs.Lists.{sumOf}
+use Rattle.model.specs.Deliveries.{Slices, eachSlice, Even}
 use Rattle.model.specs.Partitions.{parts, free, startOf, part}
 use Rattle.model.specs.Moves.{rotateLeft, fillFromFront, insertAt, deleteAt, moveForward, moveBackward, moveWithin, inserted, deleted, moved}
 use Rattle.model.proofs.MoveCases.{moveAt-forward, moveAt-backward, moveAt-within}
@@ -176,3 +177,15 @@ module _ {A : Type 0} where
       let r : inserted (take t ns) u x (set s (b + i) y) ≡ take a s ++ inserted (drop u (take t ns)) 0 x (drop a (set s (b + i) y))
       = rw (w, f) at (inserted-from (take t ns) u x (set s (b + i) y)) in
       rw (tail-back a s l, el, tail-part a s, g, q, v) (sym (z ∙ r))
+
+-- the parts from a on of even slices are even
+part-length : (a : ℕ) (l : List ℕ) → length (take (length l - a) (drop a l)) ≡ length l - a
+part-length a l = simp (length-take, length-drop) (omega arith)
+
+pub even-from : (a : ℕ) (s : Slices) → Even s → Even (eachSlice (λ (l : List ℕ). take (length l - a) (drop a l)) s)
+even-from a s e =
+    record {
+      weights = part-length a (s .weights) ∙ ap (λ (k : ℕ). k - a) (e .weights) ∙ sym (part-length a (s .growers));
+      yields = part-length a (s .yields) ∙ ap (λ (k : ℕ). k - a) (e .yields) ∙ sym (part-length a (s .growers));
+      days = part-length a (s .days) ∙ ap (λ (k : ℕ). k - a) (e .days) ∙ sym (part-length a (s .growers));
+    }

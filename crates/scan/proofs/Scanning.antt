@@ -1,7 +1,7 @@
 -- A scan of partitions, one after the other. Assumes nothing.
 use Prim.Native.Nat.{ℕ, _+_, _-_, _≤_, _<_}
 use mathlib.Core.Path.{_≡_, refl, sym, ap, _∙_, subst}
-use mathlib.Core.Bool.{Bool, true, false, cond}
+use mathlib.Core.Bool.{Bool, true, false, cond, _&&_}
 use mathlib.Core.List.{List, [], _∷_, _++_, append-nil, map, map-append, flatten}
 use native.Mathlib.Omega.{arith}
 use native.Mathlib.Numerals.{add-one}
@@ -11,7 +11,8 @@ use Rattle.model.specs.declared.Delivery.{Delivery}
 use Rattle.model.specs.declared.Totals.{Totals}
 use Rattle.model.specs.Bounds.{mostSlots}
 use Rattle.model.specs.Lists.{sumOf, every, keep}
-use Rattle.model.specs.Deliveries.{plusTotals, inRange, noTotals, totalsOf, totalsBetween, rows}
+use Rattle.model.specs.Calendar.{Span}
+use Rattle.model.specs.Deliveries.{Slices, eachSlice, rows, plusTotals, inRange, dayOk, noTotals, totalsOf, totalsDuring}
 use Rattle.model.specs.Partitions.{parts, part, startOf}
 use Rattle.model.specs.Accesses.{blocksOf}
 use Rattle.model.proofs.Tests.{of-true}
@@ -20,27 +21,27 @@ use Rattle.model.proofs.ListLaws.{sum-append, sum-cut, sum-take-le, flatten-app
 use Rattle.model.proofs.Parts.{flatten-parts, take-parts, drop-parts, part-parts, part-none, length-parts, length-part, start-next}
 use Rattle.model.proofs.Deliveries.{rows-part}
 use Rattle.scan.specs.declared.Scan.{Scan}
-use Rattle.slices.proofs.Sums.{totals-joined, totals-light}
+use Rattle.slices.proofs.Sums.{during-joined, during-light}
 use Rattle.scan.specs.Scans.{badScan, scanMore, recordsIn, scanOf, Light}
 use Rattle.scan.proofs.Judging.{Answers, judged-on}
 
--- a scan's answers, with totals and blocks
-abbrev pub scans : Answers (Totals × ℕ) Scan
+-- a scan's answers, with whether the days are in range, totals and blocks
+abbrev pub scans : Answers (Bool × Totals × ℕ) Scan
 scans =
     record {
       flag = λ (s : Scan). s .good;
-      value = λ (s : Scan). (s .totals, s .blocks);
-      yes = λ (v : Totals × ℕ). record { good = true; totals = v .0; blocks = v .1 };
+      value = λ (s : Scan). (s .dated, s .totals, s .blocks);
+      yes = λ (v : Bool × Totals × ℕ). record { good = true; dated = v .0; totals = v .1; blocks = v .2 };
       no = badScan;
-      flag-yes = λ (v : Totals × ℕ). refl;
+      flag-yes = λ (v : Bool × Totals × ℕ). refl;
       flag-no = refl;
-      value-yes = λ (v : Totals × ℕ). refl;
+      value-yes = λ (v : Bool × Totals × ℕ). refl;
     }
 
 -- Partitions, one after the other.
 
-module _ (b : ℕ) (ns : List ℕ) (p lo hi : ℕ) (ds : List Delivery) where
-  scan-none : _≡_ {A = Scan} (record { good = true; totals = noTotals; blocks = 0 }) (scanOf b ns p 0 lo hi ds)
+module _ (b : ℕ) (ns : List ℕ) (p lo hi : ℕ) (z : Span) (ds : List Delivery) where
+  scan-none : _≡_ {A = Scan} (record { good = true; dated = true; totals = noTotals; blocks = 0 }) (scanOf b ns p 0 lo hi z ds)
   unfolding scanOf every keep totalsOf sumOf flatten
   scan-none = refl
 
@@ -67,16 +68,17 @@ module _ (b : ℕ) (ns : List ℕ) (p lo hi : ℕ) (ds : List Delivery) where
       ∙ omega arith
 
   scan-next : (n : ℕ) → p + n < length ns → sumOf ns ≤ length ds
-      → scanOf b ns p (n + 1) lo hi ds ≡ scanMore b lo hi (scanOf b ns p n lo hi ds) (part (p + n) (parts ns ds))
+      → scanOf b ns p (n + 1) lo hi z ds ≡ scanMore b lo hi z (scanOf b ns p n lo hi z ds) (part (p + n) (parts ns ds))
   unfolding scanOf scanMore
   scan-next n h room =
-      rw (records-next n h, every-joined, totals-joined, blocks-next n h, sym (length-part (p + n) ns ds h room))
-      (judged-on scans (every inRange (recordsIn ns p n ds)) (every inRange (part (p + n) (parts ns ds)))
-      (totalsBetween lo hi (recordsIn ns p n ds), sumOf (map (blocksOf b) (take n (drop p ns))))
-      (λ (v : Totals × ℕ). (plusTotals (v .0) (totalsBetween lo hi (part (p + n) (parts ns ds))), v .1 + blocksOf b (length (part (p + n) (parts ns ds))))))
+      let rs : List Delivery = recordsIn ns p n ds in
+      let ps : List Delivery = part (p + n) (parts ns ds) in
+      rw (records-next n h, every-joined inRange rs ps, every-joined dayOk rs ps, during-joined lo hi z rs ps, blocks-next n h, sym (length-part (p + n) ns ds h room))
+      (judged-on scans (every inRange rs) (every inRange ps) (every dayOk rs, totalsDuring lo hi z rs, sumOf (map (blocksOf b) (take n (drop p ns))))
+      (λ (v : Bool × Totals × ℕ). (v .0 && every dayOk ps, plusTotals (v .1) (totalsDuring lo hi z ps), v .2 + blocksOf b (length ps))))
 
   -- an empty partition leaves a scan as it was
-  scan-empty : (n : ℕ) → p + n < length ns → 1 ≤ b → getD ns (p + n) 0 ≡ 0 → scanOf b ns p (n + 1) lo hi ds ≡ scanOf b ns p n lo hi ds
+  scan-empty : (n : ℕ) → p + n < length ns → 1 ≤ b → getD ns (p + n) 0 ≡ 0 → scanOf b ns p (n + 1) lo hi z ds ≡ scanOf b ns p n lo hi z ds
   unfolding scanOf
   scan-empty n h one e =
       let r : recordsIn ns p (n + 1) ds ≡ recordsIn ns p n ds
@@ -91,10 +93,10 @@ blocks-sum b [] h = omega arith
 blocks-sum b (n ∷ l) h = omega (arith, blocks-most b n h, blocks-sum b l h)
 
 -- the counters stay small
-scan-light : (b : ℕ) (ns : List ℕ) (p n lo hi : ℕ) (ds : List Delivery) → 1 ≤ b → sumOf ns ≤ length ds → length ds ≤ mostSlots
-    → Light mostSlots (scanOf b ns p n lo hi ds)
+scan-light : (b : ℕ) (ns : List ℕ) (p n lo hi : ℕ) (z : Span) (ds : List Delivery) → 1 ≤ b → sumOf ns ≤ length ds → length ds ≤ mostSlots
+    → Light mostSlots (scanOf b ns p n lo hi z ds)
 unfolding scanOf
-scan-light b ns p n lo hi ds h room few = go (every inRange (recordsIn ns p n ds)) refl
+scan-light b ns p n lo hi z ds h room few = go (every inRange (recordsIn ns p n ds)) refl
   where
     len : length (recordsIn ns p n ds) ≤ length ds
     len = rw (drop-parts, take-parts, flatten-parts, length-take, length-drop) (omega arith)
@@ -103,65 +105,70 @@ scan-light b ns p n lo hi ds h room few = go (every inRange (recordsIn ns p n ds
     sum = omega (arith, sum-take-le (drop p ns) n, sum-cut p ns)
 
     go : (t : Bool) → every inRange (recordsIn ns p n ds) ≡ t
-        → Light mostSlots (cond t (record { good = true; totals = totalsBetween lo hi (recordsIn ns p n ds); blocks = sumOf (map (blocksOf b) (take n (drop p ns))) }) badScan)
+        → Light mostSlots (cond t (record {
+          good = true;
+          dated = every dayOk (recordsIn ns p n ds);
+          totals = totalsDuring lo hi z (recordsIn ns p n ds);
+          blocks = sumOf (map (blocksOf b) (take n (drop p ns)));
+        }) badScan)
     go true e =
-        record { light = totals-light lo hi mostSlots (recordsIn ns p n ds) (of-true _ e) (omega (arith, len)); short = omega (arith, sum, blocks-sum b (take n (drop p ns)) h) }
+        record { light = during-light lo hi z mostSlots (recordsIn ns p n ds) (of-true _ e) (omega (arith, len)); short = omega (arith, sum, blocks-sum b (take n (drop p ns)) h) }
     go false e = record { light = record { few = omega arith; light = omega arith; little = omega arith }; short = omega arith }
 
 -- The loop.
 
-pub record Scanning (b : ℕ) (ns : List ℕ) (p q lo hi : ℕ) (ds : List Delivery) (at i : ℕ) (s : Scan) : Type 0 where
+pub record Scanning (b : ℕ) (ns : List ℕ) (p q lo hi : ℕ) (z : Span) (ds : List Delivery) (at i : ℕ) (s : Scan) : Type 0 where
   pub from : p ≤ i
   pub till : i ≤ q + 1
   pub here : at ≡ startOf ns i
-  pub so-far : s ≡ scanOf b ns p (i - p) lo hi ds
+  pub so-far : s ≡ scanOf b ns p (i - p) lo hi z ds
 
-pub scanning-start : (b : ℕ) (ns : List ℕ) (p q lo hi : ℕ) (ds : List Delivery) (at : ℕ) → p ≤ q → at ≡ startOf ns p
-    → Scanning b ns p q lo hi ds at p (record { good = true; totals = noTotals; blocks = 0 })
-scanning-start b ns p q lo hi ds at h e =
-    let z : 0 ≡ p - p = omega arith in
-    record { from = omega arith; till = omega arith; here = e; so-far = scan-none b ns p lo hi ds ∙ ap (λ (n : ℕ). scanOf b ns p n lo hi ds) z }
+pub scanning-start : (b : ℕ) (ns : List ℕ) (p q lo hi : ℕ) (z : Span) (ds : List Delivery) (at : ℕ) → p ≤ q → at ≡ startOf ns p
+    → Scanning b ns p q lo hi z ds at p (record { good = true; dated = true; totals = noTotals; blocks = 0 })
+scanning-start b ns p q lo hi z ds at h e =
+    let o : 0 ≡ p - p = omega arith in
+    record { from = omega arith; till = omega arith; here = e; so-far = scan-none b ns p lo hi z ds ∙ ap (λ (n : ℕ). scanOf b ns p n lo hi z ds) o }
 
 -- the part that is lent is the partition
-pub lent-part : (ns : List ℕ) (i a n : ℕ) (g w y : List ℕ) → a ≡ startOf ns i → n ≡ getD ns i 0
-    → rows (take (a + n - a) (drop a g)) (take (a + n - a) (drop a w)) (take (a + n - a) (drop a y)) ≡ part i (parts ns (rows g w y))
-lent-part ns i a n g w y ea en =
+pub lent-part : (ns : List ℕ) (i a n : ℕ) (ss : Slices) → a ≡ startOf ns i → n ≡ getD ns i 0
+    → rows (eachSlice (λ (l : List ℕ). take (a + n - a) (drop a l)) ss) ≡ part i (parts ns (rows ss))
+lent-part ns i a n ss ea en =
     let e : a + n - a ≡ n = omega arith in
-    rw (rows-part, e, ea, en) (sym (part-parts i ns (rows g w y)))
+    rw (rows-part (a + n - a) a ss, e, ea, en) (sym (part-parts i ns (rows ss)))
 
-module _ (b : ℕ) (ns : List ℕ) (p q lo hi : ℕ) (g w y : List ℕ) (at i : ℕ) (s : Scan) (w₀ : Scanning b ns p q lo hi (rows g w y) at i s) where
-  pub scanning-next : i ≤ q → q < length ns → sumOf ns ≤ length (rows g w y) → (r : Scan)
-      → r ≡ scanMore b lo hi s (rows (take (at + getD ns i 0 - at) (drop at g)) (take (at + getD ns i 0 - at) (drop at w)) (take (at + getD ns i 0 - at) (drop at y)))
-      → Scanning b ns p q lo hi (rows g w y) (at + getD ns i 0) (i + 1) r
+module _ (b : ℕ) (ns : List ℕ) (p q lo hi : ℕ) (z : Span) (ss : Slices) (at i : ℕ) (s : Scan) (w₀ : Scanning b ns p q lo hi z (rows ss) at i s) where
+  pub scanning-next : i ≤ q → q < length ns → sumOf ns ≤ length (rows ss) → (r : Scan)
+      → r ≡ scanMore b lo hi z s (rows (eachSlice (λ (l : List ℕ). take (at + getD ns i 0 - at) (drop at l)) ss))
+      → Scanning b ns p q lo hi z (rows ss) (at + getD ns i 0) (i + 1) r
   scanning-next h k room r e =
       let u : p + (i - p) ≡ i = omega (arith, w₀ .from) in
       let v : i + 1 - p ≡ i - p + 1 = omega (arith, w₀ .from) in
-      let x : scanOf b ns p (i - p + 1) lo hi (rows g w y) ≡ scanMore b lo hi (scanOf b ns p (i - p) lo hi (rows g w y)) (part i (parts ns (rows g w y)))
-      = rw u at (scan-next b ns p lo hi (rows g w y) (i - p) (omega arith) room) in
+      let x : scanOf b ns p (i - p + 1) lo hi z (rows ss) ≡ scanMore b lo hi z (scanOf b ns p (i - p) lo hi z (rows ss)) (part i (parts ns (rows ss)))
+      = rw u at (scan-next b ns p lo hi z (rows ss) (i - p) (omega arith) room) in
       record {
         from = omega (arith, w₀ .from);
         till = omega arith;
         here = omega (arith, w₀ .here, start-next ns i (omega arith));
-        so-far = e ∙ ap (scanMore b lo hi s) (lent-part ns i at (getD ns i 0) g w y (w₀ .here) refl)
-            ∙ ap (λ (z : Scan). scanMore b lo hi z (part i (parts ns (rows g w y)))) (w₀ .so-far) ∙ sym x
-            ∙ ap (λ (n : ℕ). scanOf b ns p n lo hi (rows g w y)) (sym v);
+        so-far = e ∙ ap (scanMore b lo hi z s) (lent-part ns i at (getD ns i 0) ss (w₀ .here) refl)
+            ∙ ap (λ (x : Scan). scanMore b lo hi z x (part i (parts ns (rows ss)))) (w₀ .so-far) ∙ sym x
+            ∙ ap (λ (n : ℕ). scanOf b ns p n lo hi z (rows ss)) (sym v);
       }
 
   -- an empty partition is passed over
-  pub scanning-skip : i ≤ q → q < length ns → 1 ≤ b → getD ns i 0 ≡ 0 → Scanning b ns p q lo hi (rows g w y) at (i + 1) s
+  pub scanning-skip : i ≤ q → q < length ns → 1 ≤ b → getD ns i 0 ≡ 0 → Scanning b ns p q lo hi z (rows ss) at (i + 1) s
   scanning-skip h k one e =
       let u : p + (i - p) ≡ i = omega (arith, w₀ .from) in
       let v : i + 1 - p ≡ i - p + 1 = omega (arith, w₀ .from) in
-      let z : getD ns (p + (i - p)) 0 ≡ 0 = rw u e in
+      let o : getD ns (p + (i - p)) 0 ≡ 0 = rw u e in
       record {
         from = omega (arith, w₀ .from);
         till = omega arith;
         here = omega (arith, w₀ .here, start-next ns i (omega arith), e);
-        so-far = w₀ .so-far ∙ sym (scan-empty b ns p lo hi (rows g w y) (i - p) (omega arith) one z) ∙ ap (λ (n : ℕ). scanOf b ns p n lo hi (rows g w y)) (sym v);
+        so-far = w₀ .so-far ∙ sym (scan-empty b ns p lo hi z (rows ss) (i - p) (omega arith) one o) ∙ ap (λ (n : ℕ). scanOf b ns p n lo hi z (rows ss)) (sym v);
       }
 
-  pub scanning-light : 1 ≤ b → sumOf ns ≤ length (rows g w y) → length (rows g w y) ≤ mostSlots → Light mostSlots s
-  scanning-light h room few = subst (Light mostSlots) (sym (w₀ .so-far)) (scan-light b ns p (i - p) lo hi (rows g w y) h room few)
+  pub scanning-light : 1 ≤ b → sumOf ns ≤ length (rows ss) → length (rows ss) ≤ mostSlots → Light mostSlots s
+  scanning-light h room few = subst (Light mostSlots) (sym (w₀ .so-far)) (scan-light b ns p (i - p) lo hi z (rows ss) h room few)
 
-  pub scanning-end : q < i → s ≡ scanOf b ns p (q + 1 - p) lo hi (rows g w y)
-  scanning-end h = w₀ .so-far ∙ ap (λ (n : ℕ). scanOf b ns p n lo hi (rows g w y)) (omega (arith, w₀ .till))
+  pub scanning-end : q < i → s ≡ scanOf b ns p (q + 1 - p) lo hi z (rows ss)
+  scanning-end h = w₀ .so-far ∙ ap (λ (n : ℕ). scanOf b ns p n lo hi z (rows ss)) (omega (arith, w₀ .till))

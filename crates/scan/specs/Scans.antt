@@ -1,12 +1,13 @@
 -- What a scan says of partitions, in the model's terms.
 use Prim.Native.Nat.{ℕ, _+_, _≤_}
-use mathlib.Core.Bool.{true, false, cond, _&&_}
+use mathlib.Core.Bool.{Bool, true, false, cond, _&&_}
 use mathlib.Core.List.{List, map, flatten}
 use lib.Dec.{ltb}
 use lib.ListN.{length, take, drop}
 use Rattle.model.specs.declared.Delivery.{Delivery}
 use Rattle.model.specs.Lists.{sumOf, every}
-use Rattle.model.specs.Deliveries.{LightTotals, plusTotals, inRange, noTotals, totalsBetween, firstMatch}
+use Rattle.model.specs.Calendar.{Span}
+use Rattle.model.specs.Deliveries.{LightTotals, plusTotals, inRange, dayOk, noTotals, totalsBetween, totalsDuring, firstMatch}
 use Rattle.model.specs.Partitions.{parts}
 use Rattle.model.specs.Accesses.{blocksOf}
 use Rattle.scan.specs.declared.Sum.{Sum}
@@ -15,25 +16,45 @@ use Rattle.scan.specs.declared.Sought.{Sought}
 
 -- a sum that met a value out of range
 abbrev pub badSum : Sum
-badSum = record { good = false; totals = noTotals }
+badSum = record { good = false; dated = false; totals = noTotals }
+
+-- are the records ds in range, their days too?
+abbrev pub allFit : List Delivery → Bool
+allFit ds = every inRange ds && every dayOk ds
+
+-- a sum over all days that goes on to the records ds; a day out of range makes it bad
+unfoldable pub sumDatedMore : ℕ → ℕ → Sum → List Delivery → Sum
+sumDatedMore lo hi s ds = cond (s .good && allFit ds) (record { good = true; dated = true; totals = plusTotals (s .totals) (totalsBetween lo hi ds) }) badSum
+
+-- the sum over all days of the records ds
+unfoldable pub sumDated : ℕ → ℕ → List Delivery → Sum
+sumDated lo hi ds = cond (allFit ds) (record { good = true; dated = true; totals = totalsBetween lo hi ds }) badSum
 
 -- a sum that goes on to the records ds
-unfoldable pub sumMore : ℕ → ℕ → Sum → List Delivery → Sum
-sumMore lo hi s ds = cond (s .good && every inRange ds) (record { good = true; totals = plusTotals (s .totals) (totalsBetween lo hi ds) }) badSum
+unfoldable pub sumMore : ℕ → ℕ → Span → Sum → List Delivery → Sum
+sumMore lo hi p s ds =
+    cond (s .good && every inRange ds)
+    (record { good = true; dated = s .dated && every dayOk ds; totals = plusTotals (s .totals) (totalsDuring lo hi p ds) })
+    badSum
 
 -- the sum of the records ds
-unfoldable pub sumAll : ℕ → ℕ → List Delivery → Sum
-sumAll lo hi ds = cond (every inRange ds) (record { good = true; totals = totalsBetween lo hi ds }) badSum
+unfoldable pub sumAll : ℕ → ℕ → Span → List Delivery → Sum
+sumAll lo hi p ds = cond (every inRange ds) (record { good = true; dated = every dayOk ds; totals = totalsDuring lo hi p ds }) badSum
 
 -- a scan that met a value out of range
 abbrev pub badScan : Scan
-badScan = record { good = false; totals = noTotals; blocks = 0 }
+badScan = record { good = false; dated = false; totals = noTotals; blocks = 0 }
 
 -- a scan that goes on to a partition of the records ds
-unfoldable pub scanMore : ℕ → ℕ → ℕ → Scan → List Delivery → Scan
-scanMore b lo hi s ds =
+unfoldable pub scanMore : ℕ → ℕ → ℕ → Span → Scan → List Delivery → Scan
+scanMore b lo hi p s ds =
     cond (s .good && every inRange ds)
-    (record { good = true; totals = plusTotals (s .totals) (totalsBetween lo hi ds); blocks = s .blocks + blocksOf b (length ds) })
+    (record {
+      good = true;
+      dated = s .dated && every dayOk ds;
+      totals = plusTotals (s .totals) (totalsDuring lo hi p ds);
+      blocks = s .blocks + blocksOf b (length ds);
+    })
     badScan
 
 -- the records of n partitions from p on
@@ -41,10 +62,11 @@ abbrev pub recordsIn : List ℕ → ℕ → ℕ → List Delivery → List Deliv
 recordsIn ns p n ds = flatten (take n (drop p (parts ns ds)))
 
 -- n partitions from p on, of the lengths ns
-unfoldable pub scanOf : ℕ → List ℕ → ℕ → ℕ → ℕ → ℕ → List Delivery → Scan
-scanOf b ns p n lo hi ds =
-    cond (every inRange (recordsIn ns p n ds))
-    (record { good = true; totals = totalsBetween lo hi (recordsIn ns p n ds); blocks = sumOf (map (blocksOf b) (take n (drop p ns))) })
+unfoldable pub scanOf : ℕ → List ℕ → ℕ → ℕ → ℕ → ℕ → Span → List Delivery → Scan
+scanOf b ns p n lo hi s ds =
+    let rs : List Delivery = recordsIn ns p n ds in
+    cond (every inRange rs)
+    (record { good = true; dated = every dayOk rs; totals = totalsDuring lo hi s rs; blocks = sumOf (map (blocksOf b) (take n (drop p ns))) })
     badScan
 
 -- a scan of at most m records
@@ -54,12 +76,12 @@ pub record Light (m : ℕ) (s : Scan) : Type 0 where
 
 -- a search that met a value out of range
 abbrev pub badSought : Sought
-badSought = record { good = false; slot = 0 }
+badSought = record { good = false; dated = false; slot = 0 }
 
 -- a search that goes on to the records ds, which i records are before
 unfoldable pub seekMore : Delivery → Sought → ℕ → List Delivery → Sought
-seekMore d s i ds = cond (s .good && every inRange ds) (record { good = true; slot = cond (ltb (s .slot) i) (s .slot) (i + firstMatch d ds) }) badSought
+seekMore d s i ds = cond (s .good && every inRange ds) (record { good = true; dated = s .dated && every dayOk ds; slot = cond (ltb (s .slot) i) (s .slot) (i + firstMatch d ds) }) badSought
 
 -- a search of the records ds
 unfoldable pub seekAll : Delivery → List Delivery → Sought
-seekAll d ds = cond (every inRange ds) (record { good = true; slot = firstMatch d ds }) badSought
+seekAll d ds = cond (every inRange ds) (record { good = true; dated = every dayOk ds; slot = firstMatch d ds }) badSought

@@ -7,22 +7,21 @@ use native.Mathlib.Omega.{arith}
 use borrow.Author.Tests.{lt-leb, le-leb, le-ltb, lt-ltb, eq-eqb, ne-eqb}
 use lib.Dec.{leb, eqb, leb→le}
 use lib.ListN.{length, getD, take}
-use lib.Seq.{length-take-le}
 use Rattle.model.specs.Bounds.{mostBlockLength}
 use Rattle.model.specs.Lists.{every, rising, ceilDiv}
 use Rattle.model.specs.Checks.{Check, firstFailed}
-use Rattle.model.specs.Deliveries.{inRange}
-use Rattle.model.specs.Blocks.{Set, blocks, blockLengthOk, slotsOk, slicesOk, usedOk, valuesOk}
+use Rattle.model.specs.Deliveries.{Slices, Even, eachSlice, inRange, dayOk}
+use Rattle.model.specs.Blocks.{Set, blocks, blockLengthOk, slotsOk, slicesOk, usedOk, valuesOk, daysOk}
 use Rattle.model.specs.Layouts.{endOf, separatesNone, isLayout, layoutOk}
-use Rattle.model.specs.Lent.{setOf, Even}
 use Rattle.model.specs.Questions.{setChecks}
 use Rattle.model.proofs.Tests.{and-fst, and-snd, of-true, yes-first}
 use Rattle.model.proofs.ListLaws.{ceil-some, ceil-within}
 use Rattle.model.proofs.Deliveries.{rows-part}
 use Rattle.model.proofs.SetLaws.{sliced}
+use Rattle.slices.proofs.Sums.{even-part}
 use Rattle.sets.specs.Sized.{Sized, setRefusalOf}
-use Rattle.checks.specs.Values.{allValuesOk}
-use Rattle.checks.proofs.Answers.{failed-first, numbered, passed-first, passed-both, every-rows}
+use Rattle.checks.specs.Values.{allValuesOk, allDaysOk}
+use Rattle.checks.proofs.Answers.{failed-first, numbered, passed-first, passed-both, every-rows, every-day-rows}
 
 -- Check 4.
 
@@ -47,8 +46,8 @@ block-most b e = leb→le b mostBlockLength (and-snd (leb 1 b) (leb b mostBlockL
 
 -- what they say of the numbers
 pub record Whole (L : ℕ) (s : Set) : Type 0 where
-  pub sized : Sized L (s .block) (s .used) (length (s .growers))
-  pub even : Even (s .growers) (s .weights) (s .yields)
+  pub sized : Sized L (s .block) (s .used) (length (s .slices .growers))
+  pub even : Even (s .slices)
 
 -- they have passed: the rest of a list answers
 pub record SetPassed (L : ℕ) (s : Set) : Type 0 where
@@ -65,12 +64,12 @@ module _ (L : ℕ) (s : Set) where
   whole h =
       let b : ℕ = s .block in
       let m : ℕ = s .used in
-      let c : ℕ = length (s .growers) in
+      let c : ℕ = length (s .slices .growers) in
       let c2 = yes-first 1 (blockLengthOk b) _ h in
-      let c3 = yes-first 2 (slicesOk (s .growers) (s .weights) (s .yields)) _ (c2 .1) in
+      let c3 = yes-first 2 (slicesOk (s .slices)) _ (c2 .1) in
       let c4 = yes-first 3 (usedOk L s) _ (c3 .1) in
       let u = and-fst (leb 1 m && leb m c) (leb m (L * b)) (c4 .0) in
-      let l = sliced (s .growers) (s .weights) (s .yields) (c3 .0) in
+      let l = sliced (s .slices) (c3 .0) in
       record {
         sized = record {
           block-least = leb→le 1 b (and-fst (leb 1 b) (leb b mostBlockLength) (c2 .0));
@@ -104,15 +103,19 @@ module _ {L b m c : ℕ} (z : Sized L b m c) where
   pub blocks-most : ceilDiv m b ≤ L
   blocks-most = ceil-within L m b (z .block-least) (z .used-most)
 
--- Check 8: the rows are tested by their weights and their yields.
+-- Checks 8 and 19: the rows are tested by their weights and their yields, and by their days.
 
-pub values-law : (b m : ℕ) (g w y : List ℕ) → m ≤ length g → Even g w y → allValuesOk (take m w) (take m y) ≡ valuesOk (setOf b m g w y)
-unfolding valuesOk
-values-law b m g w y h v =
-    let n = length-take-le m g h in
-    let l = length-take-le m w (omega (arith, v .weights)) in
-    let k = length-take-le m y (omega (arith, v .yields)) in
-    every-rows (take m g) (take m w) (take m y) (omega arith) (omega arith) ∙ ap (every inRange) (rows-part m 0 g w y)
+module _ (s : Set) (v : Even (s .slices)) where
+  abbrev used-slots : Slices
+  used-slots = eachSlice (take (s .used)) (s .slices)
+
+  pub values-law : allValuesOk (used-slots .weights) (used-slots .yields) ≡ valuesOk s
+  unfolding valuesOk
+  values-law = every-rows used-slots (even-part (s .slices) (s .used) 0 v) ∙ ap (every inRange) (rows-part (s .used) 0 (s .slices))
+
+  pub days-law : allDaysOk (used-slots .days) ≡ daysOk s
+  unfolding daysOk
+  days-law = every-day-rows used-slots (even-part (s .slices) (s .used) 0 v) ∙ ap (every dayOk) (rows-part (s .used) 0 (s .slices))
 
 -- Check 6 of a layout.
 
@@ -121,7 +124,7 @@ module _ (s : Set) (e x : ℕ) (q : x ≡ (e + 1) * s .block) where
   pub ends-all : s .used ≤ x → true ≡ separatesNone s e
   ends-all h = rw (le-ltb ((e + 1) * s .block) (s .used) (omega arith))
 
-  pub ends-between : x < s .used → not (eqb (getD (s .growers) (x - 1) 0) (getD (s .growers) x 0)) ≡ separatesNone s e
+  pub ends-between : x < s .used → not (eqb (getD (s .slices .growers) (x - 1) 0) (getD (s .slices .growers) x 0)) ≡ separatesNone s e
   ends-between h = rw (q, lt-ltb ((e + 1) * s .block) (s .used) (omega arith))
 
 module _ (s : Set) (ends : List ℕ) where

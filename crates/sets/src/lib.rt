@@ -9,9 +9,10 @@ ghost use Rattle.model.specs.Bounds.{blockLimit, mostSlots, mostBlockLength};
 ghost use Rattle.model.specs.Lists.{ceilDiv, every};
 ghost use Rattle.model.specs.Checks.{firstFailed};
 ghost use Rattle.model.specs.Questions.{applyChecks};
-ghost use Rattle.model.specs.Blocks.{blockOf, blockStop, lastGrower, valuesOk};
+ghost use Rattle.model.specs.Blocks.{blockOf, blockStop, lastGrower, valuesOk, daysOk};
 ghost use Rattle.model.specs.Layouts.{separatesNone, layoutOk};
-ghost use Rattle.model.specs.Lent.{setOf, setIn, Even};
+ghost use Rattle.model.specs.Deliveries.{Even};
+ghost use Rattle.model.specs.Lent.{setOf, setIn, slicesAt};
 ghost use Rattle.sets.specs.Sized.{Sized, setRefusalOf, countedChecks};
 use model::BLOCK_LIMIT;
 
@@ -30,13 +31,13 @@ fn used_ok(block: u32, m: usize, c: usize) -> bool
 }
 
 // Checks 2, 3, 4 and 5 of a set.
-fn set_refusal(block: u32, used: u32, g: &[u32], w: &[u32], y: &[u32]) -> u32
-    ensures { λ r. ⌜ r ≡ setRefusalOf blockLimit (setIn block used g w y) ⌝ }
+fn set_refusal(block: u32, used: u32, g: &[u32], w: &[u32], y: &[u32], n: &[u32]) -> u32
+    ensures { λ r. ⌜ r ≡ setRefusalOf blockLimit (setIn block used g w y n) ⌝ }
 {
     if !checks::block_length_ok(block) {
         return 2;
     }
-    if !checks::slices_ok(g, w, y) {
+    if !checks::slices_ok(g, w, y, n) {
         return 3;
     }
     let m = used as usize;
@@ -50,12 +51,21 @@ fn set_refusal(block: u32, used: u32, g: &[u32], w: &[u32], y: &[u32]) -> u32
 }
 
 // Check 8 of a set.
-fn set_values_ok(used: u32, g: &[u32], w: &[u32], y: &[u32]) -> bool
-    requires { ⌜ (used ≤ length (now g)) × Even (now g) (now w) (now y) ⌝ }
-    ensures { λ r. ⌜ ((b : ℕ) → r ≡ valuesOk (setIn b used g w y)) ⌝ }
+fn set_values_ok(used: u32, g: &[u32], w: &[u32], y: &[u32], n: &[u32]) -> bool
+    requires { ⌜ (used ≤ length (now g)) × Even (slicesAt g w y n) ⌝ }
+    ensures { λ r. ⌜ ((b : ℕ) → r ≡ valuesOk (setIn b used g w y n)) ⌝ }
 {
     let m = used as usize;
     checks::values_ok(&w[..m], &y[..m])
+}
+
+// Check 19 of a set.
+fn set_days_ok(used: u32, g: &[u32], w: &[u32], y: &[u32], n: &[u32]) -> bool
+    requires { ⌜ (used ≤ length (now g)) × Even (slicesAt g w y n) ⌝ }
+    ensures { λ r. ⌜ ((b : ℕ) → r ≡ daysOk (setIn b used g w y n)) ⌝ }
+{
+    let m = used as usize;
+    checks::days_ok(&n[..m])
 }
 
 // How many blocks a set has.
@@ -77,7 +87,7 @@ fn block_start(block: u32, i: u64) -> u64
 // The slot just past block i.
 pub fn block_stop(block: u32, used: u32, i: u32) -> u32
     requires { ⌜ block ≤ mostBlockLength ⌝ }
-    ensures { λ r. ⌜ ((gs ws ys : List ℕ) → r ≡ blockStop (setOf block used gs ws ys) i) ⌝ }
+    ensures { λ r. ⌜ ((gs ws ys ns : List ℕ) → r ≡ blockStop (setOf block used gs ws ys ns) i) ⌝ }
 {
     let x = block_start(block, (i as u64) + 1);
     if (used as u64) <= x {
@@ -89,7 +99,7 @@ pub fn block_stop(block: u32, used: u32, i: u32) -> u32
 // The last grower of block i.
 pub fn last_grower(block: u32, used: u32, g: &[u32], i: u32) -> u32
     requires { ⌜ Sized blockLimit block used (length (now g)) ⌝ }
-    ensures { λ r. ⌜ ((ws ys : List ℕ) → r ≡ lastGrower (setOf block used (now (g .entry)) ws ys) i) ⌝ }
+    ensures { λ r. ⌜ ((ws ys ns : List ℕ) → r ≡ lastGrower (setOf block used (now (g .entry)) ws ys ns) i) ⌝ }
 {
     let x = block_stop(block, used, i) as usize - 1;
     g[x]
@@ -98,7 +108,7 @@ pub fn last_grower(block: u32, used: u32, g: &[u32], i: u32) -> u32
 // Whether end block e separates no equal growers.
 pub fn separates_none(block: u32, used: u32, g: &[u32], e: u32) -> bool
     requires { ⌜ Sized blockLimit block used (length (now g)) ⌝ }
-    ensures { λ r. ⌜ ((ws ys : List ℕ) → r ≡ separatesNone (setOf block used (now (g .entry)) ws ys) e) ⌝ }
+    ensures { λ r. ⌜ ((ws ys ns : List ℕ) → r ≡ separatesNone (setOf block used (now (g .entry)) ws ys ns) e) ⌝ }
 {
     let x = block_start(block, (e as u64) + 1);
     if (used as u64) <= x {
@@ -112,7 +122,7 @@ pub fn separates_none(block: u32, used: u32, g: &[u32], e: u32) -> bool
 // Whether no end separates equal growers.
 fn all_separate_none(block: u32, used: u32, g: &[u32], ends: &[u32]) -> bool
     requires { ⌜ Sized blockLimit block used (length (now g)) ⌝ }
-    ensures { λ r. ⌜ ((ws ys : List ℕ) → r ≡ every (separatesNone (setOf block used (now (g .entry)) ws ys)) (now (ends .entry))) ⌝ }
+    ensures { λ r. ⌜ ((ws ys ns : List ℕ) → r ≡ every (separatesNone (setOf block used (now (g .entry)) ws ys ns)) (now (ends .entry))) ⌝ }
 {
     let mut i = 0;
     while i < ends.len() {
@@ -127,7 +137,7 @@ fn all_separate_none(block: u32, used: u32, g: &[u32], ends: &[u32]) -> bool
 // Check 6 of a layout.
 fn layout_ok(block: u32, used: u32, g: &[u32], ends: &[u32]) -> bool
     requires { ⌜ Sized blockLimit block used (length (now g)) ⌝ }
-    ensures { λ r. ⌜ ((ws ys : List ℕ) → r ≡ layoutOk (setOf block used (now (g .entry)) ws ys) (now (ends .entry))) ⌝ }
+    ensures { λ r. ⌜ ((ws ys ns : List ℕ) → r ≡ layoutOk (setOf block used (now (g .entry)) ws ys ns) (now (ends .entry))) ⌝ }
 {
     let k = ends.len();
     if k < 1 {
@@ -146,7 +156,7 @@ fn layout_ok(block: u32, used: u32, g: &[u32], ends: &[u32]) -> bool
 // The block of a grower: the first whose last grower is no less, otherwise the last.
 pub fn block_of(block: u32, used: u32, g: &[u32], x: u32) -> usize
     requires { ⌜ Sized blockLimit block used (length (now g)) ⌝ }
-    ensures { λ r. ⌜ ((ws ys : List ℕ) → r ≡ blockOf (setOf block used (now (g .entry)) ws ys) x) ⌝ }
+    ensures { λ r. ⌜ ((ws ys ns : List ℕ) → r ≡ blockOf (setOf block used (now (g .entry)) ws ys ns) x) ⌝ }
 {
     let last = block_count(block, used) - 1;
     let mut i: u32 = 0;
@@ -160,24 +170,35 @@ pub fn block_of(block: u32, used: u32, g: &[u32], x: u32) -> usize
     i as usize
 }
 
-// Checks 2, 3, 4, 5, 6 and 8 of a set and a layout.
-pub fn layout_refusal(block: u32, used: u32, g: &[u32], w: &[u32], y: &[u32], ends: &[u32]) -> u32
-    ensures { λ r. ⌜ r ≡ firstFailed (applyChecks blockLimit (setIn block used g w y) (now (ends .entry))) ⌝ }
+// Checks 2, 3, 4, 5, 6, 8 and 19 of a set and a layout.
+pub fn layout_refusal(
+    block: u32,
+    used: u32,
+    g: &[u32],
+    w: &[u32],
+    y: &[u32],
+    n: &[u32],
+    ends: &[u32],
+) -> u32
+    ensures { λ r. ⌜ r ≡ firstFailed (applyChecks blockLimit (setIn block used g w y n) (now (ends .entry))) ⌝ }
 {
-    let n = set_refusal(block, used, g, w, y);
-    if n != 0 {
-        return n;
+    let r = set_refusal(block, used, g, w, y, n);
+    if r != 0 {
+        return r;
     }
     if !layout_ok(block, used, g, ends) {
         return 6;
     }
-    if !set_values_ok(used, g, w, y) {
+    if !set_values_ok(used, g, w, y, n) {
         return 8;
+    }
+    if !set_days_ok(used, g, w, y, n) {
+        return 19;
     }
     0
 }
 
-// Checks 2, 3, 4, 5, 7, 8 and 9: of the set, of a call's order, of the set's values and the offered ones, of the histograms.
+// Checks 2, 3, 4, 5, 7, 8, 19 and 9: of the set, of a call's order, of the set's values and the offered ones, of their days, of the histograms.
 pub fn counted_refusal(
     h: &[u32],
     block: u32,
@@ -185,23 +206,31 @@ pub fn counted_refusal(
     g: &[u32],
     w: &[u32],
     y: &[u32],
+    n: &[u32],
     ordered: bool,
     offered: bool,
+    days_offered: bool,
 ) -> u32
-    ensures { λ r. ⌜ r ≡ firstFailed (countedChecks blockLimit (setIn block used g w y) (now (h .entry)) ordered offered) ⌝ }
+    ensures { λ r. ⌜ r ≡ firstFailed (countedChecks blockLimit (setIn block used g w y n) (now (h .entry)) ordered offered «days_offered») ⌝ }
 {
-    let n = set_refusal(block, used, g, w, y);
-    if n != 0 {
-        return n;
+    let r = set_refusal(block, used, g, w, y, n);
+    if r != 0 {
+        return r;
     }
     if !ordered {
         return 7;
     }
-    if !set_values_ok(used, g, w, y) {
+    if !set_values_ok(used, g, w, y, n) {
         return 8;
     }
     if !offered {
         return 8;
+    }
+    if !set_days_ok(used, g, w, y, n) {
+        return 19;
+    }
+    if !days_offered {
+        return 19;
     }
     if !histograms::counts_ok(h) {
         return 9;

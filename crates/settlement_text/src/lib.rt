@@ -34,7 +34,14 @@ pub fn settlement_text(text: &[u8]) -> Output
     let mut growers = [0u32; SLOTS];
     let mut weights = [0u32; SLOTS];
     let mut yields = [0u32; SLOTS];
-    let a = snapshot::read(text, &mut growers[..], &mut weights[..], &mut yields[..]);
+    let mut days = [0u32; SLOTS];
+    let a = snapshot::read(
+        text,
+        &mut growers[..],
+        &mut weights[..],
+        &mut yields[..],
+        &mut days[..],
+    );
     let n = a.refusal;
     if n != 0 {
         return refused(n);
@@ -48,6 +55,7 @@ pub fn settlement_text(text: &[u8]) -> Output
         &growers[..],
         &weights[..],
         &yields[..],
+        &days[..],
         &mut bytes[..],
         &mut order[..],
         &mut work[..],

@@ -1,201 +1,280 @@
 -- What checking a column for a sheet and writing the sheet answer. Assumes nothing.
 use Prim.Native.Nat.{ℕ, _+_, _*_, _≤_, _<_}
 use mathlib.Core.Path.{_≡_, refl, sym, ap, _∙_, subst}
-use mathlib.Core.Bool.{Bool, true, false, _&&_, and-false}
+use mathlib.Core.Bool.{Bool, true, false, cond, _&&_, and-false}
 use mathlib.Core.List.{List, [], _∷_, _++_}
 use native.Mathlib.Omega.{arith}
 use borrow.Author.Tests.{ne-eqb, le-leb, lt-leb}
 use lib.Dec.{T, leb, leb→le}
-use lib.ListN.{length, take, drop, replicate, length-append}
+use lib.ListN.{length, getD, take, drop, replicate, length-append}
 use lib.Seq.{length-take-le, take-at}
 use Rattle.model.specs.declared.Delivery.{Delivery}
 use Rattle.model.specs.Bounds.{mostSlots}
-use Rattle.model.specs.Lists.{sumOf, every}
-use Rattle.model.specs.Checks.{ask, firstFailed}
-use Rattle.model.specs.Deliveries.{rows, inRange}
+use Rattle.model.specs.Lists.{sumOf, every, keep}
+use Rattle.model.specs.Checks.{Check, ask, firstFailed}
+use Rattle.model.specs.Calendar.{Span, isIn}
+use Rattle.model.specs.Deliveries.{Slices, rows, eachSlice, inRange, dayOk, onDays}
 use Rattle.model.specs.Column.{Column, lengthsOf, allRecords}
-use Rattle.model.specs.Questions.{sheetChecks}
-use Rattle.model.specs.Sheet.{eachOnce, sheetOf, sheetText, slotsInOrder}
-use Rattle.model.specs.SheetCalls.{SheetResult, sheetCall}
+use Rattle.model.specs.Sheet.{eachOnce, sheetOf, byGrower, slotsDuring}
+use Rattle.model.specs.SheetCalls.{SheetResult}
 use Rattle.model.proofs.Tests.{and-fst, and-snd, yes-first}
 use Rattle.model.proofs.Deliveries.{values-rows}
-use Rattle.checks.proofs.Answers.{numbered, passed-both}
+use Rattle.checks.proofs.Answers.{failed-first, numbered, passed-first, passed-both}
 use Rattle.slices.specs.Slices.{allWithin, Measured}
+use Rattle.dates.specs.declared.TermAnswer.{TermAnswer}
 use Rattle.directory.proofs.LentColumns.{LentColumn}
 use Rattle.fields.specs.Writing.{placed}
 use Rattle.fields.proofs.Placing.{placed-first}
 use Rattle.snapshot.specs.declared.Checked.{Checked}
-use Rattle.snapshot.specs.Answers.{notChecked, soundChecks, checkedColumn, checkedRoom}
-use Rattle.snapshot.proofs.WriteAnswers.{Passed, passed, room-refused, room-short, room-enough, records-are, parts-even}
-use Rattle.sheet_lines.proofs.GroupLines.{order-size}
-use Rattle.sheet_lines.proofs.SheetText.{length-sheet}
-use Rattle.sheet.specs.Answers.{checkedOf}
-use Rattle.sheet.proofs.PartOrder.{part-order}
+use Rattle.snapshot.specs.Answers.{soundChecks, checkedColumn}
+use Rattle.snapshot.proofs.WriteAnswers.{Passed, passed, records-are}
+use Rattle.slot_order.specs.Passes.{slotsIn}
+use Rattle.slot_order.proofs.Groups.{by-grower-length, by-grower-in, by-grower-falls-not, by-grower-growers}
+use Rattle.slot_order.proofs.Picking.{picked-few, picked-in}
+use Rattle.sheet_lines.specs.Runs.{recordsAt, growersAt, InOrder}
+use Rattle.sheet_lines.proofs.SheetText.{length-sheet, same-sheet}
+use Rattle.sheet.specs.declared.Sized.{Sized}
+use Rattle.sheet.specs.Answers.{spanOf, isGiven, spanSlots, spanText, endChecks, spanRefusal, sizedOf, spanCall, notSized}
+use Rattle.sheet.proofs.PartOrder.{long-growers, long-days, part-even, part-slots, part-sorted, part-records}
+
+-- the bytes of the sheet of slots
+abbrev pub bytesOf : List ℕ → List ℕ → ℕ
+bytesOf gs is = 81 * length (eachOnce (growersAt gs is)) + 61
 
 -- L is the block limit
 module _ (L : ℕ) (c : Column) where
-  abbrev pub used : ℕ
+  abbrev used : ℕ
   used = sumOf (lengthsOf L c)
 
-  -- the used slots of each slice
-  abbrev growers : List ℕ
-  growers = take used (c .growers)
+  module _ (l : LentColumn L c) (m : ℕ) (u : m ≡ used) where
+    abbrev part : Slices
+    part = eachSlice (take m) (c .slices)
 
-  abbrev weights : List ℕ
-  weights = take used (c .weights)
+    there : m ≤ length (c .slices .growers)
+    there = omega (arith, u, l .shape .room)
 
-  abbrev yields : List ℕ
-  yields = take used (c .yields)
+    all-are : allRecords L c ≡ rows part
+    all-are = records-are L c ∙ ap (λ (k : ℕ). rows (eachSlice (take k) (c .slices))) (sym u)
 
-  -- check 15
-  abbrev fits : ℕ → ℕ → ℕ → Bool
-  fits room orderRoom workRoom = leb (length (sheetText L c)) room && (leb used orderRoom && leb used workRoom)
-
-  module _ (l : LentColumn L c) where
-    sheet-size : length (sheetText L c) ≡ 81 * length (eachOnce growers) + 61
-    sheet-size = ap (λ (ds : List Delivery). length (sheetOf ds)) (records-are L c) ∙ length-sheet growers weights yields (parts-even L c l)
-
-    used-measured : T (every inRange (allRecords L c)) → Measured growers weights yields
+    pub used-measured : T (every inRange (allRecords L c)) → Measured part
     used-measured v =
-        let e = parts-even L c l in
-        let w : T (allWithin 100000 weights && allWithin 10000 yields) = subst T (ap (every inRange) (records-are L c) ∙ values-rows growers weights yields (e .weights) (e .yields)) v in
+        let e = part-even (c .slices) m (l .even) there in
+        let w : T (allWithin 100000 (part .weights) && allWithin 10000 (part .yields)) = subst T (ap (every inRange) all-are ∙ values-rows part e) v in
         record {
-          few = omega (arith, length-take-le used (c .growers) (l .shape .room), l .shape .room, l .most);
+          few = omega (arith, long-growers (c .slices) m (l .even) there, there, l .most);
           even = e;
-          good-weights = and-fst (allWithin 100000 weights) (allWithin 10000 yields) w;
-          good-yields = and-snd (allWithin 100000 weights) (allWithin 10000 yields) w;
+          good-weights = and-fst (allWithin 100000 (part .weights)) (allWithin 10000 (part .yields)) w;
+          good-yields = and-snd (allWithin 100000 (part .weights)) (allWithin 10000 (part .yields)) w;
         }
 
--- the used slots of a column that passed are there, and few
-pub used-there : (L : ℕ) (c : Column) (x : Checked) → x ≡ checkedColumn L c → x .refusal ≡ 0 → (x .used ≤ length (c .growers)) × (x .used ≤ mostSlots)
-used-there L c x e n =
-    let k = passed L c x e n in
-    let l = k .lent in
-    (omega (arith, k .used-is, l .shape .room), omega (arith, k .used-is, l .shape .room, l .most))
+    module _ (s : Span) where
+      -- the slots, as the code has them
+      pub slots-are : (k : ℕ) → k ≡ m → slotsDuring s (take m (c .slices .days)) k ≡ spanSlots L c s
+      slots-are k z = part-slots (c .slices) m (l .even) there s k z ∙ ap (slotsDuring s (c .slices .days)) u
 
--- The checks: 15 is of three parts, and is put where the others passed.
+      text-is : spanText L c s ≡ sheetOf (recordsAt part (spanSlots L c s))
+      text-is =
+          ap (λ (ds : List Delivery). sheetOf (keep (onDays s) ds)) all-are
+          ∙ ap sheetOf (sym (part-records (c .slices) m (l .even) there s))
+          ∙ ap (λ (k : ℕ). sheetOf (recordsAt part (slotsDuring s (c .slices .days) k))) u
 
-module _ (L : ℕ) (c : Column) (room orderRoom workRoom : ℕ) where
-  room-is : checkedRoom L c (fits L c room orderRoom workRoom) ≡ checkedOf L c room orderRoom workRoom
-  unfolding checkedRoom checkedOf sheetChecks
-  room-is = refl
+      pub text-size : (k : ℕ) → k ≡ m → length (spanText L c s) ≡ bytesOf (take m (c .slices .growers)) (slotsDuring s (take m (c .slices .days)) k)
+      text-size k z = ap length text-is ∙ length-sheet part (spanSlots L c s) ∙ ap (bytesOf (take m (c .slices .growers))) (sym (slots-are k z))
+
+-- The checks: 19 and 15 are put where the others passed.
+
+module _ (L : ℕ) (c : Column) (t : TermAnswer) (room orderRoom workRoom : ℕ) where
+  abbrev dated : Bool
+  dated = isGiven t && every dayOk (allRecords L c)
+
+  abbrev many : ℕ
+  many = length (spanSlots L c (spanOf t))
+
+  abbrev fits : Bool
+  fits = leb (length (spanText L c (spanOf t))) room && (leb many orderRoom && leb many workRoom)
+
+  abbrev last : List Check
+  last = endChecks L c (isGiven t) many (spanText L c (spanOf t)) room orderRoom workRoom
+
+  refused-by : (n : ℕ) → spanRefusal L c t room orderRoom workRoom ≡ n → (n ≡ 0 → ⊥) → (y : Sized) → y ≡ notSized n → y ≡ sizedOf L c t room orderRoom workRoom
+  unfolding sizedOf
+  refused-by n e z y q = q ∙ sym (rw (e, ne-eqb n 0 z))
 
   module _ (x : Checked) (e : x ≡ checkedColumn L c) where
-    pub column-refused : (x .refusal ≡ 0 → ⊥) → x ≡ checkedOf L c room orderRoom workRoom
-    column-refused z = room-refused L c x e z (fits L c room orderRoom workRoom) ∙ room-is
+    refusal-there : x .refusal ≡ firstFailed (soundChecks L c)
+    unfolding checkedColumn
+    refusal-there = ap (λ (y : Checked). y .refusal) e
+
+    pub column-refused : (x .refusal ≡ 0 → ⊥) → (y : Sized) → y ≡ notSized (x .refusal) → y ≡ sizedOf L c t room orderRoom workRoom
+    column-refused z =
+        refused-by (x .refusal) (sym (refusal-there ∙ failed-first (soundChecks L c) last (λ o. z (refusal-there ∙ o)))) z
 
     module _ (n : x .refusal ≡ 0) where
-      abbrev known : Passed L c x
-      known = passed L c x e n
+      refusal-is : (d f : Bool) → dated ≡ d → fits ≡ f → spanRefusal L c t room orderRoom workRoom ≡ cond d (cond f 0 15) 19
+      unfolding firstFailed numbered
+      refusal-is d f p q = passed-first (soundChecks L c) last tt (sym refusal-there ∙ n) ∙ rw (p, q)
 
-      size-is : 81 * length (eachOnce (take (x .used) (c .growers))) + 61 ≡ length (sheetText L c)
-      size-is = ap (λ (m : ℕ). 81 * length (eachOnce (take m (c .growers))) + 61) (known .used-is) ∙ sym (sheet-size L c (known .lent))
+      pub days-refused : dated ≡ false → (y : Sized) → y ≡ notSized 19 → y ≡ sizedOf L c t room orderRoom workRoom
+      days-refused d = refused-by 19 (refusal-is false fits d refl) (λ z. omega (arith, z))
 
-      module _ (y : Checked) (q : y ≡ notChecked 15) where
-        refused : fits L c room orderRoom workRoom ≡ false → y ≡ checkedOf L c room orderRoom workRoom
-        refused f = room-short L c x e n f y q ∙ room-is
+      module _ (d : dated ≡ true) where
+        room-refused : fits ≡ false → (y : Sized) → y ≡ notSized 15 → y ≡ sizedOf L c t room orderRoom workRoom
+        room-refused f = refused-by 15 (refusal-is true false d f) (λ z. omega (arith, z))
 
-        pub order-short : orderRoom < x .used → y ≡ checkedOf L c room orderRoom workRoom
-        order-short h = refused (rw (lt-leb (used L c) orderRoom (omega (arith, known .used-is)), and-false))
+        module _ {k : ℕ} (j : k ≡ many) where
+          pub order-short : orderRoom < k → (y : Sized) → y ≡ notSized 15 → y ≡ sizedOf L c t room orderRoom workRoom
+          order-short h = room-refused (rw (lt-leb many orderRoom (omega arith), and-false))
 
-        pub work-short : x .used ≤ orderRoom → workRoom < x .used → y ≡ checkedOf L c room orderRoom workRoom
-        work-short h k = refused (rw (le-leb (used L c) orderRoom (omega (arith, known .used-is)), lt-leb (used L c) workRoom (omega (arith, known .used-is)), and-false))
+          pub work-short : k ≤ orderRoom → workRoom < k → (y : Sized) → y ≡ notSized 15 → y ≡ sizedOf L c t room orderRoom workRoom
+          work-short h i = room-refused (rw (le-leb many orderRoom (omega arith), lt-leb many workRoom (omega arith), and-false))
 
-        pub text-short : leb (81 * length (eachOnce (take (x .used) (c .growers))) + 61) room ≡ false → y ≡ checkedOf L c room orderRoom workRoom
-        text-short h = refused (rw (sym (ap (λ (m : ℕ). leb m room) size-is) ∙ h))
+          module _ {b : ℕ} (size : length (spanText L c (spanOf t)) ≡ b) where
+            pub text-short : leb b room ≡ false → (y : Sized) → y ≡ notSized 15 → y ≡ sizedOf L c t room orderRoom workRoom
+            text-short f = room-refused (rw (size, f))
 
-      pub all-fits : x .used ≤ orderRoom → x .used ≤ workRoom → leb (81 * length (eachOnce (take (x .used) (c .growers))) + 61) room ≡ true
-          → x ≡ checkedOf L c room orderRoom workRoom
-      all-fits h k f =
-          room-enough L c x e n
-          (rw (
-            sym (ap (λ (m : ℕ). leb m room) size-is) ∙ f,
-            le-leb (used L c) orderRoom (omega (arith, known .used-is)),
-            le-leb (used L c) workRoom (omega (arith, known .used-is)),
-          ))
-          ∙ room-is
+            pub all-fits : leb b room ≡ true → k ≤ orderRoom → k ≤ workRoom → {m : ℕ} → m ≡ used L c
+                → record { refusal = 0; used = m; count = k } ≡ sizedOf L c t room orderRoom workRoom
+            unfolding sizedOf
+            all-fits f h i {m} u =
+                let a : fits ≡ true = rw (size, f, le-leb many orderRoom (omega arith), le-leb many workRoom (omega arith)) in
+                let r : spanRefusal L c t room orderRoom workRoom ≡ 0 = refusal-is true true d a in
+                (λ i. record { refusal = 0; used = u i; count = j i }) ∙ sym (rw r)
 
 -- The answer.
 
-column-passed : (L : ℕ) (c : Column) → firstFailed (soundChecks L c) ≡ 0 → checkedColumn L c .refusal ≡ 0
-unfolding checkedColumn
-column-passed L c q = q
+module _ (L : ℕ) (c : Column) (t : TermAnswer) (out order work : List ℕ) (x : Sized) (e : x ≡ sizedOf L c t (length out) (length order) (length work)) where
+  abbrev refusal : ℕ
+  refusal = spanRefusal L c t (length out) (length order) (length work)
 
-module _ (L : ℕ) (c : Column) (out order work : List ℕ) (x : Checked) (e : x ≡ checkedOf L c (length out) (length order) (length work)) where
-  refusal-is : x .refusal ≡ firstFailed (sheetChecks L c (length out) (length order) (length work))
-  unfolding checkedOf
-  refusal-is = ap (λ (y : Checked). y .refusal) e
+  refusal-found : x .refusal ≡ refusal
+  unfolding sizedOf
+  refusal-found = ap (λ (y : Sized). y .refusal) e
 
   pub sheet-refused : (x .refusal ≡ 0 → ⊥)
-      → _≡_ {A = SheetResult} (record { answer = record { refusal = x .refusal; bytes = 0 }; text = out; order = order; work = work }) (sheetCall L c out order work)
-  unfolding sheetCall
-  sheet-refused n =
-      let f : firstFailed (sheetChecks L c (length out) (length order) (length work)) ≡ x .refusal = sym refusal-is in
-      sym (rw (f, ne-eqb (x .refusal) 0 n))
+      → _≡_ {A = SheetResult} (record { answer = record { refusal = x .refusal; bytes = 0 }; text = out; order = order; work = work }) (spanCall L c t out order work)
+  unfolding spanCall
+  sheet-refused n = let f : refusal ≡ x .refusal = sym refusal-found in sym (rw (f, ne-eqb (x .refusal) 0 n))
 
   -- what is known once every check has passed
   pub record CanWrite : Type 0 where
-    pub all : firstFailed (sheetChecks L c (length out) (length order) (length work)) ≡ 0
+    pub all : refusal ≡ 0
     pub lent : LentColumn L c
-    pub measured : Measured (take (x .used) (c .growers)) (take (x .used) (c .weights)) (take (x .used) (c .yields))
     pub used-is : x .used ≡ used L c
-    pub there : x .used ≤ length (c .growers)
-    pub room : 81 * length (eachOnce (take (x .used) (c .growers))) + 61 ≤ length out
-    pub order-room : x .used ≤ length order
-    pub work-room : x .used ≤ length work
+    pub count-is : x .count ≡ length (spanSlots L c (spanOf t))
+    pub measured : Measured (eachSlice (take (x .used)) (c .slices))
+    pub there : x .used ≤ length (c .slices .growers)
+    pub room : length (spanText L c (spanOf t)) ≤ length out
+    pub order-room : x .count ≤ length order
+    pub work-room : x .count ≤ length work
 
   pub can-write : x .refusal ≡ 0 → CanWrite
-  unfolding checkedOf sheetChecks numbered
+  unfolding sizedOf checkedColumn numbered
   can-write n =
-      let p : firstFailed (sheetChecks L c (length out) (length order) (length work)) ≡ 0 = sym refusal-is ∙ n in
-      let b = passed-both (soundChecks L c) (ask 15 (fits L c (length out) (length order) (length work)) ∷ []) tt p in
-      let w = passed L c (checkedColumn L c) refl (column-passed L c (b .0)) in
-      let f = yes-first 14 (fits L c (length out) (length order) (length work)) [] (b .1) .0 in
-      let t : Bool = leb (length (sheetText L c)) (length out) in
-      let o : Bool = leb (used L c) (length order) in
-      let k : Bool = leb (used L c) (length work) in
-      let u : x .used ≡ used L c = ap (λ (y : Checked). y .used) e ∙ rw p in
+      let p : refusal ≡ 0 = sym refusal-found ∙ n in
+      let b = passed-both (soundChecks L c) (last L c t (length out) (length order) (length work)) tt p in
+      let w = passed L c (checkedColumn L c) refl (b .0) in
+      let d = yes-first 18 (dated L c t (length out) (length order) (length work)) _ (b .1) in
+      let f = yes-first 14 (fits L c t (length out) (length order) (length work)) [] (d .1) .0 in
+      let k : ℕ = length (spanSlots L c (spanOf t)) in
+      let a : Bool = leb (length (spanText L c (spanOf t))) (length out) in
+      let o : Bool = leb k (length order) in
+      let v : Bool = leb k (length work) in
+      let u : x .used ≡ used L c = ap (λ (y : Sized). y .used) e ∙ rw p in
+      let j : x .count ≡ k = ap (λ (y : Sized). y .count) e ∙ rw p in
       record {
         all = p;
         lent = w .lent;
-        measured = rw u (used-measured L c (w .lent) (w .values));
         used-is = u;
+        count-is = j;
+        measured = used-measured L c (w .lent) (x .used) u (w .values);
         there = omega (arith, u, w .lent .shape .room);
-        room = rw u (omega (arith, leb→le (length (sheetText L c)) (length out) (and-fst t (o && k) f), sheet-size L c (w .lent)));
-        order-room = omega (arith, u, leb→le (used L c) (length order) (and-fst o k (and-snd t (o && k) f)));
-        work-room = omega (arith, u, leb→le (used L c) (length work) (and-snd o k (and-snd t (o && k) f)));
+        room = leb→le (length (spanText L c (spanOf t))) (length out) (and-fst a (o && v) f);
+        order-room = omega (arith, j, leb→le k (length order) (and-fst o v (and-snd a (o && v) f)));
+        work-room = omega (arith, j, leb→le k (length work) (and-snd o v (and-snd a (o && v) f)));
       }
 
-module _ {L : ℕ} {c : Column} {out order work : List ℕ} {x : Checked} {e : x ≡ checkedOf L c (length out) (length order) (length work)}
-    (w : CanWrite L c out order work x e) where
-  -- the used slots of each slice
-  abbrev usedRows : List Delivery
-  usedRows = rows (take (x .used) (c .growers)) (take (x .used) (c .weights)) (take (x .used) (c .yields))
+module _ {L : ℕ} {c : Column} {t : TermAnswer} {out order work : List ℕ} {x : Sized} {e : x ≡ sizedOf L c t (length out) (length order) (length work)}
+    (w : CanWrite L c t out order work x e) where
+  abbrev gs : List ℕ
+  gs = take (x .used) (c .slices .growers)
 
-  pub part-size : (s : List ℕ) → x .used ≤ length s → length (take (x .used) s) ≡ length (take (x .used) (c .growers))
-  part-size s h = length-take-le (x .used) s h ∙ sym (length-take-le (x .used) (c .growers) (w .there))
+  abbrev ns : List ℕ
+  ns = take (x .used) (c .slices .days)
+
+  abbrev usedSlices : Slices
+  usedSlices = eachSlice (take (x .used)) (c .slices)
+
+  abbrev is : List ℕ
+  is = spanSlots L c (spanOf t)
+
+  pub growers-long : length gs ≡ x .used
+  growers-long = long-growers (c .slices) (x .used) (w .lent .even) (w .there)
+
+  pub days-long : length ns ≡ x .used
+  days-long = long-days (c .slices) (x .used) (w .lent .even) (w .there)
+
+  in-code : slotsDuring (spanOf t) ns (length ns) ≡ is
+  in-code = slots-are L c (w .lent) (x .used) (w .used-is) (spanOf t) (length ns) days-long
+
+  pub order-size : length (take (x .count) order) ≡ length (slotsDuring (spanOf t) ns (length ns))
+  order-size = length-take-le (x .count) order (w .order-room) ∙ w .count-is ∙ sym (ap length in-code)
+
+  pub work-size : length (take (x .count) work) ≡ length (take (x .count) order)
+  work-size = length-take-le (x .count) work (w .work-room) ∙ sym (length-take-le (x .count) order (w .order-room))
 
   -- the order's part, once it is arranged
-  pub order-long : {o : List ℕ} → o ≡ slotsInOrder (take (x .used) (c .growers)) (length (take (x .used) (c .growers))) → x .used ≤ length (o ++ drop (x .used) order)
-  order-long {o} z = omega (arith, length-append o (drop (x .used) order), order-size (take (x .used) (c .growers)) z, length-take-le (x .used) (c .growers) (w .there))
+  module _ {o : List ℕ} (z : o ≡ byGrower gs (slotsDuring (spanOf t) ns (length ns))) where
+    sorted-is : o ≡ byGrower gs is
+    sorted-is = z ∙ ap (byGrower gs) in-code
 
-  pub order-part : {o : List ℕ} → o ≡ slotsInOrder (take (x .used) (c .growers)) (length (take (x .used) (c .growers))) → take (x .used) (o ++ drop (x .used) order) ≡ o
-  order-part {o} z = take-at o (drop (x .used) order) (x .used) (order-size (take (x .used) (c .growers)) z ∙ length-take-le (x .used) (c .growers) (w .there))
+    order-there : length o ≡ x .count
+    order-there = ap length sorted-is ∙ by-grower-length gs is ∙ sym (w .count-is)
 
-  pub sheet-done : {bytes : ℕ} {t o k : List ℕ} → t ≡ placed 0 (sheetOf usedRows) out → bytes ≡ length (sheetOf usedRows)
-      → o ≡ slotsInOrder (take (x .used) (c .growers)) (length (take (x .used) (c .growers))) → k ≡ replicate (length (take (x .used) (c .growers))) 0
-      → _≡_ {A = SheetResult} (record { answer = record { refusal = 0; bytes = bytes }; text = t; order = o ++ drop (x .used) order; work = k ++ drop (x .used) work })
-      (sheetCall L c out order work)
-  unfolding sheetCall
-  sheet-done {bytes} {t} {o} {k} et eb eo ek =
-      let u = w .used-is in
-      let n : length (take (x .used) (c .growers)) ≡ x .used = length-take-le (x .used) (c .growers) (w .there) in
-      let bag : usedRows ≡ allRecords L c = ap (λ (m : ℕ). rows (take m (c .growers)) (take m (c .weights)) (take m (c .yields))) u ∙ sym (records-are L c) in
-      let t' : t ≡ sheetText L c ++ drop (length (sheetText L c)) out = et ∙ ap (λ (ds : List Delivery). placed 0 (sheetOf ds) out) bag ∙ placed-first (sheetText L c) out in
-      let b' : bytes ≡ length (sheetText L c) = eb ∙ ap (λ (ds : List Delivery). length (sheetOf ds)) bag in
-      let o' : o ++ drop (x .used) order ≡ slotsInOrder (c .growers) (used L c) ++ drop (used L c) order
-      = ap (λ (a : List ℕ). a ++ drop (x .used) order) (eo ∙ ap (slotsInOrder (take (x .used) (c .growers))) n ∙ part-order (c .growers) (x .used))
-      ∙ ap (λ (m : ℕ). slotsInOrder (c .growers) m ++ drop m order) u in
-      let k' : k ++ drop (x .used) work ≡ replicate (used L c) 0 ++ drop (used L c) work
-      = ap (λ (a : List ℕ). a ++ drop (x .used) work) (ek ∙ ap (λ (m : ℕ). replicate m 0) n) ∙ ap (λ (m : ℕ). replicate m 0 ++ drop m work) u in
-      (λ j. record { answer = record { refusal = 0; bytes = b' j }; text = t' j; order = o' j; work = k' j }) ∙ sym (rw (w .all))
+    pub order-long : x .count ≤ length (o ++ drop (x .count) order)
+    order-long = omega (arith, length-append o (drop (x .count) order), order-there)
+
+    front : take (x .count) (o ++ drop (x .count) order) ≡ byGrower gs is
+    front = take-at o (drop (x .count) order) (x .count) order-there ∙ sorted-is
+
+    slots-in : InOrder gs (byGrower gs is)
+    slots-in =
+        record {
+          few = omega (arith, by-grower-length gs is, w .count-is, count-few);
+          there = by-grower-in gs is (subst (λ (l : List ℕ). T (slotsIn gs l)) in-code (picked-in _ gs (length ns) (omega (arith, growers-long, days-long))));
+          falls-not = by-grower-falls-not gs is;
+        }
+      where
+        count-few : x .count ≤ mostSlots
+        count-few =
+            omega (arith, w .count-is, ap length in-code, picked-few (λ (i : ℕ). isIn (spanOf t) (getD ns i 0)) (length ns), days-long, w .there, w .lent .most)
+
+    pub in-order : InOrder gs (take (x .count) (o ++ drop (x .count) order))
+    in-order = subst (InOrder gs) (sym front) slots-in
+
+    pub text-room : bytesOf gs (take (x .count) (o ++ drop (x .count) order)) ≤ length out
+    text-room =
+        let s = text-size L c (w .lent) (x .used) (w .used-is) (spanOf t) (length ns) days-long in
+        let b : bytesOf gs (take (x .count) (o ++ drop (x .count) order)) ≡ length (spanText L c (spanOf t))
+        = ap (bytesOf gs) front ∙ ap (λ (l : List ℕ). 81 * length l + 61) (by-grower-growers gs is) ∙ sym (s ∙ ap (bytesOf gs) in-code) in
+        omega (arith, b, w .room)
+
+    pub sheet-done : {bytes : ℕ} {v k : List ℕ} → v ≡ placed 0 (sheetOf (recordsAt usedSlices (take (x .count) (o ++ drop (x .count) order)))) out
+        → bytes ≡ length (sheetOf (recordsAt usedSlices (take (x .count) (o ++ drop (x .count) order)))) → k ≡ replicate (length (take (x .count) work)) 0
+        → _≡_ {A = SheetResult} (record { answer = record { refusal = 0; bytes = bytes }; text = v; order = o ++ drop (x .count) order; work = k ++ drop (x .count) work })
+        (spanCall L c t out order work)
+    unfolding spanCall
+    sheet-done {bytes} {v} {k} et eb ek =
+        let q : sheetOf (recordsAt usedSlices (take (x .count) (o ++ drop (x .count) order))) ≡ spanText L c (spanOf t)
+        = ap (λ (l : List ℕ). sheetOf (recordsAt usedSlices l)) front ∙ same-sheet usedSlices is ∙ sym (text-is L c (w .lent) (x .used) (w .used-is) (spanOf t)) in
+        let v' : v ≡ spanText L c (spanOf t) ++ drop (length (spanText L c (spanOf t))) out = et ∙ ap (λ (l : List ℕ). placed 0 l out) q ∙ placed-first (spanText L c (spanOf t)) out in
+        let b' : bytes ≡ length (spanText L c (spanOf t)) = eb ∙ ap length q in
+        let g : byGrower gs is ≡ byGrower (c .slices .growers) is
+        = ap (λ (m : ℕ). byGrower gs (slotsDuring (spanOf t) (c .slices .days) m)) (sym (w .used-is))
+        ∙ part-sorted (c .slices) (x .used) (w .lent .even) (w .there) (spanOf t)
+        ∙ ap (λ (m : ℕ). byGrower (c .slices .growers) (slotsDuring (spanOf t) (c .slices .days) m)) (w .used-is) in
+        let o' : o ++ drop (x .count) order ≡ byGrower (c .slices .growers) is ++ drop (length is) order
+        = ap (λ (l : List ℕ). l ++ drop (x .count) order) (sorted-is ∙ g) ∙ ap (λ (m : ℕ). byGrower (c .slices .growers) is ++ drop m order) (w .count-is) in
+        let k' : k ++ drop (x .count) work ≡ replicate (length is) 0 ++ drop (length is) work
+        = ap (λ (l : List ℕ). l ++ drop (x .count) work) (ek ∙ ap (λ (m : ℕ). replicate m 0) (length-take-le (x .count) work (w .work-room)))
+        ∙ ap (λ (m : ℕ). replicate m 0 ++ drop m work) (w .count-is) in
+        (λ j. record { answer = record { refusal = 0; bytes = b' j }; text = v' j; order = o' j; work = k' j }) ∙ sym (rw (w .all))

@@ -1,15 +1,31 @@
 -- Runs of one grower's slots in an order.
-use Prim.Native.Nat.{ℕ}
+use Prim.Native.Nat.{ℕ, _≤_}
 use mathlib.Core.Bool.{cond}
-use mathlib.Core.List.{List, [], _∷_}
-use lib.ListN.{getD, drop}
-use lib.Dec.{eqb}
+use mathlib.Core.List.{List, [], _∷_, map}
+use lib.ListN.{length, getD, drop}
+use lib.Dec.{T, eqb}
 use Rattle.model.specs.declared.Delivery.{Delivery}
-use Rattle.model.specs.Deliveries.{delivery}
+use Rattle.model.specs.Bounds.{mostSlots}
+use Rattle.model.specs.Lists.{neverFalls}
+use Rattle.model.specs.Deliveries.{Slices, delivery}
+use Rattle.slot_order.specs.Passes.{slotsIn}
 
 -- the delivery in a slot
-abbrev pub deliveryAt : List ℕ → List ℕ → List ℕ → ℕ → Delivery
-deliveryAt gs ws ys i = delivery (getD gs i 0) (getD ws i 0) (getD ys i 0)
+abbrev pub deliveryAt : Slices → ℕ → Delivery
+deliveryAt s i = delivery (getD (s .growers) i 0) (getD (s .weights) i 0) (getD (s .yields) i 0) (getD (s .days) i 0)
+
+-- the deliveries in slots, and their growers
+abbrev pub recordsAt : Slices → List ℕ → List Delivery
+recordsAt s is = map (deliveryAt s) is
+
+abbrev pub growersAt : List ℕ → List ℕ → List ℕ
+growersAt gs is = map (λ (i : ℕ). getD gs i 0) is
+
+-- slots in order of grower
+pub record InOrder (gs order : List ℕ) : Type 0 where
+  pub few : length order ≤ mostSlots
+  pub there : T (slotsIn gs order)
+  pub falls-not : T (neverFalls (growersAt gs order))
 
 -- the slots at the front of a list that hold grower g
 unfoldable pub slotsFront : List ℕ → ℕ → List ℕ → List ℕ

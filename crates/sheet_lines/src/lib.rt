@@ -1,16 +1,17 @@
-// The lines of a settlement sheet (02: Slip 4), written from the slots in order: one run of slots, one line.
+// The lines of a settlement sheet (02: Slip 4), written from slots in order: one run of slots, one line.
 ghost use mathlib.Core.Path.{_≡_};
 ghost use Prim.Native.Nat.{_+_, _*_, _≤_, _<_};
 ghost use mathlib.Core.List.{map, flatten};
 ghost use lib.ListN.{length};
 ghost use lib.Dec.{T};
-ghost use Rattle.model.specs.Deliveries.{rows, totalsOf};
+ghost use Rattle.model.specs.Lent.{slicesAt, slicesIn};
+ghost use Rattle.model.specs.Deliveries.{totalsOf};
 ghost use Rattle.model.specs.Bounds.{mostSlots};
-ghost use Rattle.model.specs.Sheet.{eachOnce, sheetLines, lineText, wideLine, totalsRow, sheetOf, slotsInOrder};
+ghost use Rattle.model.specs.Sheet.{eachOnce, sheetLines, lineText, wideLine, totalsRow, sheetOf};
 ghost use Rattle.slices.specs.Slices.{Measured};
 ghost use Rattle.fields.specs.Writing.{placed};
 ghost use Rattle.slot_order.specs.Passes.{slotsIn};
-ghost use Rattle.sheet_lines.specs.Runs.{deliveryAt, runFrom};
+ghost use Rattle.sheet_lines.specs.Runs.{recordsAt, growersAt, InOrder, runFrom};
 use fields::WIDE;
 use model::Totals;
 
@@ -46,11 +47,11 @@ struct Run {
     totals: Totals,
 }
 
-// The run that begins at a place of an order.
-fn run_at(order: &[u32], g: &[u32], w: &[u32], y: &[u32], from: usize) -> Run
-    requires { ⌜ Measured (now g) (now w) (now y) × (length (now order) ≤ mostSlots) × T (slotsIn (now g) (now order)) × (from < length (now order)) ⌝ }
+// The run that begins at a place of an order. The days are lent to name the records; totals do not read them.
+fn run_at(order: &[u32], g: &[u32], w: &[u32], y: &[u32], n: &[u32], from: usize) -> Run
+    requires { ⌜ Measured (slicesAt g w y n) × (length (now order) ≤ mostSlots) × T (slotsIn (now g) (now order)) × (from < length (now order)) ⌝ }
     ensures { λ r. ⌜ (r .next ≡ from + length (runFrom (now (g .entry)) from (now (order .entry))))
-        × (r .totals ≡ totalsOf (map (deliveryAt (now (g .entry)) (now (w .entry)) (now (y .entry))) (runFrom (now (g .entry)) from (now (order .entry))))) ⌝ }
+        × (r .totals ≡ totalsOf (recordsAt (slicesIn g w y n) (runFrom (now (g .entry)) from (now (order .entry))))) ⌝ }
 {
     let grower = g[order[from] as usize];
     let mut weight: u64 = 0;
@@ -91,18 +92,17 @@ struct Lines {
 }
 
 // The growers' lines at the start of a text.
-fn put_lines(text: &mut [u8], order: &[u32], g: &[u32], w: &[u32], y: &[u32]) -> Lines
-    requires { ⌜ Measured (now g) (now w) (now y) × (now order ≡ slotsInOrder (now g) (length (now g)))
-        × (81 * length (eachOnce (now g)) ≤ length (now text)) ⌝ }
-    ensures { λ r. ⌜ (now (text .exit)
-        ≡ placed 0 (flatten (map lineText (sheetLines (rows (now (g .entry)) (now (w .entry)) (now (y .entry)))))) (now (text .entry)))
-        × (r .bytes ≡ 81 * length (eachOnce (now (g .entry)))) × (r .totals ≡ totalsOf (rows (now (g .entry)) (now (w .entry)) (now (y .entry)))) ⌝ }
+fn put_lines(text: &mut [u8], order: &[u32], g: &[u32], w: &[u32], y: &[u32], n: &[u32]) -> Lines
+    requires { ⌜ Measured (slicesAt g w y n) × InOrder (now g) (now order) × (81 * length (eachOnce (growersAt (now g) (now order))) ≤ length (now text)) ⌝ }
+    ensures { λ r. ⌜ (now (text .exit) ≡ placed 0 (flatten (map lineText (sheetLines (recordsAt (slicesIn g w y n) (now (order .entry)))))) (now (text .entry)))
+        × (r .bytes ≡ 81 * length (eachOnce (growersAt (now (g .entry)) (now (order .entry)))))
+        × (r .totals ≡ totalsOf (recordsAt (slicesIn g w y n) (now (order .entry)))) ⌝ }
 {
     let mut totals = Totals::none();
     let mut at = 0;
     let mut i = 0;
     while i < order.len() {
-        let r = run_at(order, g, w, y, i);
+        let r = run_at(order, g, w, y, n, i);
         let t = r.totals;
         put_line(text, at, g[order[i] as usize], t);
         totals = totals.plus(t);
@@ -112,14 +112,21 @@ fn put_lines(text: &mut [u8], order: &[u32], g: &[u32], w: &[u32], y: &[u32]) ->
     Lines { bytes: at, totals }
 }
 
-// The sheet at the start of a text: how many bytes it takes.
-pub fn put_sheet(text: &mut [u8], order: &[u32], g: &[u32], w: &[u32], y: &[u32]) -> usize
-    requires { ⌜ Measured (now g) (now w) (now y) × (now order ≡ slotsInOrder (now g) (length (now g)))
-        × (81 * length (eachOnce (now g)) + 61 ≤ length (now text)) ⌝ }
-    ensures { λ r. ⌜ (now (text .exit) ≡ placed 0 (sheetOf (rows (now (g .entry)) (now (w .entry)) (now (y .entry)))) (now (text .entry)))
-        × (r ≡ length (sheetOf (rows (now (g .entry)) (now (w .entry)) (now (y .entry))))) ⌝ }
+// The sheet of the records in the slots of an order, at the start of a text: how many bytes it takes.
+pub fn put_sheet(
+    text: &mut [u8],
+    order: &[u32],
+    g: &[u32],
+    w: &[u32],
+    y: &[u32],
+    n: &[u32],
+) -> usize
+    requires { ⌜ Measured (slicesAt g w y n) × InOrder (now g) (now order)
+        × (81 * length (eachOnce (growersAt (now g) (now order))) + 61 ≤ length (now text)) ⌝ }
+    ensures { λ r. ⌜ (now (text .exit) ≡ placed 0 (sheetOf (recordsAt (slicesIn g w y n) (now (order .entry)))) (now (text .entry)))
+        × (r ≡ length (sheetOf (recordsAt (slicesIn g w y n) (now (order .entry))))) ⌝ }
 {
-    let l = put_lines(text, order, g, w, y);
+    let l = put_lines(text, order, g, w, y, n);
     let at = l.bytes;
     put_totals(text, at, l.totals);
     at + LAST

@@ -10,8 +10,7 @@ use lib.ListN.{length, take, drop, take-append-drop, length-take}
 use lib.Seq.{length-take-le}
 use Rattle.model.specs.declared.Delivery.{Delivery}
 use Rattle.model.specs.Lists.{keep}
-use Rattle.model.specs.Lent.{Even}
-use Rattle.model.specs.Deliveries.{rows, same, firstMatch}
+use Rattle.model.specs.Deliveries.{Slices, eachSlice, zipped, rows, Even, same, firstMatch}
 use Rattle.model.proofs.Tests.{and-mk, of-true}
 use Rattle.model.proofs.Deliveries.{rows-part, length-rows}
 use Rattle.slices.specs.Slices.{countBetween}
@@ -59,51 +58,57 @@ first-joined d a b = go (ltb (firstMatch d a) (length a)) refl
     go false e = first-right d a b (ltb-false (firstMatch d a) (length a) e)
 
 -- without its grower there is no match
-pub grower-missing : (d : Delivery) (g w y : List ℕ) → length w ≡ length g → length y ≡ length g → countBetween (d .grower) (d .grower) g < 1 → length g ≡ firstMatch d (rows g w y)
-unfolding firstMatch rows keep
-grower-missing d [] w y p q h = refl
-grower-missing d (a ∷ g) [] y p q h = let z : ⊥ = omega arith in absurd z
-grower-missing d (a ∷ g) (b ∷ w) [] p q h = let z : ⊥ = omega arith in absurd z
-grower-missing d (a ∷ g) (b ∷ w) (c ∷ y) p q h =
-    go (eqb (d .grower) a) refl (eqb (d .weight) b) (eqb (d .«oil_yield») c) (leb (d .grower) a && leb a (d .grower)) refl h (grower-missing d g w y (omega arith) (omega arith))
+missing-in : (d : Delivery) (g w y n : List ℕ) → length w ≡ length g → length y ≡ length g → length n ≡ length g → countBetween (d .grower) (d .grower) g < 1
+    → length g ≡ firstMatch d (zipped g w y n)
+unfolding firstMatch zipped keep
+missing-in d [] w y n p q r h = refl
+missing-in d (a ∷ g) [] y n p q r h = let z : ⊥ = omega arith in absurd z
+missing-in d (a ∷ g) (b ∷ w) [] n p q r h = let z : ⊥ = omega arith in absurd z
+missing-in d (a ∷ g) (b ∷ w) (c ∷ y) [] p q r h = let z : ⊥ = omega arith in absurd z
+missing-in d (a ∷ g) (b ∷ w) (c ∷ y) (e ∷ n) p q r h =
+    go (eqb (d .grower) a) refl (eqb (d .weight) b) (eqb (d .«oil_yield») c) (eqb (d .day) e) (leb (d .grower) a && leb a (d .grower)) refl h
+    (missing-in d g w y n (omega arith) (omega arith) (omega arith))
   where
     x : ℕ
     x = d .grower
 
     kept : List ℕ
-    kept = keep (λ (n : ℕ). leb x n && leb n x) g
+    kept = keep (λ (m : ℕ). leb x m && leb m x) g
 
-    go : (t : Bool) → eqb x a ≡ t → (u v i : Bool) → (leb x a && leb a x) ≡ i → length (cond i (a ∷ kept) kept) < 1
-        → (countBetween x x g < 1 → length g ≡ firstMatch d (rows g w y)) → suc (length g) ≡ cond (t && u && v) 0 (firstMatch d (rows g w y) + 1)
-    go t e u v true f k r = let z : ⊥ = omega arith in absurd z
-    go false e u v false f k r = omega (arith, r k)
-    go true e u v false f k r =
-        let s : x ≡ a = eqb→eq x a (of-true _ e) in
+    go : (t : Bool) → eqb x a ≡ t → (u v z i : Bool) → (leb x a && leb a x) ≡ i → length (cond i (a ∷ kept) kept) < 1
+        → (countBetween x x g < 1 → length g ≡ firstMatch d (zipped g w y n)) → suc (length g) ≡ cond (t && u && v && z) 0 (firstMatch d (zipped g w y n) + 1)
+    go t e u v z true f k s = let o : ⊥ = omega arith in absurd o
+    go false e u v z false f k s = omega (arith, s k)
+    go true e u v z false f k s =
+        let o : x ≡ a = eqb→eq x a (of-true _ e) in
         absurd (subst T f (and-mk (leb x a) (leb a x) (le→leb x a (omega arith)) (le→leb a x (omega arith))))
+
+pub grower-missing : (d : Delivery) (s : Slices) → Even s → countBetween (d .grower) (d .grower) (s .growers) < 1 → length (s .growers) ≡ firstMatch d (rows s)
+grower-missing d s e = missing-in d (s .growers) (s .weights) (s .yields) (s .days) (e .weights) (e .yields) (e .days)
 
 -- The loop over strides: the first match among the records passed is past them.
 
-pub passing-start : (d : Delivery) (g w y : List ℕ) → Strides (firstMatch d) g w y 0 0
+pub passing-start : (d : Delivery) (s : Slices) → Strides (firstMatch d) s 0 0
 unfolding firstMatch
-passing-start d g w y = record { at = omega arith; so-far = refl }
+passing-start d s = record { at = omega arith; so-far = refl }
 
-module _ (d : Delivery) (g w y : List ℕ) (p : Even g w y) (i : ℕ) (t : Strides (firstMatch d) g w y i i) (n k : ℕ) (h : i + n ≤ length g)
-    (e : k ≡ firstMatch d (rows (take n (drop i g)) (take n (drop i w)) (take n (drop i y)))) where
-  passed : Strides (firstMatch d) g w y (i + k) (i + n)
-  passed = strides-next (firstMatch d) (firstMore d) (first-joined d) g w y p i i t n (i + k) h (rw (le-ltb i i (omega arith), e))
+module _ (d : Delivery) (s : Slices) (p : Even s) (i : ℕ) (t : Strides (firstMatch d) s i i) (n k : ℕ) (h : i + n ≤ length (s .growers))
+    (e : k ≡ firstMatch d (rows (eachSlice (λ (l : List ℕ). take n (drop i l)) s))) where
+  passed : Strides (firstMatch d) s (i + k) (i + n)
+  passed = strides-next (firstMatch d) (firstMore d) (first-joined d) s p i i t n (i + k) h (rw (le-ltb i i (omega arith), e))
 
-  pub passing-found : k < n → i + k ≡ firstMatch d (rows g w y)
+  pub passing-found : k < n → i + k ≡ firstMatch d (rows s)
   passing-found l =
-      let a : List Delivery = take (i + n) (rows g w y) in
-      let b : List Delivery = drop (i + n) (rows g w y) in
-      let z : length a ≡ i + n = length-take-le (i + n) (rows g w y) (omega (arith, length-rows g w y (p .weights) (p .yields))) in
-      passed .so-far ∙ sym (first-left d a b (omega (arith, passed .so-far))) ∙ ap (firstMatch d) (take-append-drop (i + n) (rows g w y))
+      let a : List Delivery = take (i + n) (rows s) in
+      let b : List Delivery = drop (i + n) (rows s) in
+      let z : length a ≡ i + n = length-take-le (i + n) (rows s) (omega (arith, length-rows s p)) in
+      passed .so-far ∙ sym (first-left d a b (omega (arith, passed .so-far))) ∙ ap (firstMatch d) (take-append-drop (i + n) (rows s))
 
   pub passing-most : k ≤ n
-  passing-most = omega (arith, e, ap (firstMatch d) (rows-part n i g w y), first-most d (take n (drop i (rows g w y))), length-take n (drop i (rows g w y)))
+  passing-most = omega (arith, e, ap (firstMatch d) (rows-part n i s), first-most d (take n (drop i (rows s))), length-take n (drop i (rows s)))
 
-  pub passing-next : n ≤ k → Strides (firstMatch d) g w y (i + n) (i + n)
+  pub passing-next : n ≤ k → Strides (firstMatch d) s (i + n) (i + n)
   passing-next l = let z : k ≡ n = omega (arith, passing-most) in record { at = h; so-far = ap (λ (x : ℕ). i + x) (sym z) ∙ passed .so-far }
 
-  pub passing-end : length g ≤ i + n → i + k ≡ firstMatch d (rows g w y)
-  passing-end l = strides-end (firstMatch d) g w y p (i + k) (i + n) passed l
+  pub passing-end : length (s .growers) ≤ i + n → i + k ≡ firstMatch d (rows s)
+  passing-end l = strides-end (firstMatch d) s p (i + k) (i + n) passed l

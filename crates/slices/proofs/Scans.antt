@@ -1,4 +1,4 @@
--- Scans of the rows of three slices: totals of those in a range, and the first that is a given delivery. Assumes nothing.
+-- Scans of the rows of the slices: totals of those in a range, and the first that is a given delivery. Assumes nothing.
 use Prim.Native.Nat.{ℕ, zero, suc, _+_, _*_, _≤_, _<_}
 use mathlib.Core.Path.{_≡_, refl, sym, ap}
 use mathlib.Core.Bool.{Bool, true, false, cond, _&&_}
@@ -13,7 +13,7 @@ use lib.Seq.{drop-cons}
 use Rattle.model.specs.declared.Delivery.{Delivery}
 use Rattle.model.specs.declared.Totals.{Totals}
 use Rattle.model.specs.Lists.{sumOf, every, keep}
-use Rattle.model.specs.Deliveries.{rows, totalsOf, firstMatch}
+use Rattle.model.specs.Deliveries.{Slices, eachSlice, rows, Even, zipped, totalsOf, firstMatch}
 use Rattle.model.proofs.Tests.{and-fst, and-snd, is-true}
 use Rattle.model.proofs.Deliveries.{rowAt, rows-from}
 use Rattle.slices.specs.Slices.{allWithin, sameAt, Measured}
@@ -26,8 +26,8 @@ within-at m (x ∷ s) t zero = leb-true x m (is-true (leb x m) (and-fst (leb x m
 within-at m (x ∷ s) t (suc i) = within-at m s (and-snd (leb x m) (every (λ (n : ℕ). leb n m) s) t) i
 
 -- the rows from i on that pass a test
-unfoldable pub rest : (Delivery → Bool) → List ℕ → List ℕ → List ℕ → ℕ → List Delivery
-rest f g w y i = keep f (rows (drop i g) (drop i w) (drop i y))
+unfoldable pub rest : (Delivery → Bool) → Slices → ℕ → List Delivery
+rest f s i = keep f (rows (eachSlice (drop i) s))
 
 abbrev weightOf : List Delivery → ℕ
 weightOf l = sumOf (map (λ (d : Delivery). d .weight) l)
@@ -36,39 +36,39 @@ abbrev oilOf : List Delivery → ℕ
 oilOf l = sumOf (map (λ (d : Delivery). d .weight * d .«oil_yield») l)
 
 -- what a loop has when it stands at i: so far, and the rest, is the whole
-pub record Running (f : Delivery → Bool) (g w y : List ℕ) (records weight oil i : ℕ) : Type 0 where
-  pub at : i ≤ length g
-  pub counted : records + length (rest f g w y i) ≡ length (rest f g w y 0)
-  pub weighed : weight + weightOf (rest f g w y i) ≡ weightOf (rest f g w y 0)
-  pub pressed : oil + oilOf (rest f g w y i) ≡ oilOf (rest f g w y 0)
+pub record Running (f : Delivery → Bool) (s : Slices) (records weight oil i : ℕ) : Type 0 where
+  pub at : i ≤ length (s .growers)
+  pub counted : records + length (rest f s i) ≡ length (rest f s 0)
+  pub weighed : weight + weightOf (rest f s i) ≡ weightOf (rest f s 0)
+  pub pressed : oil + oilOf (rest f s i) ≡ oilOf (rest f s 0)
   pub few : records ≤ i
   pub light : weight ≤ 100000 * i
   pub little : oil ≤ 1000000000 * i
 
 -- the weight and the yield of one record
-pub record Modest (w y : List ℕ) (i : ℕ) : Type 0 where
-  pub weight : getD w i 0 ≤ 100000
-  pub oil : getD w i 0 * getD y i 0 ≤ 1000000000
+pub record Modest (s : Slices) (i : ℕ) : Type 0 where
+  pub weight : getD (s .weights) i 0 ≤ 100000
+  pub oil : getD (s .weights) i 0 * getD (s .yields) i 0 ≤ 1000000000
 
-pub modest : (g w y : List ℕ) (i : ℕ) → Measured g w y → Modest w y i
-modest g w y i m =
-    let a : getD w i 0 ≤ 100000 = within-at 100000 w (m .good-weights) i in
-    let b : getD y i 0 ≤ 10000 = within-at 10000 y (m .good-yields) i in
+pub modest : (s : Slices) (i : ℕ) → Measured s → Modest s i
+modest s i m =
+    let a : getD (s .weights) i 0 ≤ 100000 = within-at 100000 (s .weights) (m .good-weights) i in
+    let b : getD (s .yields) i 0 ≤ 10000 = within-at 10000 (s .yields) (m .good-yields) i in
     record { weight = a; oil = mul-le-mul a b }
 
-pub running-start : (f : Delivery → Bool) (g w y : List ℕ) → Running f g w y 0 0 0 0
-running-start f g w y = omega arith
+pub running-start : (f : Delivery → Bool) (s : Slices) → Running f s 0 0 0 0
+running-start f s = omega arith
 
-module _ (f : Delivery → Bool) (g w y : List ℕ) (m : Measured g w y) (records weight oil i : ℕ) (h : i < length g) (t : Running f g w y records weight oil i) where
-  step : (b : Bool) → f (rowAt g w y i) ≡ b → rest f g w y i ≡ cond b (rowAt g w y i ∷ rest f g w y (i + 1)) (rest f g w y (i + 1))
+module _ (f : Delivery → Bool) (s : Slices) (m : Measured s) (records weight oil i : ℕ) (h : i < length (s .growers)) (t : Running f s records weight oil i) where
+  step : (b : Bool) → f (rowAt s i) ≡ b → rest f s i ≡ cond b (rowAt s i ∷ rest f s (i + 1)) (rest f s (i + 1))
   unfolding rest keep
-  step b e = rw (rows-from g w y i h (m .even .weights) (m .even .yields), e)
+  step b e = rw (rows-from s i h (m .even), e)
 
-  pub running-take : f (rowAt g w y i) ≡ true → Running f g w y (records + 1) (weight + getD w i 0) (oil + getD w i 0 * getD y i 0) (i + 1)
+  pub running-take : f (rowAt s i) ≡ true → Running f s (records + 1) (weight + getD (s .weights) i 0) (oil + getD (s .weights) i 0 * getD (s .yields) i 0) (i + 1)
   unfolding sumOf
   running-take k =
-      let e : rest f g w y i ≡ rowAt g w y i ∷ rest f g w y (i + 1) = step true k in
-      let o = modest g w y i m in
+      let e : rest f s i ≡ rowAt s i ∷ rest f s (i + 1) = step true k in
+      let o = modest s i m in
       record {
         at = omega arith;
         counted = omega (arith, ap length e, t .counted);
@@ -79,9 +79,9 @@ module _ (f : Delivery → Bool) (g w y : List ℕ) (m : Measured g w y) (record
         little = omega (arith, t .little, o .oil);
       }
 
-  pub running-pass : f (rowAt g w y i) ≡ false → Running f g w y records weight oil (i + 1)
+  pub running-pass : f (rowAt s i) ≡ false → Running f s records weight oil (i + 1)
   running-pass k =
-      let e : rest f g w y i ≡ rest f g w y (i + 1) = step false k in
+      let e : rest f s i ≡ rest f s (i + 1) = step false k in
       record {
         at = omega arith;
         counted = omega (arith, ap length e, t .counted);
@@ -92,23 +92,23 @@ module _ (f : Delivery → Bool) (g w y : List ℕ) (m : Measured g w y) (record
         little = omega (arith, t .little);
       }
 
-rest-end : (f : Delivery → Bool) (g w y : List ℕ) (i : ℕ) → length g ≤ i → rest f g w y i ≡ []
-unfolding rest rows keep
-rest-end f g w y i h = rw (drop-of-length-le g h)
+rest-end : (f : Delivery → Bool) (s : Slices) (i : ℕ) → length (s .growers) ≤ i → rest f s i ≡ []
+unfolding rest zipped keep
+rest-end f s i h = rw (drop-of-length-le (s .growers) h)
 
-rest-all : (f : Delivery → Bool) (g w y : List ℕ) → rest f g w y 0 ≡ keep f (rows g w y)
+rest-all : (f : Delivery → Bool) (s : Slices) → rest f s 0 ≡ keep f (rows s)
 unfolding rest
-rest-all f g w y = refl
+rest-all f s = refl
 
-pub running-end : (f : Delivery → Bool) (g w y : List ℕ) (records weight oil i : ℕ) → length g ≤ i → Running f g w y records weight oil i
-    → _≡_ {A = Totals} (record { records = records; weight = weight; oil = oil }) (totalsOf (keep f (rows g w y)))
+pub running-end : (f : Delivery → Bool) (s : Slices) (records weight oil i : ℕ) → length (s .growers) ≤ i → Running f s records weight oil i
+    → _≡_ {A = Totals} (record { records = records; weight = weight; oil = oil }) (totalsOf (keep f (rows s)))
 unfolding totalsOf sumOf
-running-end f g w y records weight oil i h t =
-    let e : rest f g w y i ≡ [] = rest-end f g w y i h in
-    let a : keep f (rows g w y) ≡ rest f g w y 0 = sym (rest-all f g w y) in
-    let er : records ≡ length (rest f g w y 0) = omega (arith, ap length e, t .counted) in
-    let ew : weight ≡ weightOf (rest f g w y 0) = omega (arith, ap weightOf e, t .weighed) in
-    let eo : oil ≡ oilOf (rest f g w y 0) = omega (arith, ap oilOf e, t .pressed) in
+running-end f s records weight oil i h t =
+    let e : rest f s i ≡ [] = rest-end f s i h in
+    let a : keep f (rows s) ≡ rest f s 0 = sym (rest-all f s) in
+    let er : records ≡ length (rest f s 0) = omega (arith, ap length e, t .counted) in
+    let ew : weight ≡ weightOf (rest f s 0) = omega (arith, ap weightOf e, t .weighed) in
+    let eo : oil ≡ oilOf (rest f s 0) = omega (arith, ap oilOf e, t .pressed) in
     rw (a, er, ew, eo)
 
 -- The tests: a grower in a range, and any.
@@ -125,6 +125,22 @@ is-below lo hi x l = rw (lt-leb lo x l)
 pub is-above : (lo hi x : ℕ) → lo ≤ x → hi < x → inside lo hi x ≡ false
 is-above lo hi x l m = rw (le-leb lo x l, lt-leb x hi m)
 
+pub up-to : (lo hi x : ℕ) → lo ≤ x → leb x hi ≡ inside lo hi x
+up-to lo hi x l = rw (le-leb lo x l)
+
+-- two tests, one of the records that pass the other
+pub keep-both : (p q : Delivery → Bool) (l : List Delivery) → keep p (keep q l) ≡ keep (λ (d : Delivery). q d && p d) l
+unfolding keep
+keep-both p q [] = refl
+keep-both p q (d ∷ l) = go (q d) (keep-both p q l)
+  where
+    kept : List Delivery
+    kept = keep (λ (x : Delivery). q x && p x) l
+
+    go : (a : Bool) → keep p (keep q l) ≡ kept → keep p (cond a (d ∷ keep q l) (keep q l)) ≡ cond (a && p d) (d ∷ kept) kept
+    go true e = ap (λ (t : List Delivery). cond (p d) (d ∷ t) t) e
+    go false e = e
+
 pub is-equal : (q x : ℕ) → x ≡ q → inside q q x ≡ true
 is-equal q x e = is-inside q q x (omega arith) (omega arith)
 
@@ -135,6 +151,19 @@ is-other q x h = go (leb q x) (leb x q) refl refl
     go true true l m = absurd (h (omega (arith, leb-true q x l, leb-true x q m)))
     go true false l m = refl
     go false b l m = refl
+
+-- a grower in a range, on a day in a span
+abbrev pub during : ℕ → ℕ → ℕ → ℕ → Delivery → Bool
+during lo hi first last d = inside first last (d .day) && inside lo hi (d .grower)
+
+pub is-during : (lo hi first last : ℕ) (d : Delivery) → inside first last (d .day) ≡ true → inside lo hi (d .grower) ≡ true → during lo hi first last d ≡ true
+is-during lo hi first last d e f = rw (e, f)
+
+pub other-day : (lo hi first last : ℕ) (d : Delivery) → inside first last (d .day) ≡ false → during lo hi first last d ≡ false
+other-day lo hi first last d e = rw e
+
+pub not-wanted : (lo hi first last : ℕ) (d : Delivery) → inside first last (d .day) ≡ true → inside lo hi (d .grower) ≡ false → during lo hi first last d ≡ false
+not-wanted lo hi first last d e f = rw (e, f)
 
 -- Growers counted.
 
@@ -171,37 +200,41 @@ keep-any (d ∷ l) = ap (λ (t : List Delivery). d ∷ t) (keep-any l)
 
 -- The first that is the delivery.
 
-module _ (d : Delivery) (g w y : List ℕ) (i : ℕ) where
-  pub other-grower : (d .grower ≡ getD g i 0 → ⊥) → false ≡ sameAt d g w y i
-  other-grower h = rw (ne-eqb (d .grower) (getD g i 0) h)
+module _ (d : Delivery) (s : Slices) (i : ℕ) where
+  pub other-grower : (d .grower ≡ getD (s .growers) i 0 → ⊥) → false ≡ sameAt d s i
+  other-grower h = rw (ne-eqb (d .grower) (getD (s .growers) i 0) h)
 
-  pub other-weight : d .grower ≡ getD g i 0 → (d .weight ≡ getD w i 0 → ⊥) → false ≡ sameAt d g w y i
-  other-weight p h = rw (eq-eqb (d .grower) (getD g i 0) p, ne-eqb (d .weight) (getD w i 0) h)
+  pub other-weight : d .grower ≡ getD (s .growers) i 0 → (d .weight ≡ getD (s .weights) i 0 → ⊥) → false ≡ sameAt d s i
+  other-weight p h = rw (eq-eqb (d .grower) (getD (s .growers) i 0) p, ne-eqb (d .weight) (getD (s .weights) i 0) h)
 
-  pub yield-decides : d .grower ≡ getD g i 0 → d .weight ≡ getD w i 0 → eqb (d .«oil_yield») (getD y i 0) ≡ sameAt d g w y i
-  yield-decides p q = rw (eq-eqb (d .grower) (getD g i 0) p, eq-eqb (d .weight) (getD w i 0) q)
+  pub other-yield : d .grower ≡ getD (s .growers) i 0 → d .weight ≡ getD (s .weights) i 0 → (d .«oil_yield» ≡ getD (s .yields) i 0 → ⊥) → false ≡ sameAt d s i
+  other-yield p q h = rw (eq-eqb (d .grower) (getD (s .growers) i 0) p, eq-eqb (d .weight) (getD (s .weights) i 0) q, ne-eqb (d .«oil_yield») (getD (s .yields) i 0) h)
+
+  pub day-decides : d .grower ≡ getD (s .growers) i 0 → d .weight ≡ getD (s .weights) i 0 → d .«oil_yield» ≡ getD (s .yields) i 0
+      → eqb (d .day) (getD (s .days) i 0) ≡ sameAt d s i
+  day-decides p q r = rw (eq-eqb (d .grower) (getD (s .growers) i 0) p, eq-eqb (d .weight) (getD (s .weights) i 0) q, eq-eqb (d .«oil_yield») (getD (s .yields) i 0) r)
 
 -- none before i is
-pub record Searched (d : Delivery) (g w y : List ℕ) (i : ℕ) : Type 0 where
-  pub at : i ≤ length g
-  pub none-yet : firstMatch d (rows g w y) ≡ i + firstMatch d (rows (drop i g) (drop i w) (drop i y))
+pub record Searched (d : Delivery) (s : Slices) (i : ℕ) : Type 0 where
+  pub at : i ≤ length (s .growers)
+  pub none-yet : firstMatch d (rows s) ≡ i + firstMatch d (rows (eachSlice (drop i) s))
 
-pub search-start : (d : Delivery) (g w y : List ℕ) → Searched d g w y 0
-search-start d g w y = record { at = omega arith; none-yet = omega arith }
+pub search-start : (d : Delivery) (s : Slices) → Searched d s 0
+search-start d s = record { at = omega arith; none-yet = omega arith }
 
-module _ (d : Delivery) (g w y : List ℕ) (i : ℕ) (h : i < length g) (p : length w ≡ length g) (q : length y ≡ length g) (t : Searched d g w y i) where
-  at-i : (b : Bool) → sameAt d g w y i ≡ b → firstMatch d (rows (drop i g) (drop i w) (drop i y)) ≡ cond b 0 (firstMatch d (rows (drop (i + 1) g) (drop (i + 1) w) (drop (i + 1) y)) + 1)
+module _ (d : Delivery) (s : Slices) (i : ℕ) (h : i < length (s .growers)) (p : Even s) (t : Searched d s i) where
+  at-i : (b : Bool) → sameAt d s i ≡ b → firstMatch d (rows (eachSlice (drop i) s)) ≡ cond b 0 (firstMatch d (rows (eachSlice (drop (i + 1)) s)) + 1)
   unfolding firstMatch
-  at-i b e = rw (rows-from g w y i h p q, e)
+  at-i b e = rw (rows-from s i h p, e)
 
-  pub search-found : sameAt d g w y i ≡ true → i ≡ firstMatch d (rows g w y)
+  pub search-found : sameAt d s i ≡ true → i ≡ firstMatch d (rows s)
   search-found e = omega (arith, t .none-yet, at-i true e)
 
-  pub search-next : sameAt d g w y i ≡ false → Searched d g w y (i + 1)
+  pub search-next : sameAt d s i ≡ false → Searched d s (i + 1)
   search-next e = record { at = omega arith; none-yet = omega (arith, t .none-yet, at-i false e) }
 
-pub search-end : (d : Delivery) (g w y : List ℕ) (i : ℕ) → length g ≤ i → Searched d g w y i → i ≡ firstMatch d (rows g w y)
-unfolding firstMatch rows
-search-end d g w y i h t =
-    let e : firstMatch d (rows (drop i g) (drop i w) (drop i y)) ≡ 0 = rw (drop-of-length-le g h) in
+pub search-end : (d : Delivery) (s : Slices) (i : ℕ) → length (s .growers) ≤ i → Searched d s i → i ≡ firstMatch d (rows s)
+unfolding firstMatch zipped
+search-end d s i h t =
+    let e : firstMatch d (rows (eachSlice (drop i) s)) ≡ 0 = rw (drop-of-length-le (s .growers) h) in
     omega (arith, t .none-yet)

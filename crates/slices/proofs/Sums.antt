@@ -1,7 +1,7 @@
 -- Totals: of joined records, of records in range, of parts. Assumes nothing.
 use Prim.Native.Nat.{ℕ, suc, _+_, _*_, _≤_, _<_}
-use mathlib.Core.Path.{_≡_, refl, sym, ap, subst}
-use mathlib.Core.Bool.{Bool, true, false, cond, _&&_}
+use mathlib.Core.Path.{_≡_, refl, sym, ap, _∙_, subst}
+use mathlib.Core.Bool.{Bool, true, false, cond}
 use mathlib.Core.List.{List, [], _∷_, _++_, map, map-append}
 use native.Mathlib.Omega.{arith}
 use native.Mathlib.Nat.{mul-le-mul}
@@ -10,12 +10,12 @@ use lib.ListN.{length, take, drop, length-append, length-take, length-drop}
 use Rattle.model.specs.declared.Delivery.{Delivery}
 use Rattle.model.specs.declared.Totals.{Totals}
 use Rattle.model.specs.Bounds.{mostSlots}
-use Rattle.model.specs.Lent.{Even}
+use Rattle.model.specs.Calendar.{Span, span, isIn}
 use Rattle.model.specs.Lists.{sumOf, every, keep}
-use Rattle.model.specs.Deliveries.{LightTotals, plusTotals, inRange, matches, rows, noTotals, totalsOf, totalsBetween}
+use Rattle.model.specs.Deliveries.{growerOf, dayOf, Slices, eachSlice, rows, Even, LightTotals, plusTotals, inRange, matches, onDays, noTotals, totalsOf, totalsBetween, totalsDuring}
 use Rattle.model.proofs.Tests.{and-fst, and-snd, and-mk}
 use Rattle.model.proofs.ListLaws.{sum-append, keep-append, keep-fewer, every-kept}
-use Rattle.model.proofs.Deliveries.{values-rows, length-rows}
+use Rattle.model.proofs.Deliveries.{slices-for, values-rows, length-rows}
 use Rattle.slices.specs.Slices.{allWithin, countBetween, Measured}
 
 -- Totals of records that were joined.
@@ -24,6 +24,9 @@ pub totals-joined : (lo hi : ℕ) (a b : List Delivery) → totalsBetween lo hi 
 unfolding totalsOf
 totals-joined lo hi a b =
     simp (keep-append, length-append, map-append, sum-append)
+
+pub during-joined : (lo hi : ℕ) (s : Span) (a b : List Delivery) → totalsDuring lo hi s (a ++ b) ≡ plusTotals (totalsDuring lo hi s a) (totalsDuring lo hi s b)
+during-joined lo hi s a b = ap (totalsBetween lo hi) (keep-append (onDays s) a b) ∙ totals-joined lo hi (keep (onDays s) a) (keep (onDays s) b)
 
 -- Totals of records in range.
 
@@ -51,18 +54,19 @@ all-light m ds t h = record { few = h; light = omega (arith, weights-most ds t);
 pub totals-light : (lo hi m : ℕ) (ds : List Delivery) → T (every inRange ds) → length ds ≤ m → LightTotals m (totalsBetween lo hi ds)
 totals-light lo hi m ds t h = all-light m (keep (matches lo hi) ds) (every-kept inRange (matches lo hi) ds t) (omega (arith, keep-fewer (matches lo hi) ds))
 
+pub during-light : (lo hi : ℕ) (s : Span) (m : ℕ) (ds : List Delivery) → T (every inRange ds) → length ds ≤ m → LightTotals m (totalsDuring lo hi s ds)
+during-light lo hi s m ds t h = totals-light lo hi m (keep (onDays s) ds) (every-kept inRange (onDays s) ds t) (omega (arith, keep-fewer (onDays s) ds))
+
 -- Records that were counted.
 
-count-rows : (lo hi : ℕ) (g w y : List ℕ) → length w ≡ length g → length y ≡ length g → countBetween lo hi g ≡ length (keep (matches lo hi) (rows g w y))
-unfolding keep rows
-count-rows lo hi [] w y p q = refl
-count-rows lo hi (a ∷ g) [] y p q = let z : ⊥ = omega arith in absurd z
-count-rows lo hi (a ∷ g) (b ∷ w) [] p q = let z : ⊥ = omega arith in absurd z
-count-rows lo hi (a ∷ g) (b ∷ w) (d ∷ y) p q = go (leb lo a && leb a hi) (count-rows lo hi g w y (omega arith) (omega arith))
+-- those whose number f is lo to hi
+keep-by : (f : Delivery → ℕ) (test : ℕ → Bool) (ds : List Delivery) → length (keep test (map f ds)) ≡ length (keep (λ (d : Delivery). test (f d)) ds)
+unfolding keep
+keep-by f test [] = refl
+keep-by f test (d ∷ ds) = go (test (f d)) (keep-by f test ds)
   where
-    go : (t : Bool) → countBetween lo hi g ≡ length (keep (matches lo hi) (rows g w y))
-        → length (cond t (a ∷ keep (λ (n : ℕ). leb lo n && leb n hi) g) (keep (λ (n : ℕ). leb lo n && leb n hi) g))
-        ≡ length (cond t (record { grower = a; weight = b; «oil_yield» = d } ∷ keep (matches lo hi) (rows g w y)) (keep (matches lo hi) (rows g w y)))
+    go : (t : Bool) → length (keep test (map f ds)) ≡ length (keep (λ (x : Delivery). test (f x)) ds)
+        → length (cond t (f d ∷ keep test (map f ds)) (keep test (map f ds))) ≡ length (cond t (d ∷ keep (λ (x : Delivery). test (f x)) ds) (keep (λ (x : Delivery). test (f x)) ds))
     go true e = ap suc e
     go false e = e
 
@@ -83,32 +87,53 @@ keep-full f (d ∷ l) e = go (f d) (keep-full f l) (keep-fewer f l) e
     go true r h k = ap (λ (x : List Delivery). d ∷ x) (r (omega arith))
     go false r h k = let z : ⊥ = omega arith in absurd z
 
-module _ (g w y : List ℕ) (m : Measured g w y) where
-  values : T (every inRange (rows g w y))
-  values = subst T (sym (values-rows g w y (m .even .weights) (m .even .yields))) (and-mk (allWithin 100000 w) (allWithin 10000 y) (m .good-weights) (m .good-yields))
+module _ (s : Slices) (m : Measured s) where
+  values : T (every inRange (rows s))
+  values = subst T (sym (values-rows s (m .even))) (and-mk (allWithin 100000 (s .weights)) (allWithin 10000 (s .yields)) (m .good-weights) (m .good-yields))
 
-  rows-few : length (rows g w y) ≤ mostSlots
-  rows-few = omega (arith, m .few, length-rows g w y (m .even .weights) (m .even .yields))
+  rows-few : length (rows s) ≤ mostSlots
+  rows-few = omega (arith, m .few, length-rows s (m .even))
 
-  pub rows-light : LightTotals mostSlots (totalsOf (rows g w y))
-  rows-light = all-light mostSlots (rows g w y) values rows-few
+  pub rows-light : LightTotals mostSlots (totalsOf (rows s))
+  rows-light = all-light mostSlots (rows s) values rows-few
 
-module _ (lo hi : ℕ) (g w y : List ℕ) (m : Measured g w y) where
-  counted : countBetween lo hi g ≡ length (keep (matches lo hi) (rows g w y))
-  counted = count-rows lo hi g w y (m .even .weights) (m .even .yields)
+module _ (lo hi : ℕ) (s : Slices) (m : Measured s) where
+  counted : countBetween lo hi (s .growers) ≡ length (keep (matches lo hi) (rows s))
+  counted = ap (λ (t : Slices). countBetween lo hi (t .growers)) (sym (slices-for s (m .even))) ∙ keep-by growerOf (isIn (span lo hi)) (rows s)
 
-  pub none-between : countBetween lo hi g < 1 → noTotals ≡ totalsBetween lo hi (rows g w y)
+  pub none-between : countBetween lo hi (s .growers) < 1 → noTotals ≡ totalsBetween lo hi (rows s)
   unfolding totalsOf sumOf
-  none-between h = rw (keep-none (matches lo hi) (rows g w y) (omega (arith, counted)))
+  none-between h = rw (keep-none (matches lo hi) (rows s) (omega (arith, counted)))
 
-  pub all-between : countBetween lo hi g ≡ length g → totalsOf (rows g w y) ≡ totalsBetween lo hi (rows g w y)
+  pub all-between : countBetween lo hi (s .growers) ≡ length (s .growers) → totalsOf (rows s) ≡ totalsBetween lo hi (rows s)
   all-between h =
-      rw (keep-full (matches lo hi) (rows g w y) (omega (arith, counted, length-rows g w y (m .even .weights) (m .even .yields))))
+      rw (keep-full (matches lo hi) (rows s) (omega (arith, counted, length-rows s (m .even))))
 
   -- the totals of measured slices are small
-  pub measured-light : (t : Totals) → t ≡ totalsBetween lo hi (rows g w y) → LightTotals mostSlots t
-  measured-light t e = subst (LightTotals mostSlots) (sym e) (totals-light lo hi mostSlots (rows g w y) (values g w y m) (rows-few g w y m))
+  pub measured-light : (t : Totals) → t ≡ totalsBetween lo hi (rows s) → LightTotals mostSlots t
+  measured-light t e = subst (LightTotals mostSlots) (sym e) (totals-light lo hi mostSlots (rows s) (values s m) (rows-few s m))
+
+-- Records of days that were counted.
+module _ (lo hi first last : ℕ) (s : Slices) (m : Measured s) where
+  dated : countBetween first last (s .days) ≡ length (keep (onDays (span first last)) (rows s))
+  dated = ap (λ (t : Slices). countBetween first last (t .days)) (sym (slices-for s (m .even))) ∙ keep-by dayOf (isIn (span first last)) (rows s)
+
+  pub none-during : countBetween first last (s .days) < 1 → noTotals ≡ totalsDuring lo hi (span first last) (rows s)
+  unfolding totalsOf sumOf keep
+  none-during h = rw (keep-none (onDays (span first last)) (rows s) (omega (arith, dated)))
+
+  pub all-during : countBetween first last (s .days) ≡ length (s .growers) → totalsBetween lo hi (rows s) ≡ totalsDuring lo hi (span first last) (rows s)
+  all-during h =
+      rw (keep-full (onDays (span first last)) (rows s) (omega (arith, dated, length-rows s (m .even))))
+
+  pub during-measured : (t : Totals) → t ≡ totalsDuring lo hi (span first last) (rows s) → LightTotals mostSlots t
+  during-measured t e = subst (LightTotals mostSlots) (sym e) (during-light lo hi (span first last) mostSlots (rows s) (values s m) (rows-few s m))
 
 -- parts of even slices
-pub even-part : (g w y : List ℕ) (n a : ℕ) → Even g w y → Even (take n (drop a g)) (take n (drop a w)) (take n (drop a y))
-even-part g w y n a e = record { weights = simp (length-take, length-drop) (omega (arith, e .weights)); yields = simp (length-take, length-drop) (omega (arith, e .yields)) }
+pub even-part : (s : Slices) (k a : ℕ) → Even s → Even (eachSlice (λ (l : List ℕ). take k (drop a l)) s)
+even-part s k a e =
+    record {
+      weights = simp (length-take, length-drop) (omega (arith, e .weights));
+      yields = simp (length-take, length-drop) (omega (arith, e .yields));
+      days = simp (length-take, length-drop) (omega (arith, e .days));
+    }

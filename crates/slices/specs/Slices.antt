@@ -7,8 +7,7 @@ use lib.Dec.{T, leb, eqb}
 use Rattle.model.specs.declared.Delivery.{Delivery}
 use Rattle.model.specs.Bounds.{mostWeight, mostYield, mostSlots}
 use Rattle.model.specs.Lists.{every, keep}
-use Rattle.model.specs.Lent.{Even}
-use Rattle.model.specs.Deliveries.{delivery, same}
+use Rattle.model.specs.Deliveries.{Slices, Even, delivery, same}
 
 -- none is above m
 abbrev pub allWithin : ℕ → List ℕ → Bool
@@ -18,17 +17,17 @@ allWithin m s = every (λ (n : ℕ). leb n m) s
 abbrev pub allZero : List ℕ → Bool
 allZero s = every (eqb 0) s
 
--- record i of three slices is the delivery
-abbrev pub sameAt : Delivery → List ℕ → List ℕ → List ℕ → ℕ → Bool
-sameAt d g w y i = same d (delivery (getD g i 0) (getD w i 0) (getD y i 0))
+-- record i of the slices is the delivery
+abbrev pub sameAt : Delivery → Slices → ℕ → Bool
+sameAt d s i = same d (delivery (getD (s .growers) i 0) (getD (s .weights) i 0) (getD (s .yields) i 0) (getD (s .days) i 0))
 
 -- how many are lo to hi
 abbrev pub countBetween : ℕ → ℕ → List ℕ → ℕ
 countBetween lo hi s = length (keep (λ (n : ℕ). leb lo n && leb n hi) s)
 
--- three slices of one length, every weight and yield in range
-pub record Measured (g w y : List ℕ) : Type 0 where
-  pub few : length g ≤ mostSlots
-  pub even : Even g w y
-  pub good-weights : T (allWithin mostWeight w)
-  pub good-yields : T (allWithin mostYield y)
+-- slices of one length, every weight and yield in range
+pub record Measured (s : Slices) : Type 0 where
+  pub few : length (s .growers) ≤ mostSlots
+  pub even : Even s
+  pub good-weights : T (allWithin mostWeight (s .weights))
+  pub good-yields : T (allWithin mostYield (s .yields))

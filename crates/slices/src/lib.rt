@@ -2,14 +2,15 @@
 ghost use mathlib.Core.Path.{_≡_};
 ghost use mathlib.Core.Bool.{_&&_};
 ghost use Prim.Native.Nat.{_+_, _≤_, _<_};
-ghost use lib.ListN.{length};
+ghost use lib.ListN.{length, replicate};
 ghost use lib.Dec.{T};
 ghost use Rattle.model.specs.Bounds.{blockLimit, mostSlots};
 ghost use Rattle.model.specs.Lists.{sumOf, rising, neverFalls};
-ghost use Rattle.model.specs.Lent.{Even};
+ghost use Rattle.model.specs.Lent.{slicesAt, slicesIn};
 ghost use Rattle.model.specs.Place.{place};
 ghost use Rattle.model.specs.Partitions.{startOf};
-ghost use Rattle.model.specs.Deliveries.{rows, totalsOf, totalsBetween, firstMatch};
+ghost use Rattle.model.specs.Calendar.{span, isIn};
+ghost use Rattle.model.specs.Deliveries.{Even, rows, totalsOf, totalsBetween, totalsDuring, firstMatch};
 ghost use Rattle.slices.specs.Slices.{allWithin, allZero, sameAt, countBetween, Measured};
 use model::Delivery;
 use model::STRIDE;
@@ -94,6 +95,17 @@ pub fn total(s: &[u32]) -> u64
         i += 1;
     }
     sum
+}
+
+// All numbers 0.
+pub fn clear(s: &mut [u32])
+    ensures { λ _. ⌜ now (s .exit) ≡ replicate (length (now (s .entry))) 0 ⌝ }
+{
+    let mut i = 0;
+    while i < s.len() {
+        s[i] = 0;
+        i += 1;
+    }
 }
 
 // The place of g among rising keys: how many of all but the last are less.
@@ -203,10 +215,10 @@ fn count(g: &[u32], lo: u32, hi: u32) -> usize
     count_between(g, lo, hi)
 }
 
-// All records: how many, their weight and their oil.
-fn total_all(g: &[u32], w: &[u32], y: &[u32]) -> Totals
-    requires { ⌜ Measured (now g) (now w) (now y) ⌝ }
-    ensures { λ r. ⌜ r ≡ totalsOf (rows (now (g .entry)) (now (w .entry)) (now (y .entry))) ⌝ }
+// All records: how many, their weight and their oil. The days are lent to name the records; totals do not read them.
+fn total_all(g: &[u32], w: &[u32], y: &[u32], n: &[u32]) -> Totals
+    requires { ⌜ Measured (slicesAt g w y n) ⌝ }
+    ensures { λ r. ⌜ r ≡ totalsOf (rows (slicesIn g w y n)) ⌝ }
 {
     let mut weight: u64 = 0;
     let mut oil: u64 = 0;
@@ -227,9 +239,9 @@ fn total_all(g: &[u32], w: &[u32], y: &[u32]) -> Totals
 }
 
 // The records whose grower is lo to hi, each tested.
-fn total_tested(g: &[u32], w: &[u32], y: &[u32], lo: u32, hi: u32) -> Totals
-    requires { ⌜ Measured (now g) (now w) (now y) ⌝ }
-    ensures { λ r. ⌜ r ≡ totalsBetween lo hi (rows (now (g .entry)) (now (w .entry)) (now (y .entry))) ⌝ }
+fn total_tested(g: &[u32], w: &[u32], y: &[u32], n: &[u32], lo: u32, hi: u32) -> Totals
+    requires { ⌜ Measured (slicesAt g w y n) ⌝ }
+    ensures { λ r. ⌜ r ≡ totalsBetween lo hi (rows (slicesIn g w y n)) ⌝ }
 {
     let mut records: u64 = 0;
     let mut weight: u64 = 0;
@@ -257,24 +269,98 @@ fn total_tested(g: &[u32], w: &[u32], y: &[u32], lo: u32, hi: u32) -> Totals
 }
 
 // The records whose grower is lo to hi. Counting is cheaper than adding: where none is, or all are, no record is tested again.
-pub fn total_stride(g: &[u32], w: &[u32], y: &[u32], lo: u32, hi: u32) -> Totals
-    requires { ⌜ Measured (now g) (now w) (now y) ⌝ }
-    ensures { λ r. ⌜ r ≡ totalsBetween lo hi (rows (now (g .entry)) (now (w .entry)) (now (y .entry))) ⌝ }
+pub fn total_stride(g: &[u32], w: &[u32], y: &[u32], n: &[u32], lo: u32, hi: u32) -> Totals
+    requires { ⌜ Measured (slicesAt g w y n) ⌝ }
+    ensures { λ r. ⌜ r ≡ totalsBetween lo hi (rows (slicesIn g w y n)) ⌝ }
 {
-    let n = count(g, lo, hi);
-    if n < 1 {
+    let k = count(g, lo, hi);
+    if k < 1 {
         return Totals::none();
     }
-    if n == g.len() {
-        return total_all(g, w, y);
+    if k == g.len() {
+        return total_all(g, w, y, n);
     }
-    total_tested(g, w, y, lo, hi)
+    total_tested(g, w, y, n, lo, hi)
+}
+
+// Whether a number is lo to hi.
+fn is_between(x: u32, lo: u32, hi: u32) -> bool
+    ensures { λ r. ⌜ r ≡ isIn (span lo hi) x ⌝ }
+{
+    if x < lo {
+        return false;
+    }
+    x <= hi
+}
+
+// The records whose grower is lo to hi and whose day is first to last, each tested.
+fn total_tested_days(
+    g: &[u32],
+    w: &[u32],
+    y: &[u32],
+    n: &[u32],
+    lo: u32,
+    hi: u32,
+    first: u32,
+    last: u32,
+) -> Totals
+    requires { ⌜ Measured (slicesAt g w y n) ⌝ }
+    ensures { λ r. ⌜ r ≡ totalsDuring lo hi (span first last) (rows (slicesIn g w y n)) ⌝ }
+{
+    let mut records: u64 = 0;
+    let mut weight: u64 = 0;
+    let mut oil: u64 = 0;
+    let mut i = 0;
+    while i < g.len() {
+        let x = g[i];
+        let t = n[i];
+        let a = w[i] as u64;
+        let b = y[i] as u64;
+        let c = a * b;
+        i += 1;
+        if is_between(t, first, last) {
+            if is_between(x, lo, hi) {
+                records += 1;
+                weight += a;
+                oil += c;
+            }
+        }
+    }
+    Totals {
+        records,
+        weight,
+        oil,
+    }
+}
+
+// The records whose grower is lo to hi and whose day is first to last. Where every day is, only the growers are tested.
+pub fn total_stride_days(
+    g: &[u32],
+    w: &[u32],
+    y: &[u32],
+    n: &[u32],
+    lo: u32,
+    hi: u32,
+    first: u32,
+    last: u32,
+) -> Totals
+    requires { ⌜ Measured (slicesAt g w y n) ⌝ }
+    ensures { λ r. ⌜ r ≡ totalsDuring lo hi (span first last) (rows (slicesIn g w y n)) ⌝ }
+{
+    let m = count(n, first, last);
+    if m < 1 {
+        return Totals::none();
+    }
+    if m == g.len() {
+        return total_stride(g, w, y, n, lo, hi);
+    }
+    total_tested_days(g, w, y, n, lo, hi, first, last)
 }
 
 // Whether record i is the delivery.
-fn is_same(g: &[u32], w: &[u32], y: &[u32], i: usize, d: Delivery) -> bool
-    requires { ⌜ (i < length (now g)) × Even (now g) (now w) (now y) ⌝ }
-    ensures { λ r. ⌜ r ≡ sameAt d (now (g .entry)) (now (w .entry)) (now (y .entry)) i ⌝ }
+fn is_same(g: &[u32], w: &[u32], y: &[u32], n: &[u32], i: usize, d: Delivery) -> bool
+    requires { ⌜ (i < length (now g)) × Even (slicesAt g w y n) ⌝ }
+    ensures { λ r. ⌜ r ≡ sameAt d (slicesIn g w y n) i ⌝ }
 {
     if d.grower != g[i] {
         return false;
@@ -282,17 +368,20 @@ fn is_same(g: &[u32], w: &[u32], y: &[u32], i: usize, d: Delivery) -> bool
     if d.weight != w[i] {
         return false;
     }
-    d.oil_yield == y[i]
+    if d.oil_yield != y[i] {
+        return false;
+    }
+    d.day == n[i]
 }
 
 // The first record that is the delivery, or how many there are; each tested.
-fn first_tested(g: &[u32], w: &[u32], y: &[u32], d: Delivery) -> usize
-    requires { ⌜ Even (now g) (now w) (now y) ⌝ }
-    ensures { λ r. ⌜ r ≡ firstMatch d (rows (now (g .entry)) (now (w .entry)) (now (y .entry))) ⌝ }
+fn first_tested(g: &[u32], w: &[u32], y: &[u32], n: &[u32], d: Delivery) -> usize
+    requires { ⌜ Even (slicesAt g w y n) ⌝ }
+    ensures { λ r. ⌜ r ≡ firstMatch d (rows (slicesIn g w y n)) ⌝ }
 {
     let mut i = 0;
     while i < g.len() {
-        if is_same(g, w, y, i, d) {
+        if is_same(g, w, y, n, i, d) {
             return i;
         }
         i += 1;
@@ -301,30 +390,30 @@ fn first_tested(g: &[u32], w: &[u32], y: &[u32], d: Delivery) -> usize
 }
 
 // The first record that is the delivery, or how many there are. Only where the delivery's grower is among them are the records tested.
-pub fn first_in_stride(g: &[u32], w: &[u32], y: &[u32], d: Delivery) -> usize
-    requires { ⌜ (length (now g) ≤ mostSlots) × Even (now g) (now w) (now y) ⌝ }
-    ensures { λ r. ⌜ r ≡ firstMatch d (rows (now (g .entry)) (now (w .entry)) (now (y .entry))) ⌝ }
+pub fn first_in_stride(g: &[u32], w: &[u32], y: &[u32], n: &[u32], d: Delivery) -> usize
+    requires { ⌜ (length (now g) ≤ mostSlots) × Even (slicesAt g w y n) ⌝ }
+    ensures { λ r. ⌜ r ≡ firstMatch d (rows (slicesIn g w y n)) ⌝ }
 {
     if count_equal(g, d.grower) < 1 {
         return g.len();
     }
-    first_tested(g, w, y, d)
+    first_tested(g, w, y, n, d)
 }
 
 // The first record that is the delivery, or how many there are; a stride at a time.
-pub fn first_match(g: &[u32], w: &[u32], y: &[u32], d: Delivery) -> usize
-    requires { ⌜ Even (now g) (now w) (now y) ⌝ }
-    ensures { λ r. ⌜ r ≡ firstMatch d (rows (now (g .entry)) (now (w .entry)) (now (y .entry))) ⌝ }
+pub fn first_match(g: &[u32], w: &[u32], y: &[u32], n: &[u32], d: Delivery) -> usize
+    requires { ⌜ Even (slicesAt g w y n) ⌝ }
+    ensures { λ r. ⌜ r ≡ firstMatch d (rows (slicesIn g w y n)) ⌝ }
 {
     let mut i = 0;
     while STRIDE <= g.len() - i {
         let e = i + STRIDE;
-        let k = first_in_stride(&g[i..e], &w[i..e], &y[i..e], d);
+        let k = first_in_stride(&g[i..e], &w[i..e], &y[i..e], &n[i..e], d);
         if k < STRIDE {
             return i + k;
         }
         i = e;
     }
     let e = g.len();
-    i + first_tested(&g[i..e], &w[i..e], &y[i..e], d)
+    i + first_tested(&g[i..e], &w[i..e], &y[i..e], &n[i..e], d)
 }

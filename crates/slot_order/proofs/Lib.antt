@@ -10,3 +10,4 @@ pub mod Passing
 pub mod RunLaws
 pub mod Writing
 pub mod Arranging
+pub mod Picking

@@ -68,10 +68,10 @@ module _ (lo hi at : ℕ) (t : List ℕ) where
       pub above-high : hi < g → 14 ≡ textRefusal (deliveryOk lo hi at t)
       above-high h = row-is false (rw (le-leb lo g l, lt-leb g hi h))
 
-      pub out-of-range : g ≤ hi → inRange (delivery g w y) ≡ false → 14 ≡ textRefusal (deliveryOk lo hi at t)
+      pub out-of-range : g ≤ hi → inRange (delivery g w y 0) ≡ false → 14 ≡ textRefusal (deliveryOk lo hi at t)
       out-of-range u e = row-is false (rw (le-leb lo g l, le-leb g hi u) e)
 
-      pub delivery-good : g ≤ hi → inRange (delivery g w y) ≡ true → 0 ≡ textRefusal (deliveryOk lo hi at t)
+      pub delivery-good : g ≤ hi → inRange (delivery g w y 0) ≡ true → 0 ≡ textRefusal (deliveryOk lo hi at t)
       delivery-good u e = row-is true (rw (le-leb lo g l, le-leb g hi u) e)
 
 -- Delivery lines one after the other.

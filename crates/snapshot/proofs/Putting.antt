@@ -7,8 +7,7 @@ use native.Mathlib.Numerals.{add-one}
 use lib.ListN.{length, getD, drop, length-append}
 use lib.Seq.{drop-cons, drop-length}
 use Rattle.model.specs.declared.Delivery.{Delivery}
-use Rattle.model.specs.Deliveries.{rows}
-use Rattle.model.specs.Lent.{Even}
+use Rattle.model.specs.Deliveries.{Slices, zipped, rows, Even, eachSlice}
 use Rattle.model.specs.Fields.{line, lines}
 use Rattle.model.specs.Snapshot.{partitionRows, deliveryRow}
 use Rattle.model.proofs.Deliveries.{length-rows, rows-from}
@@ -29,11 +28,11 @@ unfolding flatten
 length-deliveries [] = refl
 length-deliveries (d ∷ ds) = omega (arith, length-append (line (deliveryRow d)) (lines (map deliveryRow ds)), length-line (deliveryRow d), length-deliveries ds)
 
-abbrev pub rowsOf : List ℕ → List ℕ → List ℕ → List (List ℕ)
-rowsOf g w y = map deliveryRow (rows g w y)
+abbrev pub rowsOf : Slices → List (List ℕ)
+rowsOf s = map deliveryRow (rows s)
 
-pub length-rows-of : (g w y : List ℕ) → Even g w y → length (lines (rowsOf g w y)) ≡ 34 * length g
-length-rows-of g w y e = length-deliveries (rows g w y) ∙ ap (λ (n : ℕ). 34 * n) (length-rows g w y (e .weights) (e .yields))
+pub length-rows-of : (s : Slices) → Even s → length (lines (rowsOf s)) ≡ 34 * length (s .growers)
+length-rows-of s e = length-deliveries (rows s) ∙ ap (λ (n : ℕ). 34 * n) (length-rows s e)
 
 -- Lines of any rows.
 
@@ -102,28 +101,28 @@ module _ {t₀ : List ℕ} {at : ℕ} {lens fences t : List ℕ} {i e : ℕ} (w 
 
 -- Delivery lines.
 
-pub record PutRows (t₀ : List ℕ) (at : ℕ) (g w y t : List ℕ) (i e : ℕ) : Type 0 where
-  pub left : i ≤ length g
-  pub even : Even g w y
-  pub put : PutLines t₀ at (rowsOf g w y) t e (rowsOf (drop i g) (drop i w) (drop i y))
+pub record PutRows (t₀ : List ℕ) (at : ℕ) (s : Slices) (t : List ℕ) (i e : ℕ) : Type 0 where
+  pub left : i ≤ length (s .growers)
+  pub even : Even s
+  pub put : PutLines t₀ at (rowsOf s) t e (rowsOf (eachSlice (drop i) s))
 
-pub rows-start : (t : List ℕ) (at : ℕ) (g w y : List ℕ) → Even g w y → at + 34 * length g ≤ length t → PutRows t at g w y t 0 at
-rows-start t at g w y e h = record { left = omega arith; even = e; put = lines-start t at (rowsOf g w y) (omega (arith, length-rows-of g w y e)) }
+pub rows-start : (t : List ℕ) (at : ℕ) (s : Slices) → Even s → at + 34 * length (s .growers) ≤ length t → PutRows t at s t 0 at
+rows-start t at s e h = record { left = omega arith; even = e; put = lines-start t at (rowsOf s) (omega (arith, length-rows-of s e)) }
 
-module _ {t₀ : List ℕ} {at : ℕ} {g w y t : List ℕ} {i e : ℕ} (o : PutRows t₀ at g w y t i e) where
-  module _ (h : i < length g) where
-    row-here : rowsOf (drop i g) (drop i w) (drop i y) ≡ (getD g i 0 ∷ getD w i 0 ∷ getD y i 0 ∷ []) ∷ rowsOf (drop (i + 1) g) (drop (i + 1) w) (drop (i + 1) y)
-    row-here = ap (map deliveryRow) (rows-from g w y i h (o .even .weights) (o .even .yields))
+module _ {t₀ : List ℕ} {at : ℕ} {s : Slices} {t : List ℕ} {i e : ℕ} (o : PutRows t₀ at s t i e) where
+  module _ (h : i < length (s .growers)) where
+    row-here : rowsOf (eachSlice (drop i) s) ≡ (getD (s .growers) i 0 ∷ getD (s .weights) i 0 ∷ getD (s .yields) i 0 ∷ []) ∷ rowsOf (eachSlice (drop (i + 1)) s)
+    row-here = ap (map deliveryRow) (rows-from s i h (o .even))
 
     pub row-room : e + 34 ≤ length t
     row-room = omega (arith, lines-room (o .put) row-here, o .put .size)
 
-    pub rows-next : (t' : List ℕ) → t' ≡ placed e (line (getD g i 0 ∷ getD w i 0 ∷ getD y i 0 ∷ [])) t → PutRows t₀ at g w y t' (i + 1) (e + 34)
+    pub rows-next : (t' : List ℕ) → t' ≡ placed e (line (getD (s .growers) i 0 ∷ getD (s .weights) i 0 ∷ getD (s .yields) i 0 ∷ [])) t → PutRows t₀ at s t' (i + 1) (e + 34)
     rows-next t' q = record { left = omega arith; even = o .even; put = lines-next (o .put) row-here t' q }
 
-  pub rows-end : length g ≤ i → t ≡ placed at (lines (rowsOf g w y)) t₀
-  unfolding rows
+  pub rows-end : length (s .growers) ≤ i → t ≡ placed at (lines (rowsOf s)) t₀
+  unfolding zipped
   rows-end h =
-      let z : i ≡ length g = omega (arith, o .left) in
-      let x : drop i g ≡ [] = ap (λ (k : ℕ). drop k g) z ∙ drop-length g in
-      lines-end (o .put) (ap (λ (l : List ℕ). rowsOf l (drop i w) (drop i y)) x)
+      let z : i ≡ length (s .growers) = omega (arith, o .left) in
+      let x : drop i (s .growers) ≡ [] = ap (λ (k : ℕ). drop k (s .growers)) z ∙ drop-length (s .growers) in
+      lines-end (o .put) (ap (λ (l : List ℕ). map deliveryRow (zipped l (drop i (s .weights)) (drop i (s .yields)) (drop i (s .days)))) x)

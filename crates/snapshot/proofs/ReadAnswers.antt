@@ -3,17 +3,19 @@ use Prim.Native.Nat.{ℕ, _+_, _*_, _≤_, _<_}
 use mathlib.Core.Path.{_≡_, refl, sym, ap, ap₂, _∙_, subst}
 use mathlib.Core.Bool.{Bool, true, false, cond, _&&_}
 use mathlib.Core.Option.{Option, none, some}
-use mathlib.Core.List.{List, _++_, map}
+use mathlib.Core.List.{List, [], _∷_, _++_, map}
 use native.Mathlib.Omega.{arith}
 use borrow.Author.Tests.{ne-eqb, le-leb, lt-leb}
 use lib.Dec.{T, leb, leb→le}
-use lib.ListN.{length, drop, length-map}
+use lib.ListN.{length, take, drop, replicate, length-map}
+use lib.Seq.{length-take-le}
 use Rattle.model.specs.declared.Delivery.{Delivery}
 use Rattle.model.specs.declared.Applied.{Applied}
 use Rattle.model.specs.Bounds.{mostSlots}
 use Rattle.model.specs.Lists.{onlyIf, andThen, valueOr, isSome}
 use Rattle.model.specs.Checks.{firstFailed}
-use Rattle.model.specs.Deliveries.{growerOf, weightOf, yieldOf}
+use Rattle.model.specs.Deliveries.{growerOf, weightOf, yieldOf, dayOf, Slices, slicesOf}
+use Rattle.model.specs.Lent.{columnOf}
 use Rattle.model.specs.Blocks.{slicesOk}
 use Rattle.model.specs.Directory.{directoryNumbers}
 use Rattle.model.specs.Fields.{Taken, taken, nth}
@@ -220,19 +222,26 @@ stored L t n j e z =
 
 -- Reading.
 
-same-result : {d d' g g' w w' y y' : List ℕ} → d ≡ d' → g ≡ g' → w ≡ w' → y ≡ y'
-    → _≡_ {A = ReadResult} (record { refusal = 0; column = record { directory = d; growers = g; weights = w; yields = y } })
-    (record { refusal = 0; column = record { directory = d'; growers = g'; weights = w'; yields = y' } })
-same-result p q r s = cc
+same-result : {d d' g g' w w' y y' n n' : List ℕ} → d ≡ d' → g ≡ g' → w ≡ w' → y ≡ y' → n ≡ n'
+    → _≡_ {A = ReadResult} (record { refusal = 0; column = columnOf d g w y n }) (record { refusal = 0; column = columnOf d' g' w' y' n' })
+same-result p q r s u = λ i. record { refusal = 0; column = columnOf (p i) (q i) (r i) (s i) (u i) }
 
-module _ (L : ℕ) (t gs ws ys : List ℕ) where
+-- the deliveries of lines are on day 0
+lines-days : (rs : List (List ℕ)) → map dayOf (map deliveryOf rs) ≡ replicate (length rs) 0
+lines-days [] = refl
+lines-days (l ∷ rs) = ap (λ (ns : List ℕ). 0 ∷ ns) (lines-days rs)
+
+module _ (L : ℕ) (t : List ℕ) (s : Slices) where
+  abbrev gs : List ℕ
+  gs = s .growers
+
   -- check 3
-  pub read-three : (x : Applied) → slicesOk gs ws ys ≡ false → x ≡ refusedRead L 3 → resultOf x gs ws ys ≡ readCall L t gs ws ys
+  pub read-three : (x : Applied) → slicesOk s ≡ false → x ≡ refusedRead L 3 → resultOf x s ≡ readCall L t s
   unfolding readCall readChecks firstFailed columnRead
-  read-three x e q = ap (λ (y : Applied). resultOf y gs ws ys) q ∙ sym (rw e)
+  read-three x e q = ap (λ (y : Applied). resultOf y s) q ∙ sym (rw e)
 
-  module _ (e : slicesOk gs ws ys ≡ true) (j : Judged) (q : j ≡ judgedOf L t (length gs)) where
-    refusal-is : firstFailed (readChecks L t gs ws ys) ≡ j .refusal
+  module _ (e : slicesOk s ≡ true) (j : Judged) (q : j ≡ judgedOf L t (length gs)) where
+    refusal-is : firstFailed (readChecks L t s) ≡ j .refusal
     unfolding readChecks firstFailed isBook judgedOf
     refusal-is = rw e (go (slotsForBook L t (length gs)) (readBook L t)) ∙ ap (λ (x : Judged). x .refusal) (sym q)
       where
@@ -241,15 +250,15 @@ module _ (L : ℕ) (t gs ws ys : List ℕ) where
         go true none = refl
         go true (some b) = refl
 
-    pub read-refused : (x : Applied) → (j .refusal ≡ 0 → ⊥) → x ≡ refusedRead L (j .refusal) → resultOf x gs ws ys ≡ readCall L t gs ws ys
+    pub read-refused : (x : Applied) → (j .refusal ≡ 0 → ⊥) → x ≡ refusedRead L (j .refusal) → resultOf x s ≡ readCall L t s
     unfolding readCall columnRead
-    read-refused x n r = ap (λ (y : Applied). resultOf y gs ws ys) r ∙ sym (rw (refusal-is, ne-eqb (j .refusal) 0 n))
+    read-refused x n r = ap (λ (y : Applied). resultOf y s) r ∙ sym (rw (refusal-is, ne-eqb (j .refusal) 0 n))
 
     module _ (n : j .refusal ≡ 0) where
       a : Accepted L t (length gs) j
       a = accepted L t (length gs) j q n
 
-      call-is : readCall L t gs ws ys ≡ record { refusal = 0; column = columnRead L (some (bookAt t)) gs ws ys }
+      call-is : readCall L t s ≡ record { refusal = 0; column = columnRead L (some (bookAt t)) s }
       unfolding readCall
       call-is = rw (refusal-is ∙ n, book-form L t, a .ok, a .right)
 
@@ -264,14 +273,27 @@ module _ (L : ℕ) (t gs ws ys : List ℕ) where
           ∙ ap₂ (λ (l : List ℕ) (k : ℕ). l ++ drop k old) (sym (numbers-read f i p (rowsAt 3 m (start t) t) ∙ column-of t 3 i h m (start t)))
           (sym (length-map (rowsAt 3 m (start t) t) deliveryOf ∙ length-rows-at t 3 m (start t)))
 
-      pub read-done : (gs' ws' ys' : List ℕ)
+      -- the days afterwards
+      days-are : {z : List ℕ} → z ≡ replicate (length (take (j .used) (s .days))) 0 → j .used ≤ length (s .days)
+          → z ++ drop (j .used) (s .days) ≡ map dayOf (bookAt t .deliveries) ++ drop (length (bookAt t .deliveries)) (s .days)
+      days-are {z} r h =
+          let rs : List (List ℕ) = rowsAt 3 (headerAt t .used) (start t) t in
+          let m : j .used ≡ length rs = a .used ∙ sym (length-rows-at t 3 (headerAt t .used) (start t)) in
+          ap₂ (λ (l : List ℕ) (k : ℕ). l ++ drop k (s .days))
+          (r ∙ ap (λ (k : ℕ). replicate k 0) (length-take-le (j .used) (s .days) h ∙ m) ∙ sym (lines-days rs))
+          (m ∙ sym (length-map rs deliveryOf))
+
+      pub read-done : (gs' ws' ys' z : List ℕ)
           → gs' ≡ columnAt 34 (j .start) (j .used) t ++ drop (j .used) gs
-          → ws' ≡ columnAt 34 (j .start + 11) (j .used) t ++ drop (j .used) ws
-          → ys' ≡ columnAt 34 (j .start + 22) (j .used) t ++ drop (j .used) ys
-          → resultOf (record { refusal = 0; directory = j .directory }) gs' ws' ys' ≡ readCall L t gs ws ys
+          → ws' ≡ columnAt 34 (j .start + 11) (j .used) t ++ drop (j .used) (s .weights)
+          → ys' ≡ columnAt 34 (j .start + 22) (j .used) t ++ drop (j .used) (s .yields)
+          → z ≡ replicate (length (take (j .used) (s .days))) 0
+          → j .used ≤ length (s .days)
+          → resultOf (record { refusal = 0; directory = j .directory }) (slicesOf gs' ws' ys' (z ++ drop (j .used) (s .days))) ≡ readCall L t s
       unfolding columnRead
-      read-done gs' ws' ys' u v w =
+      read-done gs' ws' ys' z u v w r h =
           same-result (a .directory) (slice-is growerOf 0 (j .start) (omega arith) (omega arith) (λ l. refl) gs gs' u)
-          (slice-is weightOf 1 (j .start + 11) (omega arith) (omega arith) (λ l. refl) ws ws' v)
-          (slice-is yieldOf 2 (j .start + 22) (omega arith) (omega arith) (λ l. refl) ys ys' w)
+          (slice-is weightOf 1 (j .start + 11) (omega arith) (omega arith) (λ l. refl) (s .weights) ws' v)
+          (slice-is yieldOf 2 (j .start + 22) (omega arith) (omega arith) (λ l. refl) (s .yields) ys' w)
+          (days-are r h)
           ∙ sym call-is

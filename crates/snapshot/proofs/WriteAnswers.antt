@@ -11,11 +11,10 @@ use lib.Seq.{length-take-le}
 use Rattle.model.specs.declared.Delivery.{Delivery}
 use Rattle.model.specs.Lists.{sumOf, every, rising}
 use Rattle.model.specs.Checks.{ask, firstFailed}
-use Rattle.model.specs.Deliveries.{rows, inRange}
+use Rattle.model.specs.Deliveries.{Slices, rows, Even, eachSlice, inRange, dayOk, noDay}
 use Rattle.model.specs.Blocks.{slicesOk}
 use Rattle.model.specs.Directory.{partitionCount, directoryOf, directoryBlockOk, directoryOk}
 use Rattle.model.specs.Column.{Column, slots, lengthsOf, fencesOf, allRecords, sound}
-use Rattle.model.specs.Lent.{Even}
 use Rattle.model.specs.Fields.{line, lines}
 use Rattle.model.specs.Snapshot.{partitionRows, deliveryRow, bookText, snapshotText}
 use Rattle.model.specs.Questions.{lentChecks, writeChecks}
@@ -25,8 +24,8 @@ use Rattle.model.proofs.Deliveries.{rows-part}
 use Rattle.model.proofs.Parts.{flatten-parts}
 use Rattle.model.proofs.WriteLaws.{writable, write-is}
 use Rattle.model.proofs.LineLaws.{length-line}
-use Rattle.checks.specs.Values.{allValuesOk}
-use Rattle.checks.proofs.Answers.{failed-first, numbered, passed-first, passed-both, every-rows}
+use Rattle.checks.specs.Values.{allValuesOk, allDaysOk, allUndated}
+use Rattle.checks.proofs.Answers.{failed-first, numbered, passed-first, passed-both, every-rows, every-day-rows, every-undated-rows}
 use Rattle.directory.proofs.LentColumns.{LentColumn, lent-column, count-lengths, count-fences}
 use Rattle.fields.specs.Writing.{placed}
 use Rattle.fields.proofs.Placing.{placed-first, placed-joined}
@@ -43,14 +42,8 @@ module _ (L : ℕ) (c : Column) where
   used = sumOf (lengthsOf L c)
 
   -- the used slots of each slice
-  abbrev growers : List ℕ
-  growers = take used (c .growers)
-
-  abbrev weights : List ℕ
-  weights = take used (c .weights)
-
-  abbrev yields : List ℕ
-  yields = take used (c .yields)
+  abbrev part : Slices
+  part = eachSlice (take used) (c .slices)
 
   -- the text's lines
   abbrev headLine : List ℕ
@@ -60,30 +53,44 @@ module _ (L : ℕ) (c : Column) where
   partLines = lines (partitionRows (lengthsOf L c) (fencesOf L c))
 
   abbrev rowLines : List ℕ
-  rowLines = lines (rowsOf growers weights yields)
+  rowLines = lines (rowsOf part)
 
-  pub records-are : allRecords L c ≡ rows growers weights yields
-  records-are = flatten-parts (lengthsOf L c) (slots c) ∙ sym (rows-part used 0 (c .growers) (c .weights) (c .yields))
+  pub records-are : allRecords L c ≡ rows part
+  records-are = flatten-parts (lengthsOf L c) (slots c) ∙ sym (rows-part used 0 (c .slices))
 
   head-size : length headLine ≡ 34
   head-size = length-line (directoryOf L (c .directory) .block ∷ used ∷ count ∷ [])
 
   module _ (l : LentColumn L c) where
-    part-length : (s : List ℕ) → length s ≡ length (c .growers) → length (take used s) ≡ used
+    part-length : (s : List ℕ) → length s ≡ length (c .slices .growers) → length (take used s) ≡ used
     part-length s e = length-take-le used s (omega (arith, l .shape .room))
 
-    pub parts-even : Even growers weights yields
+    pub parts-even : Even part
     parts-even =
-        let g = sym (part-length (c .growers) refl) in
-        record { weights = part-length (c .weights) (l .even .weights) ∙ g; yields = part-length (c .yields) (l .even .yields) ∙ g }
+        let s = c .slices in
+        let g = sym (part-length (s .growers) refl) in
+        record {
+          weights = part-length (s .weights) (l .even .weights) ∙ g;
+          yields = part-length (s .yields) (l .even .yields) ∙ g;
+          days = part-length (s .days) (l .even .days) ∙ g;
+        }
 
-    pub values-there : (m : ℕ) (r : Bool) → m ≡ used → r ≡ allValuesOk (take m (c .weights)) (take m (c .yields)) → every inRange (allRecords L c) ≡ r
+    pub values-there : (m : ℕ) (r : Bool) → m ≡ used → r ≡ allValuesOk (take m (c .slices .weights)) (take m (c .slices .yields)) → every inRange (allRecords L c) ≡ r
     values-there m r u e =
         sym
         (e
-        ∙ ap (λ (n : ℕ). allValuesOk (take n (c .weights)) (take n (c .yields))) u
-        ∙ every-rows growers weights yields (parts-even .weights) (parts-even .yields)
+        ∙ ap (λ (n : ℕ). allValuesOk (take n (c .slices .weights)) (take n (c .slices .yields))) u
+        ∙ every-rows part parts-even
         ∙ ap (every inRange) (sym records-are))
+
+    -- check 19 of writing, and of a sheet
+    pub undated-there : (m : ℕ) (r : Bool) → m ≡ used → r ≡ allUndated (take m (c .slices .days)) → every noDay (allRecords L c) ≡ r
+    undated-there m r u e =
+        sym (e ∙ ap (λ (n : ℕ). allUndated (take n (c .slices .days))) u ∙ every-undated-rows part parts-even ∙ ap (every noDay) (sym records-are))
+
+    pub days-there : (m : ℕ) (r : Bool) → m ≡ used → r ≡ allDaysOk (take m (c .slices .days)) → every dayOk (allRecords L c) ≡ r
+    days-there m r u e =
+        sym (e ∙ ap (λ (n : ℕ). allDaysOk (take n (c .slices .days))) u ∙ every-day-rows part parts-even ∙ ap (every dayOk) (sym records-are))
 
     text-is : snapshotText L c ≡ headLine ++ partLines ++ rowLines
     unfolding bookText
@@ -94,7 +101,7 @@ module _ (L : ℕ) (c : Column) where
     parts-size = length-partitions (lengthsOf L c) (fencesOf L c) (count-fences L c l ∙ sym (count-lengths L c l)) ∙ ap (λ (n : ℕ). 23 * n) (count-lengths L c l)
 
     rows-size : length rowLines ≡ 34 * used
-    rows-size = length-rows-of growers weights yields parts-even ∙ ap (λ (n : ℕ). 34 * n) (part-length (c .growers) refl)
+    rows-size = length-rows-of part parts-even ∙ ap (λ (n : ℕ). 34 * n) (part-length (c .slices .growers) refl)
 
     text-size : length (snapshotText L c) ≡ 34 + 23 * count + 34 * used
     text-size = ap length text-is ∙ omega (arith, length-append (headLine ++ partLines) rowLines, length-append headLine partLines, head-size, parts-size, rows-size)
@@ -105,7 +112,7 @@ pub record PartsLent (L : ℕ) (c : Column) (ls fs : List ℕ) : Type 0 where
   pub even : length fs ≡ length ls
   pub many : length ls ≡ count L c
   pub rises : T (rising fs)
-  pub room : sumOf ls ≤ length (c .growers)
+  pub room : sumOf ls ≤ length (c .slices .growers)
 
 pub parts-lent : (L : ℕ) (c : Column) → LentColumn L c → {ls fs : List ℕ} → ls ≡ lengthsOf L c → fs ≡ fencesOf L c → PartsLent L c ls fs
 parts-lent L c l el ef =
@@ -122,11 +129,11 @@ module _ (L : ℕ) (c : Column) where
       q ∙ sym (rw (f, ne-eqb n 0 z))
 
   module _ (p : firstFailed (lentChecks L c) ≡ 0) where
-    lent-passed : (directoryBlockOk L (c .directory) ≡ true) × (slicesOk (c .growers) (c .weights) (c .yields) ≡ true) × (directoryOk L (length (c .growers)) (c .directory) ≡ true)
+    lent-passed : (directoryBlockOk L (c .directory) ≡ true) × (slicesOk (c .slices) ≡ true) × (directoryOk L (length (c .slices .growers)) (c .directory) ≡ true)
     lent-passed =
         let a = yes-first 1 (directoryBlockOk L (c .directory)) _ p in
-        let b = yes-first 2 (slicesOk (c .growers) (c .weights) (c .yields)) _ (a .1) in
-        let d = yes-first 5 (directoryOk L (length (c .growers)) (c .directory)) _ (b .1) in
+        let b = yes-first 2 (slicesOk (c .slices)) _ (a .1) in
+        let d = yes-first 5 (directoryOk L (length (c .slices .growers)) (c .directory)) _ (b .1) in
         (is-true _ (a .0), is-true _ (b .0), is-true _ (d .0))
 
     checks-are : firstFailed (soundChecks L c) ≡ firstFailed (ask 6 (sound L c) ∷ ask 8 (every inRange (allRecords L c)) ∷ [])
@@ -169,27 +176,33 @@ module _ (L : ℕ) (c : Column) (x : Checked) (e : x ≡ checkedColumn L c) wher
       let g = yes-first 7 (every inRange (allRecords L c)) [] (f .1) in
       record { all = p; lent = lent-column L c (b .0); is-sound = f .0; values = g .0; used-is = ap (λ (y : Checked). y .used) e ∙ rw p }
 
-  pub room-refused : (x .refusal ≡ 0 → ⊥) → (fits : Bool) → x ≡ checkedRoom L c fits
+  pub room-refused : (x .refusal ≡ 0 → ⊥) → (dated fits : Bool) → x ≡ checkedRoom L c dated fits
   unfolding checkedRoom checkedColumn
-  room-refused z fits =
+  room-refused z dated fits =
       let n : ℕ = firstFailed (soundChecks L c) in
       let o : n ≡ 0 → ⊥ = λ y. z (refusal-there ∙ y) in
-      let f : firstFailed (soundChecks L c ++ ask 15 fits ∷ []) ≡ n = sym (failed-first (soundChecks L c) (ask 15 fits ∷ []) o) in
+      let f : firstFailed (soundChecks L c ++ ask 19 dated ∷ ask 15 fits ∷ []) ≡ n = sym (failed-first (soundChecks L c) (ask 19 dated ∷ ask 15 fits ∷ []) o) in
       e ∙ sym (rw f)
 
-  pub room-short : x .refusal ≡ 0 → {fits : Bool} → fits ≡ false → (y : Checked) → y ≡ notChecked 15 → y ≡ checkedRoom L c fits
-  unfolding checkedRoom firstFailed numbered
-  room-short n b y q =
-      let w = passed n in
-      let f : firstFailed (soundChecks L c ++ ask 15 false ∷ []) ≡ 15 = passed-first (soundChecks L c) (ask 15 false ∷ []) tt (w .all) in
-      q ∙ sym (rw (b, f))
+  module _ (n : x .refusal ≡ 0) where
+    pub days-refused : {dated : Bool} → dated ≡ false → (fits : Bool) (y : Checked) → y ≡ notChecked 19 → y ≡ checkedRoom L c dated fits
+    unfolding checkedRoom firstFailed numbered
+    days-refused d fits y q =
+        let f : firstFailed (soundChecks L c ++ ask 19 false ∷ ask 15 fits ∷ []) ≡ 19 = passed-first (soundChecks L c) (ask 19 false ∷ ask 15 fits ∷ []) tt (passed n .all) in
+        q ∙ sym (rw (d, f))
 
-  pub room-enough : x .refusal ≡ 0 → {fits : Bool} → fits ≡ true → x ≡ checkedRoom L c fits
-  unfolding checkedRoom checkedColumn firstFailed numbered
-  room-enough n b =
-      let w = passed n in
-      let f : firstFailed (soundChecks L c ++ ask 15 true ∷ []) ≡ 0 = passed-first (soundChecks L c) (ask 15 true ∷ []) tt (w .all) in
-      e ∙ sym (rw (b, f))
+    module _ {dated : Bool} (d : dated ≡ true) where
+      pub room-short : {fits : Bool} → fits ≡ false → (y : Checked) → y ≡ notChecked 15 → y ≡ checkedRoom L c dated fits
+      unfolding checkedRoom firstFailed numbered
+      room-short b y q =
+          let f : firstFailed (soundChecks L c ++ ask 19 true ∷ ask 15 false ∷ []) ≡ 15 = passed-first (soundChecks L c) (ask 19 true ∷ ask 15 false ∷ []) tt (passed n .all) in
+          q ∙ sym (rw (d, b, f))
+
+      pub room-enough : {fits : Bool} → fits ≡ true → x ≡ checkedRoom L c dated fits
+      unfolding checkedRoom checkedColumn firstFailed numbered
+      room-enough b =
+          let f : firstFailed (soundChecks L c ++ ask 19 true ∷ ask 15 true ∷ []) ≡ 0 = passed-first (soundChecks L c) (ask 19 true ∷ ask 15 true ∷ []) tt (passed n .all) in
+          e ∙ sym (rw (d, b, f))
 
 -- The room of a text.
 
@@ -200,7 +213,7 @@ module _ (L : ℕ) (c : Column) (room : ℕ) (l : LentColumn L c) where
   pub text-fits : 34 + 23 * count L c + 34 * used L c ≤ room → leb (length (snapshotText L c)) room ≡ true
   text-fits h = le-leb (length (snapshotText L c)) room (omega (arith, text-size L c l, h))
 
-pub checked-room : (L : ℕ) (c : Column) (room : ℕ) → checkedRoom L c (leb (length (snapshotText L c)) room) ≡ checkedOf L c room
+pub checked-room : (L : ℕ) (c : Column) (room : ℕ) → checkedRoom L c (every noDay (allRecords L c)) (leb (length (snapshotText L c)) room) ≡ checkedOf L c room
 unfolding checkedRoom checkedOf writeChecks
 checked-room L c room = refl
 
@@ -231,8 +244,8 @@ module _ (L : ℕ) (c : Column) (out : List ℕ) (x : Checked) (e : x ≡ checke
       let q : firstFailed (lentChecks L c) ≡ 0
       = rw (
         is-true (directoryBlockOk L (c .directory)) (w .block),
-        is-true (slicesOk (c .growers) (c .weights) (c .yields)) (w .slices),
-        is-true (directoryOk L (length (c .growers)) (c .directory)) (w .shape),
+        is-true (slicesOk (c .slices)) (w .slices),
+        is-true (directoryOk L (length (c .slices .growers)) (c .directory)) (w .shape),
       ) in
       let l = lent-column L c q in
       record {
@@ -247,7 +260,7 @@ module _ (L : ℕ) (c : Column) (out : List ℕ) (x : Checked) (e : x ≡ checke
     pub write-done : b ≡ directoryOf L (c .directory) .block → k ≡ count L c → bytes ≡ 34 + 23 * k + 34 * x .used → ls ≡ lengthsOf L c → fs ≡ fencesOf L c
         → t₁ ≡ placed 0 (line (b ∷ x .used ∷ k ∷ [])) out
         → t₂ ≡ placed 34 (lines (partitionRows ls fs)) t₁
-        → t₃ ≡ placed (34 + 23 * k) (lines (rowsOf (take (x .used) (c .growers)) (take (x .used) (c .weights)) (take (x .used) (c .yields)))) t₂
+        → t₃ ≡ placed (34 + 23 * k) (lines (rowsOf (eachSlice (take (x .used)) (c .slices)))) t₂
         → _≡_ {A = WriteResult} (record { answer = record { refusal = 0; bytes = bytes }; text = t₃ }) (writeCall L c out)
     write-done eb ek en el ef e₁ e₂ e₃ =
         let l = w .lent in
@@ -261,7 +274,7 @@ module _ (L : ℕ) (c : Column) (out : List ℕ) (x : Checked) (e : x ≡ checke
         let f₂ : t₂ ≡ placed 0 (h ++ p) out
         = e₂ ∙ ap₂ (λ (u v : List ℕ). placed 34 (lines (partitionRows u v)) t₁) el ef ∙ ap (placed 34 p) f₁ ∙ placed-joined 0 34 h p out (omega arith) (omega (arith, w .room)) in
         let f₃ : t₃ ≡ placed 0 (h ++ p ++ r) out
-        = e₃ ∙ ap (λ (u : ℕ). placed (34 + 23 * k) (lines (rowsOf (take u (c .growers)) (take u (c .weights)) (take u (c .yields)))) t₂) (w .used-is) ∙ ap (placed (34 + 23 * k) r) f₂
+        = e₃ ∙ ap (λ (u : ℕ). placed (34 + 23 * k) (lines (rowsOf (eachSlice (take u) (c .slices)))) t₂) (w .used-is) ∙ ap (placed (34 + 23 * k) r) f₂
         ∙ placed-joined 0 (34 + 23 * k) (h ++ p) r out (omega (arith, length-append h p)) (omega (arith, length-append h p, w .room)) in
         let s : t₃ ≡ snapshotText L c ++ drop (length (snapshotText L c)) out
         = f₃ ∙ ap (λ (u : List ℕ). placed 0 u out) (sym (text-is L c l)) ∙ placed-first (snapshotText L c) out in

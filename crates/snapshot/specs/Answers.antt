@@ -7,11 +7,11 @@ use lib.ListN.{length}
 use lib.Dec.{eqb}
 use Rattle.model.specs.declared.Applied.{Applied}
 use Rattle.model.specs.Lists.{sumOf, every, rising}
-use Rattle.model.specs.Deliveries.{inRange}
+use Rattle.model.specs.Deliveries.{Slices, inRange}
 use Rattle.model.specs.Directory.{Directory, directoryOf, noDirectory, directoryNumbers}
 use Rattle.model.specs.Checks.{Check, ask, firstFailed}
 use Rattle.model.specs.Column.{Column, lengthsOf, allRecords, sound}
-use Rattle.model.specs.Lent.{Lent, columnOf}
+use Rattle.model.specs.Lent.{Lent, slicesOut}
 use Rattle.model.specs.Questions.{lentChecks, writeChecks}
 use Rattle.model.specs.Snapshot.{Book, readBook, slotsForBook}
 use Rattle.model.specs.SnapshotCalls.{ReadResult}
@@ -20,11 +20,11 @@ use Rattle.snapshot.specs.declared.Checked.{Checked}
 use Rattle.snapshot.specs.Texts.{partsOk}
 
 -- an answer and the slices as one result: the slices given, and those after the call
-abbrev pub resultOf : Applied → List ℕ → List ℕ → List ℕ → ReadResult
-resultOf a gs ws ys = record { refusal = a .refusal; column = columnOf (a .directory) gs ws ys }
+abbrev pub resultOf : Applied → Slices → ReadResult
+resultOf a s = record { refusal = a .refusal; column = record { directory = a .directory; slices = s } }
 
-abbrev pub readOut : Applied → Lent → Lent → Lent → ReadResult
-readOut a g w y = resultOf a (g .exit .now) (w .exit .now) (y .exit .now)
+abbrev pub readOut : Applied → Lent → Lent → Lent → Lent → ReadResult
+readOut a g w y n = resultOf a (slicesOut g w y n)
 
 -- the checks of writing refused
 abbrev pub notChecked : ℕ → Checked
@@ -54,7 +54,7 @@ module _ (L : ℕ) where
   abbrev pub refusedRead : ℕ → Applied
   refusedRead n = record { refusal = n; directory = noDirectory L }
 
-  -- the checks of writing but for the room, 2 3 6 6 8, and how many deliveries there are
+  -- the checks of writing but for days and room, 2 3 6 6 8, and how many deliveries there are
   abbrev pub soundChecks : Column → List Check
   soundChecks c = lentChecks L c ++ ask 6 (sound L c) ∷ ask 8 (every inRange (allRecords L c)) ∷ []
 
@@ -63,10 +63,10 @@ module _ (L : ℕ) where
       let n : ℕ = firstFailed (soundChecks c) in
       record { refusal = n; used = cond (eqb n 0) (sumOf (lengthsOf L c)) 0 }
 
-  -- these, and 15: does what is written fit?
-  unfoldable pub checkedRoom : Column → Bool → Checked
-  checkedRoom c fits =
-      let n : ℕ = firstFailed (soundChecks c ++ ask 15 fits ∷ []) in
+  -- these, 19 of its days, and 15: does what is written fit?
+  unfoldable pub checkedRoom : Column → Bool → Bool → Checked
+  checkedRoom c dated fits =
+      let n : ℕ = firstFailed (soundChecks c ++ ask 19 dated ∷ ask 15 fits ∷ []) in
       record { refusal = n; used = cond (eqb n 0) (sumOf (lengthsOf L c)) 0 }
 
   -- the checks of writing, and how many deliveries there are

@@ -8,9 +8,9 @@ ghost use lib.Dec.{T};
 ghost use Rattle.model.specs.Bounds.{blockLimit};
 ghost use Rattle.model.specs.Lists.{sumOf, rising};
 ghost use mathlib.Core.Bool.{_&&_};
-ghost use Rattle.model.specs.Deliveries.{rows};
+ghost use Rattle.model.specs.Deliveries.{rows, Even};
 ghost use Rattle.model.specs.Column.{soundGrowers};
-ghost use Rattle.model.specs.Lent.{Even, columnIn};
+ghost use Rattle.model.specs.Lent.{slicesAt, slicesIn, columnIn};
 ghost use Rattle.model.specs.Fields.{lines};
 ghost use Rattle.model.specs.Snapshot.{headerOk, partitionRows, deliveryRow};
 ghost use Rattle.model.specs.SnapshotCalls.{readCall, writeCall};
@@ -186,6 +186,7 @@ fn judge_delivery(text: &[u8], at: usize, lo: u32, hi: u32) -> u32
         grower,
         weight,
         oil_yield,
+        day: 0,
     }) {
         return NOT_A_TEXT;
     }
@@ -330,12 +331,17 @@ fn refused(n: u32) -> Applied
     }
 }
 
-// Reads a text into the slices: its directory, or a refusal, a directory of zeros and the slices as they were.
-pub fn read(text: &[u8], growers: &mut [u32], weights: &mut [u32], yields: &mut [u32]) -> Applied
-    ensures { λ r. ⌜ readOut r growers weights yields
-        ≡ readCall blockLimit (now (text .entry)) (now (growers .entry)) (now (weights .entry)) (now (yields .entry)) ⌝ }
+// Reads a text into the slices, its deliveries with day 0: its directory, or a refusal, a directory of zeros and the slices as they were.
+pub fn read(
+    text: &[u8],
+    growers: &mut [u32],
+    weights: &mut [u32],
+    yields: &mut [u32],
+    days: &mut [u32],
+) -> Applied
+    ensures { λ r. ⌜ readOut r growers weights yields days ≡ readCall blockLimit (now (text .entry)) (slicesIn growers weights yields days) ⌝ }
 {
-    if !checks::slices_ok(growers, weights, yields) {
+    if !checks::slices_ok(growers, weights, yields, days) {
         return refused(3);
     }
     let j = judge(text, growers.len());
@@ -348,6 +354,7 @@ pub fn read(text: &[u8], growers: &mut [u32], weights: &mut [u32], yields: &mut 
     lines::store(text, a, growers, m);
     lines::store(text, a + WIDTH, weights, m);
     lines::store(text, a + 2 * WIDTH, yields, m);
+    slices::clear(&mut days[..m]);
     let refusal = ACCEPTED;
     let directory = j.directory;
     Applied { refusal, directory }
@@ -367,11 +374,10 @@ fn put_parts(text: &mut [u8], at: usize, lens: &[u32], fences: &[u32])
     }
 }
 
-// The delivery lines from a byte on.
-fn put_rows(text: &mut [u8], at: usize, g: &[u32], w: &[u32], y: &[u32])
-    requires { ⌜ Even (now g) (now w) (now y) × (at + 34 * length (now g) ≤ length (now text)) ⌝ }
-    ensures { λ _. ⌜ now (text .exit)
-        ≡ placed at (lines (map deliveryRow (rows (now (g .entry)) (now (w .entry)) (now (y .entry))))) (now (text .entry)) ⌝ }
+// The delivery lines from a byte on. The days are lent to name the deliveries; no line has one.
+fn put_rows(text: &mut [u8], at: usize, g: &[u32], w: &[u32], y: &[u32], n: &[u32])
+    requires { ⌜ Even (slicesAt g w y n) × (at + 34 * length (now g) ≤ length (now text)) ⌝ }
+    ensures { λ _. ⌜ now (text .exit) ≡ placed at (lines (map deliveryRow (rows (slicesIn g w y n)))) (now (text .entry)) ⌝ }
 {
     let mut i = 0;
     let mut e = at;
@@ -442,13 +448,13 @@ pub fn not_checked(n: u32) -> Checked
 }
 
 // Checks 2, 3, 6, 6 and 8 of a column that is to be written.
-pub fn check_column(directory: &[u32], g: &[u32], w: &[u32], y: &[u32]) -> Checked
-    ensures { λ r. ⌜ r ≡ checkedColumn blockLimit (columnIn directory g w y) ⌝ }
+pub fn check_column(directory: &[u32], g: &[u32], w: &[u32], y: &[u32], n: &[u32]) -> Checked
+    ensures { λ r. ⌜ r ≡ checkedColumn blockLimit (columnIn directory g w y n) ⌝ }
 {
-    let shape = directory::lent(directory, g, w, y, 0);
-    let n = shape.refusal;
-    if n != 0 {
-        return not_checked(n);
+    let shape = directory::lent(directory, g, w, y, n, 0);
+    let refusal = shape.refusal;
+    if refusal != 0 {
+        return not_checked(refusal);
     }
     let m = shape.used;
     if !sound_ok(
@@ -467,15 +473,26 @@ pub fn check_column(directory: &[u32], g: &[u32], w: &[u32], y: &[u32]) -> Check
     }
 }
 
-// These, and 15 of writing into room bytes.
-fn check_write(directory: &[u32], g: &[u32], w: &[u32], y: &[u32], room: usize) -> Checked
-    ensures { λ r. ⌜ r ≡ checkedOf blockLimit (columnIn directory g w y) room ⌝ }
+// These, 19 (a day that the text cannot hold) and 15 of writing into room bytes.
+fn check_write(
+    directory: &[u32],
+    g: &[u32],
+    w: &[u32],
+    y: &[u32],
+    n: &[u32],
+    room: usize,
+) -> Checked
+    ensures { λ r. ⌜ r ≡ checkedOf blockLimit (columnIn directory g w y n) room ⌝ }
 {
-    let c = check_column(directory, g, w, y);
+    let c = check_column(directory, g, w, y, n);
     if c.refusal != 0 {
         return c;
     }
-    if room < THREE + TWO * directory::count(directory) + THREE * c.used {
+    let m = c.used;
+    if !checks::undated(&n[..m]) {
+        return not_checked(19);
+    }
+    if room < THREE + TWO * directory::count(directory) + THREE * m {
         return not_checked(15);
     }
     c
@@ -487,12 +504,13 @@ pub fn write(
     growers: &[u32],
     weights: &[u32],
     yields: &[u32],
+    days: &[u32],
     text: &mut [u8],
 ) -> Written
     ensures { λ r. ⌜ record { answer = r; text = now (text .exit) }
-        ≡ writeCall blockLimit (columnIn directory growers weights yields) (now (text .entry)) ⌝ }
+        ≡ writeCall blockLimit (columnIn directory growers weights yields days) (now (text .entry)) ⌝ }
 {
-    let c = check_write(directory, growers, weights, yields, text.len());
+    let c = check_write(directory, growers, weights, yields, days, text.len());
     let n = c.refusal;
     if n != 0 {
         return Written {
@@ -510,7 +528,14 @@ pub fn write(
         directory::lengths(directory),
         directory::fences(directory),
     );
-    put_rows(text, start, &growers[..m], &weights[..m], &yields[..m]);
+    put_rows(
+        text,
+        start,
+        &growers[..m],
+        &weights[..m],
+        &yields[..m],
+        &days[..m],
+    );
     Written {
         refusal: 0,
         bytes: (start + THREE * m) as u64,

@@ -5,13 +5,13 @@ use mathlib.Core.Path.{_≡_, ap}
 use mathlib.Core.List.{List, [], _∷_, map}
 use native.Mathlib.Omega.{arith}
 use native.Mathlib.Nat.{mul-le-mul-left}
-use lib.Dec.{T, leb→le}
+use lib.Dec.{T, leb, leb→le}
 use lib.ListN.{length, getD}
 use Rattle.model.specs.declared.PriceCard.{PriceCard}
 use Rattle.model.specs.Place.{place}
 use Rattle.model.specs.Deliveries.{among}
 use Rattle.model.specs.Blocks.{Set, held, blocks, blockOf}
-use Rattle.model.specs.Calls.{Call, find, range, insert, delete, move, ordered}
+use Rattle.model.specs.Calls.{Call, find, range, rangeDays, insert, delete, move, ordered}
 use Rattle.model.specs.Layouts.{layoutOk, before, after, trailing}
 use Rattle.model.specs.Cost.{pointPrice}
 use Rattle.model.specs.Laws.{SetPasses}
@@ -120,11 +120,14 @@ module _ (L : ℕ) (s : Set) (h : SetPasses L s) (ends : List ℕ) (t : T (layou
   unfolding pointPrice
   move-most f g = pass-most _ (1 + passed s ends f g) _ (near-most f) (omega (arith, passed-most f g)) (omega arith)
 
+  span-most : (lo hi : ℕ) → T (leb lo hi) → p .rr + p .sr * spanned s ends lo hi ≤ sharpBound p (blocks s)
+  span-most lo hi k = within _ (scan-alone (p .rr) (p .sr) (p .«rw») m i j (spanned s ends lo hi) (spanned-most lo hi (leb→le lo hi k)) (omega arith))
+
   pub price-most : (c : Call) → T (ordered c) → callPrice s ends p c ≤ sharpBound p (blocks s)
   unfolding callPrice ordered
   price-most (find g) k = scan-most g
-  price-most (range lo hi) k =
-      within _ (scan-alone (p .rr) (p .sr) (p .«rw») m i j (spanned s ends lo hi) (spanned-most lo hi (leb→le lo hi k)) (omega arith))
+  price-most (range lo hi) k = span-most lo hi k
+  price-most (rangeDays lo hi days) k = span-most lo hi k
   price-most (insert d) k = pass-most 0 (onwardAt s ends (d .grower)) _ (omega arith) (onward-most (d .grower)) (omega arith)
   price-most (delete d) k = either (λ (n : ℕ). n ≤ sharpBound p (blocks s)) (among d (held s)) _ _ (delete-most (d .grower)) (scan-most (d .grower))
   price-most (move d g) k = either (λ (n : ℕ). n ≤ sharpBound p (blocks s)) (among d (held s)) _ _ (move-most (d .grower) g) (scan-most (d .grower))
@@ -134,6 +137,7 @@ pub price-least : (s : Set) (ends : List ℕ) (p : PriceCard) (c : Call) → p .
 unfolding callPrice pointPrice
 price-least s ends p (find g) = omega arith
 price-least s ends p (range lo hi) = omega arith
+price-least s ends p (rangeDays lo hi days) = omega arith
 price-least s ends p (insert d) = omega arith
 price-least s ends p (delete d) = either (λ (n : ℕ). p .rr ≤ n) (among d (held s)) _ _ (omega arith) (omega arith)
 price-least s ends p (move d g) = either (λ (n : ℕ). p .rr ≤ n) (among d (held s)) _ _ (omega arith) (omega arith)

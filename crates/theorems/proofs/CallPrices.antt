@@ -10,7 +10,7 @@ use Rattle.model.specs.Lists.{sumOf, upFrom}
 use Rattle.model.specs.Place.{place}
 use Rattle.model.specs.Deliveries.{among}
 use Rattle.model.specs.Blocks.{Set, held, blockOf}
-use Rattle.model.specs.Calls.{Call, find, range, insert, delete, move, ordered}
+use Rattle.model.specs.Calls.{Call, find, range, rangeDays, insert, delete, move, ordered}
 use Rattle.model.specs.Histograms.{pq, sc, de, udf, utf, udb, utb, Entry, at, spanRaises, raises, rangeRaises, moveRaises}
 use Rattle.model.specs.Layouts.{layoutOk, before, after, trailing}
 use Rattle.model.specs.Cost.{pointPrice, ripplePrice}
@@ -48,6 +48,7 @@ module _ (s : Set) (ends : List ℕ) where
     unfoldable pub callPrice : Call → ℕ
     callPrice (find g) = scanPrice g
     callPrice (range lo hi) = p .rr + p .sr * spanned lo hi
+    callPrice (rangeDays lo hi days) = p .rr + p .sr * spanned lo hi
     callPrice (insert d) = (p .rr + p .«rw») * (1 + onwardAt (d .grower))
     callPrice (delete d) = cond (among d (held s)) (deletePrice (d .grower)) (scanPrice (d .grower))
     callPrice (move d g) = cond (among d (held s)) (movePrice (d .grower) g) (scanPrice (d .grower))
@@ -130,6 +131,7 @@ module _ (L : ℕ) (s : Set) (h : SetPasses L s) (ends : List ℕ) (t : T (layou
   unfolding raises plus minus sumOf callPrice ordered
   price-balanced (find g) k = omega arith
   price-balanced (range lo hi) k = span-balanced lo hi (leb→le lo hi k)
+  price-balanced (rangeDays lo hi days) k = span-balanced lo hi (leb→le lo hi k)
   price-balanced (insert d) k = omega arith
   price-balanced (delete d) k = taken-balanced (d .grower) _ _ (deleted-balanced (d .grower)) (among d (held s))
   price-balanced (move d g) k = taken-balanced (d .grower) _ _ (moved-balanced (d .grower) g) (among d (held s))

@@ -6,33 +6,34 @@ use lib.Dec.{T}
 use lib.ListN.{length, getD}
 use Rattle.model.specs.declared.Delivery.{Delivery}
 use Rattle.model.specs.Lists.{sumOf, every}
-use Rattle.model.specs.Deliveries.{inRange}
+use Rattle.model.specs.Deliveries.{Slices, storing}
 use Rattle.model.specs.Blocks.{slicesOk}
 use Rattle.model.specs.Partitions.{parts}
 use Rattle.model.specs.Directory.{Directory, directoryOf, directoryBlockOk, withLengths}
 use Rattle.model.specs.Column.{Column, slots, soundGrowers, lengthsOf, fencesOf, allRecords, sound}
 use Rattle.model.specs.ColumnCalls.{moveSlices}
 use Rattle.model.proofs.DirectoryLaws.{Kept, with-lengths, shaped-with}
-use Rattle.theorems.proofs.ValidColumn.{Valid, even-slices, count-lengths}
+use Rattle.theorems.proofs.ValidColumn.{passes, Valid, even-slices, count-lengths}
 
 -- the column afterwards, and what is kept of the one before
 pub record Follows (L : ℕ) (c after : Column) (b : List Delivery) : Type 0 where
   pub valid : Valid L after
   pub bag : List·Permᴰ (allRecords L after) b
-  pub capacity : length (after .growers) ≡ length (c .growers)
+  pub capacity : length (after .slices .growers) ≡ length (c .slices .growers)
 
--- check 3 asks for three lengths alone
-slices-again : (gs ws ys hs us zs : List ℕ) → length hs ≡ length gs → length us ≡ length ws → length zs ≡ length ys → T (slicesOk gs ws ys) → T (slicesOk hs us zs)
+-- check 3 asks for lengths alone
+slices-again : (s t : Slices) → length (t .growers) ≡ length (s .growers) → length (t .weights) ≡ length (s .weights) → length (t .yields) ≡ length (s .yields)
+    → length (t .days) ≡ length (s .days) → T (slicesOk s) → T (slicesOk t)
 unfolding slicesOk
-slices-again gs ws ys hs us zs g w y t = rw (g, w, y) t
+slices-again s t g w y n k = rw (g, w, y, n) k
 
 module _ (L : ℕ) (c : Column) (v : Valid L c) where
   -- new lengths, as many as there were, and slices of the same length, each of which the move f has changed
   module _
       (f : ℕ → List ℕ → List ℕ) (d : Delivery) (ns : List ℕ)
-      (kept-length : (x : ℕ) (s : List ℕ) → length s ≡ length (c .growers) → length (f x s) ≡ length (c .growers))
+      (kept-length : (x : ℕ) (s : List ℕ) → length s ≡ length (c .slices .growers) → length (f x s) ≡ length (c .slices .growers))
       (count : length ns ≡ length (lengthsOf L c))
-      (fits : sumOf ns ≤ length (c .growers))
+      (fits : sumOf ns ≤ length (c .slices .growers))
     where
       kept : Kept L ns (c .directory)
       kept = with-lengths L ns (c .directory) (v .shape .size) (count ∙ count-lengths L c v) (v .shape .few)
@@ -47,27 +48,28 @@ module _ (L : ℕ) (c : Column) (v : Valid L c) where
           let e : getD (withLengths ns (c .directory)) 0 0 ≡ getD (c .directory) 0 0 = ap (λ (r : Directory). r .block) (kept .directory) in
           rw (kept .size, e) (v .block-ok)
 
-      sized : (x : ℕ) (s : List ℕ) → length s ≡ length (c .growers) → length (f x s) ≡ length s
+      sized : (x : ℕ) (s : List ℕ) → length s ≡ length (c .slices .growers) → length (f x s) ≡ length s
       sized x s e = kept-length x s e ∙ sym e
 
-      pub follows : T (soundGrowers ns (fencesOf L c) (f (d .grower) (c .growers)))
-          → T (every inRange (flatten (parts ns (slots (moveSlices f d ns c)))))
+      pub follows : T (soundGrowers ns (fencesOf L c) (f (d .grower) (c .slices .growers)))
+          → T (every passes (flatten (parts ns (slots (moveSlices f d ns c)))))
           → (b : List Delivery) → List·Permᴰ (flatten (parts ns (slots (moveSlices f d ns c)))) b
           → Follows L c (moveSlices f d ns c) b
       unfolding moveSlices sound
       follows snd vals b p =
-          let e : length (f (d .grower) (c .growers)) ≡ length (c .growers) = kept-length (d .grower) (c .growers) refl in
+          let e : length (f (d .grower) (c .slices .growers)) ≡ length (c .slices .growers) = kept-length (d .grower) (c .slices .growers) refl in
           let a : flatten (parts ns (slots (moveSlices f d ns c))) ≡ allRecords L (moveSlices f d ns c)
           = ap (λ (ms : List ℕ). flatten (parts ms (slots (moveSlices f d ns c)))) (sym lengths-after) in
           record {
             valid = record {
               block-ok = block-after;
               slices-ok =
-                  slices-again (c .growers) (c .weights) (c .yields) (f (d .grower) (c .growers)) (f (d .weight) (c .weights)) (f (d .«oil_yield») (c .yields)) e
-                  (sized (d .weight) (c .weights) (even-slices L c v .weights)) (sized (d .«oil_yield») (c .yields) (even-slices L c v .yields)) (v .slices-ok);
+                  let q = even-slices L c v in
+                  slices-again (c .slices) (storing f d (c .slices)) e (sized (d .weight) (c .slices .weights) (q .weights)) (sized (d .«oil_yield») (c .slices .yields) (q .yields))
+                  (sized (d .day) (c .slices .days) (q .days)) (v .slices-ok);
               shape = rw e (shaped-with L _ ns (c .directory) (v .shape) (count ∙ count-lengths L c v) fits);
-              sound = subst (λ (r : Directory). T (soundGrowers (r .lengths) (r .fences) (f (d .grower) (c .growers)))) (sym (kept .directory)) snd;
-              values = subst (λ (l : List Delivery). T (every inRange l)) a vals;
+              sound = subst (λ (r : Directory). T (soundGrowers (r .lengths) (r .fences) (f (d .grower) (c .slices .growers)))) (sym (kept .directory)) snd;
+              values = subst (λ (l : List Delivery). T (every passes l)) a vals;
             };
             bag = subst (λ (l : List Delivery). List·Permᴰ l b) a p;
             capacity = e;

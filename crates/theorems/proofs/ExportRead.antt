@@ -1,4 +1,4 @@
--- The text of an export is read as its deliveries: digits are read as one field, three of them and a line end as a record, and the
+-- The text of an export is read as its deliveries, each on day 0: digits are read as one field, three of them and a line end as a record, and the
 -- lines one after the other. Assumes nothing.
 use Prim.Native.Nat.{ℕ, zero, suc, _+_, _≤_}
 use mathlib.Core.Path.{_≡_, refl, sym, ap, _∙_}
@@ -6,10 +6,11 @@ use mathlib.Core.Bool.{true}
 use mathlib.Core.Option.{Option, some}
 use mathlib.Core.List.{List, [], _∷_, _++_, append-assoc, map, flatten}
 use native.Mathlib.Omega.{arith}
-use lib.ListN.{length, length-append}
+use lib.ListN.{length, length-append, length-map}
 use Rattle.model.specs.declared.Delivery.{Delivery}
 use Rattle.model.specs.Bounds.{mostNumber, mostWeight, mostYield}
 use Rattle.model.specs.Lists.{sameList, andThen}
+use Rattle.model.specs.Deliveries.{delivery}
 use Rattle.model.specs.Fields.{taken, lineEnd, afterLineEnd}
 use Rattle.model.specs.Csv.{Bytes, comma, carriageReturn, afterEnd, behind, takePlain, takeField, takeFields, takeRecord, takeRecords}
 use Rattle.model.specs.Weighbridge.{
@@ -89,6 +90,10 @@ pub data Fits : List Delivery → Type 0 where
   noneFits : Fits []
   fitThen : {d : Delivery} {ds : List Delivery} → Fit d → Fits ds → Fits (d ∷ ds)
 
+-- the delivery that its line is read as: on day 0
+abbrev pub undated : Delivery → Delivery
+undated d = delivery (d .grower) (d .weight) (d .«oil_yield») 0
+
 -- a delivery's line, ahead of any text
 module _ (d : Delivery) (t : List ℕ) where
   abbrev numbers : List Bytes
@@ -104,7 +109,7 @@ module _ (d : Delivery) (t : List ℕ) where
       not-empty (plain-digits (d .grower)) (plain-digits (d .weight)) (plain-digits (d .«oil_yield»)) (plain-some (d .grower)) (plain-some (d .weight))
       (plain-some (d .«oil_yield»)) t
 
-  row-read : Fit d → rowOf names numbers ≡ some d
+  row-read : Fit d → rowOf names numbers ≡ some (undated d)
   unfolding rowOf columnNamed sameList
   row-read f =
       rw (
@@ -113,15 +118,15 @@ module _ (d : Delivery) (t : List ℕ) where
         number-read mostYield (d .«oil_yield») (f .oil) (omega (arith, f .oil)),
       )
 
-rows-read : {ds : List Delivery} (n : ℕ) → Fits ds → length ds ≤ n → rowsOf names (takeRecords n (flatten (map rowLine ds))) ≡ some ds
+rows-read : {ds : List Delivery} (n : ℕ) → Fits ds → length ds ≤ n → rowsOf names (takeRecords n (flatten (map rowLine ds))) ≡ some (map undated ds)
 unfolding flatten
 rows-read n noneFits h = ap (rowsOf names) (records-none n) ∙ rows-none names
 rows-read zero (fitThen f fs) h = absurd (omega arith)
 rows-read (suc n) (fitThen {d} {ds} f fs) h =
     let t : List ℕ = flatten (map rowLine ds) in
     ap (rowsOf names) (records-next n (rowLine d ++ t) (line-there d t) (numbers d t) t (line-read d t))
-    ∙ rows-next names (numbers d t) (takeRecords n t) d (row-read d t f)
-    ∙ ap (λ (o : Option (List Delivery)). andThen o (λ es. some (d ∷ es))) (rows-read n fs (omega arith))
+    ∙ rows-next names (numbers d t) (takeRecords n t) (undated d) (row-read d t f)
+    ∙ ap (λ (o : Option (List Delivery)). andThen o (λ es. some (undated d ∷ es))) (rows-read n fs (omega arith))
 
 lines-long : (ds : List Delivery) → length ds ≤ length (flatten (map rowLine ds))
 unfolding flatten
@@ -142,15 +147,16 @@ pub once : (ds : List Delivery) → headerOnce (csvText ds) ≡ true
 unfolding headerOnce csvText timesNamed sameList
 once ds = rw (header-read (flatten (map rowLine ds)))
 
--- and its rows are the deliveries
+-- and its rows are the deliveries, each on day 0
 module _ {ds : List Delivery} (f : Fits ds) where
-  behind-header : rowsOf names (takeRecords (length (flatten (map rowLine ds))) (flatten (map rowLine ds))) ≡ some ds
+  behind-header : rowsOf names (takeRecords (length (flatten (map rowLine ds))) (flatten (map rowLine ds))) ≡ some (map undated ds)
   behind-header = rows-read (length (flatten (map rowLine ds))) f (lines-long ds)
 
-  pub text-read : readRows (csvText ds) ≡ some ds
+  pub text-read : readRows (csvText ds) ≡ some (map undated ds)
   unfolding readRows csvText
   text-read = rw (header-read (flatten (map rowLine ds))) behind-header
 
   pub text-counted : rowCount (csvText ds) ≡ length ds
   unfolding rowCount csvText
-  text-counted = rw (header-read (flatten (map rowLine ds))) (sym (rows-counted names (takeRecords (length (flatten (map rowLine ds))) (flatten (map rowLine ds))) ds behind-header))
+  text-counted = rw (header-read (flatten (map rowLine ds)))
+      (sym (rows-counted names (takeRecords (length (flatten (map rowLine ds))) (flatten (map rowLine ds))) (map undated ds) behind-header) ∙ length-map ds undated)

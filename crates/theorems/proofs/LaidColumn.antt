@@ -9,16 +9,16 @@ use lib.Dec.{T, ltb, eqb}
 use lib.ListN.{length, take, drop, getD, length-map, length-take, length-drop}
 use lib.Seq.{getD-take, getD-drop}
 use Rattle.model.specs.Lists.{sumOf, every}
-use Rattle.model.specs.Checks.{ask, firstFailed}
 use Rattle.model.specs.Place.{place}
 use Rattle.model.specs.Deliveries.{rows}
-use Rattle.model.specs.Blocks.{Set, held, blockOf, lastGrower, blockLengthOk, slicesOk, usedOk, growersOk, valuesOk}
+use Rattle.model.specs.Blocks.{Set, held, blockOf, lastGrower, blockLengthOk, slicesOk, usedOk, growersOk}
 use Rattle.model.specs.Layouts.{layoutOk}
 use Rattle.model.specs.Partitions.{parts, startOf, everyAt}
 use Rattle.model.specs.Directory.{Directory, directorySize, directoryOf, directoryNumbers, directoryBlockOk}
 use Rattle.model.specs.Column.{inPlace, soundGrowers, allRecords, sound, lengthsFrom, directoryFor}
-use Rattle.model.specs.Questions.{setChecks, applyChecks}
+use Rattle.model.specs.Questions.{applyChecks}
 use Rattle.model.specs.ColumnCalls.{applyCall, laidColumn}
+use Rattle.model.specs.Laws.{SetPasses}
 use Rattle.model.proofs.Parts.{flatten-parts, start-le, start-mono}
 use Rattle.model.proofs.Tests.{and-mk, or-snd, yes-first, first-passed, eq→eqb}
 use Rattle.model.proofs.Places.{Placed}
@@ -27,7 +27,7 @@ use Rattle.model.proofs.SetLaws.{Good, good, few, part-placed, target}
 use Rattle.model.proofs.DirectoryLaws.{Fits, Shaped, directory-again, numbers-shaped}
 use Rattle.model.proofs.Fresh.{length-lengths, none-empty, fences-rise, total-used, start-next, lower, upper}
 use Rattle.theorems.specs.Plan.{NoneEmptyWhenLaid}
-use Rattle.theorems.proofs.ValidColumn.{Valid}
+use Rattle.theorems.proofs.ValidColumn.{both-pass, Valid}
 
 -- Partitions by their slots.
 
@@ -69,15 +69,15 @@ start-only ns i p q a b x y = go (decLt p q) (decLt q p)
 
 module _ (L : ℕ) (s : Set) (ends : List ℕ) (o : Good L s) (l : Laid s ends) where
   -- a slot of partition p holds a grower of partition p
-  laid-sound : T (soundGrowers (lengthsFrom s 0 ends) (map (lastGrower s) ends) (s .growers))
+  laid-sound : T (soundGrowers (lengthsFrom s 0 ends) (map (lastGrower s) ends) (s .slices .growers))
   unfolding soundGrowers
-  laid-sound = every-partition (inPlace (map (lastGrower s) ends)) 0 (lengthsFrom s 0 ends) (s .growers) own
+  laid-sound = every-partition (inPlace (map (lastGrower s) ends)) 0 (lengthsFrom s 0 ends) (s .slices .growers) own
     where
-      own : (p i : ℕ) → p < length (lengthsFrom s 0 ends) → startOf (lengthsFrom s 0 ends) p ≤ i → i < startOf (lengthsFrom s 0 ends) (suc p) → i < length (s .growers)
-          → T (inPlace (map (lastGrower s) ends) (0 + p) (getD (s .growers) i 0))
+      own : (p i : ℕ) → p < length (lengthsFrom s 0 ends) → startOf (lengthsFrom s 0 ends) p ≤ i → i < startOf (lengthsFrom s 0 ends) (suc p) → i < length (s .slices .growers)
+          → T (inPlace (map (lastGrower s) ends) (0 + p) (getD (s .slices .growers) i 0))
       own p i a b d k =
           let ns : List ℕ = lengthsFrom s 0 ends in
-          let g : ℕ = getD (s .growers) i 0 in
+          let g : ℕ = getD (s .slices .growers) i 0 in
           let q : ℕ = place ends (blockOf s g) in
           let w : Placed ends (blockOf s g) q = part-placed L s o ends l (blockOf s g) in
           let used : i < s .used = omega (arith, start-le ns (suc p), total-used L s o ends l) in
@@ -105,30 +105,30 @@ module _ (L : ℕ) (s : Set) (ends : List ℕ) (o : Good L s) (l : Laid s ends) 
     unfolding directoryBlockOk directoryNumbers directoryFor
     laid-block = rw e (or-snd (not (eqb (length (directoryNumbers L (directoryFor s ends))) (directorySize L))) (blockLengthOk (s .block)) (o .block-ok))
 
-    laid-shape : Shaped L (length (s .growers)) d
+    laid-shape : Shaped L (length (s .slices .growers)) d
     unfolding directoryFor
     laid-shape =
-        subst (Shaped L (length (s .growers))) (sym e)
-        (numbers-shaped L (length (s .growers)) (directoryFor s ends) fits
+        subst (Shaped L (length (s .slices .growers))) (sym e)
+        (numbers-shaped L (length (s .slices .growers)) (directoryFor s ends) fits
         (rw (length-lengths s 0 ends) (l .some)) (fences-rise L s o 0 ends (l .cut) (l .parted)) (rw (total-used L s o ends l) (o .m-fits)))
 
-    laid-sound-column : T (soundGrowers (directoryOf L d .lengths) (directoryOf L d .fences) (s .growers))
+    laid-sound-column : T (soundGrowers (directoryOf L d .lengths) (directoryOf L d .fences) (s .slices .growers))
     unfolding directoryFor
-    laid-sound-column = subst (λ (r : Directory). T (soundGrowers (r .lengths) (r .fences) (s .growers))) (sym laid-directory) laid-sound
+    laid-sound-column = subst (λ (r : Directory). T (soundGrowers (r .lengths) (r .fences) (s .slices .growers))) (sym laid-directory) laid-sound
 
 -- laying that was accepted
 module _ (L : ℕ) (s : Set) (ends : List ℕ) (h : applyCall L s ends .refusal ≡ 0) where
   -- its checks, taken apart
-  checked : (firstFailed (setChecks L s ++ ask 8 (valuesOk s) ∷ []) ≡ 0) × T (layoutOk s ends)
+  checked : SetPasses L s × T (layoutOk s ends)
   unfolding applyCall applyChecks
   checked =
       let c2 = yes-first 1 (blockLengthOk (s .block)) _ h in
-      let c3 = yes-first 2 (slicesOk (s .growers) (s .weights) (s .yields)) _ (c2 .1) in
+      let c3 = yes-first 2 (slicesOk (s .slices)) _ (c2 .1) in
       let c4 = yes-first 3 (usedOk L s) _ (c3 .1) in
       let c5 = yes-first 4 (growersOk s) _ (c4 .1) in
       let c6 = yes-first 5 (layoutOk s ends) _ (c5 .1) in (
         first-passed 2 (blockLengthOk (s .block)) _ (c2 .0)
-            ∙ first-passed 3 (slicesOk (s .growers) (s .weights) (s .yields)) _ (c3 .0)
+            ∙ first-passed 3 (slicesOk (s .slices)) _ (c3 .0)
             ∙ first-passed 4 (usedOk L s) _ (c4 .0)
             ∙ first-passed 5 (growersOk s) _ (c5 .0)
             ∙ c6 .1,
@@ -147,7 +147,7 @@ module _ (L : ℕ) (s : Set) (ends : List ℕ) (h : applyCall L s ends .refusal 
 
   pub laid-records : allRecords L (laidColumn L s ends) ≡ held s
   unfolding laidColumn
-  laid-records = flatten-parts _ _ ∙ ap (λ (n : ℕ). take n (rows (s .growers) (s .weights) (s .yields))) (laid-total L s ends set-good layout-laid _ directory-is)
+  laid-records = flatten-parts _ _ ∙ ap (λ (n : ℕ). take n (rows (s .slices))) (laid-total L s ends set-good layout-laid _ directory-is)
 
   pub laid-valid : Valid L (laidColumn L s ends)
   unfolding laidColumn sound
@@ -156,10 +156,10 @@ module _ (L : ℕ) (s : Set) (ends : List ℕ) (h : applyCall L s ends .refusal 
     slices-ok = set-good .slices-ok;
     shape = laid-shape L s ends set-good layout-laid _ directory-is;
     sound = laid-sound-column L s ends set-good layout-laid _ directory-is;
-    values = rw laid-records (set-good .values-ok);
+    values = both-pass (allRecords L (laidColumn L s ends)) (rw laid-records (set-good .values-ok)) (rw laid-records (set-good .days-ok));
   }
 
-  pub laid-capacity : length (laidColumn L s ends .growers) ≡ length (s .growers)
+  pub laid-capacity : length (laidColumn L s ends .slices .growers) ≡ length (s .slices .growers)
   unfolding laidColumn
   laid-capacity = refl
 

@@ -14,9 +14,9 @@ use Rattle.model.specs.declared.PriceCard.{PriceCard}
 use Rattle.model.specs.declared.Limits.{Limits}
 use Rattle.model.specs.Lists.{sumOf}
 use Rattle.model.specs.Place.{place}
-use Rattle.model.specs.Deliveries.{delivery, inRange}
+use Rattle.model.specs.Deliveries.{delivery, inRange, dayOk}
 use Rattle.model.specs.Blocks.{Set, blocks, blockStop, lastGrower, blockOf}
-use Rattle.model.specs.Calls.{find, insert, ordered, offeredOk}
+use Rattle.model.specs.Calls.{find, insert, ordered, offeredOk, offeredDaysOk}
 use Rattle.model.specs.Histograms.{raises}
 use Rattle.model.specs.Prices.{pricesOk, limitsOk, priced}
 use Rattle.model.specs.Layouts.{endOf, firstOf, layoutOk, before, after, trailing, longestPartition, permitted}
@@ -32,12 +32,12 @@ use Rattle.model.proofs.LimitLaws.{FewAndShort, permitted-parts, parts-permitte
 use Rattle.model.proofs.Laws.{limits-are-prices}
 use Rattle.theorems.specs.Plan.{Admitted, reported}
 use Rattle.theorems.specs.Limits.{WithinLimits, OwnWithinLimits, LimitsKept, OwnLimitsKept}
-use Rattle.theorems.proofs.PlanChecks.{prices-pass}
+use Rattle.theorems.proofs.PlanChecks.{InBounds, prices-pass}
 use Rattle.theorems.proofs.RecordingCosts.{plus, minus}
-use Rattle.theorems.proofs.PlanFresh.{part-in, refused-report}
+use Rattle.theorems.proofs.PlanFresh.{part-in, refused-report, late-report}
 use Rattle.theorems.proofs.PlanReports.{balanced}
 
-module _ (L : ℕ) (p : PriceCard) (l : Limits) (s : Set) (h : Admitted L p l s) (free : s .used < length (s .growers)) (ends : List ℕ) where
+module _ (L : ℕ) (p : PriceCard) (l : Limits) (s : Set) (h : Admitted L p l s) (free : s .used < length (s .slices .growers)) (ends : List ℕ) where
   passes : SetPasses L s
   passes = prices-pass L p l s h .1
 
@@ -60,25 +60,26 @@ module _ (L : ℕ) (p : PriceCard) (l : Limits) (s : Set) (h : Admitted L p l s)
     others q = endOf ends q - firstOf ends q
 
     find-price : (g : ℕ) → reported L p s ends (find g) ≡ p .rr + p .sr * others (home g)
-    unfolding raises plus minus sumOf pointPrice before after ordered offeredOk
+    unfolding raises plus minus sumOf pointPrice before after ordered offeredOk offeredDaysOk
     find-price g =
         let b = blockOf s g in
         let e : b - firstOf ends (home g) + (endOf ends (home g) - b) ≡ others (home g)
         = omega (arith, part-first L s o ends d b, part-end L s o ends d b (spot L s o g .within)) in
-        omega (arith, balanced L s passes ends t p free (find g) tt tt, ap (λ (x : ℕ). p .sr * x) e)
+        omega (arith, balanced L s passes ends t p free (find g) tt (tt, tt), ap (λ (x : ℕ). p .sr * x) e)
 
-    insert-price : (x : Delivery) → T (inRange x) → reported L p s ends (insert x) ≡ (p .rr + p .«rw») * (1 + (length ends - home (x .grower)))
-    unfolding raises plus minus sumOf trailing ordered offeredOk
+    insert-price : (x : Delivery) → InBounds x → reported L p s ends (insert x) ≡ (p .rr + p .«rw») * (1 + (length ends - home (x .grower)))
+    unfolding raises plus minus sumOf trailing ordered offeredOk offeredDaysOk
     insert-price x r = omega (arith, balanced L s passes ends t p free (insert x) tt r)
 
     -- at most that of one that passes all partitions; out of range it costs nothing
     insert-most : (x : Delivery) → reported L p s ends (insert x) ≤ (p .rr + p .«rw») * (1 + length ends)
     unfolding priced
-    insert-most x = go (inRange x) refl
+    insert-most x = go (inRange x) (dayOk x) refl refl
       where
-        go : (b : Bool) → inRange x ≡ b → reported L p s ends (insert x) ≤ (p .rr + p .«rw») * (1 + length ends)
-        go true e = rw (insert-price x (of-true _ e)) (mul-le-mul-left (p .rr + p .«rw») (omega arith))
-        go false e = rw (refused-report L s passes ends t x e) (omega arith)
+        go : (b n : Bool) → inRange x ≡ b → dayOk x ≡ n → reported L p s ends (insert x) ≤ (p .rr + p .«rw») * (1 + length ends)
+        go true true e f = rw (insert-price x (of-true _ e, of-true _ f)) (mul-le-mul-left (p .rr + p .«rw») (omega arith))
+        go true false e f = rw (late-report L s passes ends t x e f) (omega arith)
+        go false n e f = rw (refused-report L s passes ends t x e) (omega arith)
 
     -- A layout that is short and few enough keeps every call within the limits.
 
@@ -99,7 +100,7 @@ module _ (L : ℕ) (p : PriceCard) (l : Limits) (s : Set) (h : Admitted L p l s)
     fenceSlot q = blockStop s (endOf ends q) - 1
 
     abbrev fence : ℕ → ℕ
-    fence q = getD (s .growers) (fenceSlot q) 0
+    fence q = getD (s .slices .growers) (fenceSlot q) 0
 
     fence-home : (q : ℕ) → q < length ends → home (fence q) ≡ q
     fence-home q w =
@@ -125,14 +126,14 @@ module _ (L : ℕ) (p : PriceCard) (l : Limits) (s : Set) (h : Admitted L p l s)
         first-insert : (p .rr + p .«rw») * (1 + length ends) ≤ l .insert
         first-insert =
             let e : length ends - home (fence 0) ≡ length ends = omega (arith, fence-home 0 (d .some)) in
-            rw (insert-price (delivery (fence 0) 0 0) tt, e) at (v .inserts (fenceSlot 0) (omega (arith, o .m-least)))
+            rw (insert-price (delivery (fence 0) 0 0 0) (tt, tt), e) at (v .inserts (fenceSlot 0) (omega (arith, o .m-least)))
 
         own-find : (q : ℕ) → q < length ends → p .rr + p .sr * others q ≤ l .read
         own-find q w = rw (find-price (fence q), fence-home q w) at (v .finds (fenceSlot q) (omega (arith, o .m-least)))
 
   -- every grower, and so the set's own
   own : WithinLimits L p l s ends → OwnWithinLimits L p l s ends
-  own w = record { finds = λ i v. omega (arith, w .finds (getD (s .growers) i 0)); inserts = λ i v. omega (arith, w .inserts (delivery (getD (s .growers) i 0) 0 0)) }
+  own w = record { finds = λ i v. omega (arith, w .finds (getD (s .slices .growers) i 0)); inserts = λ i v. omega (arith, w .inserts (delivery (getD (s .slices .growers) i 0) 0 0 0)) }
 
   permitted-within : T (permitted p l s ends) → T (layoutOk s ends) × WithinLimits L p l s ends
   permitted-within v = let r = permitted-parts p l ends s v in (r .0, keeps (r .0) (r .1))

@@ -26,7 +26,7 @@ each-below f n i t v = subst (λ (j : ℕ). T (f j)) (at-upFrom 0 n i v ∙ omeg
 
 -- the call of the grower in slot i costs at most u
 abbrev costsAtMost : (ℕ → Call) → ℕ → ℕ → Bool
-costsAtMost call u i = leb (reported blockLimit factory fullWeek halves (call (getD (fullWeek .growers) i 0))) u
+costsAtMost call u i = leb (reported blockLimit factory fullWeek halves (call (getD (fullWeek .slices .growers) i 0))) u
 
 pub free-slot-needed : FreeSlotNeeded
 unfolding computed
@@ -36,7 +36,7 @@ free-slot-needed = record {
   refused = refl;
   within = record {
     finds = λ i v. leb→le _ 100 (each-below (costsAtMost find 100) 8 i tt v);
-    inserts = λ i v. leb→le _ 14 (each-below (costsAtMost (λ g. insert (delivery g 0 0)) 14) 8 i tt v);
+    inserts = λ i v. leb→le _ 14 (each-below (costsAtMost (λ g. insert (delivery g 0 0 0)) 14) 8 i tt v);
   };
   not-allowed = refl;
 }

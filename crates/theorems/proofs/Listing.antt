@@ -55,7 +55,7 @@ module _ (L : ℕ) (p : PriceCard) (l : Limits) (s : Set) (hs : List ℕ) (h : A
   unfolding listingChecks
   refusal-of text =
       let q = prices-pass L p l s h in
-      first-passed 1 _ _ (q .0) ∙ set-passes L s (q .1) .0 _ ∙ first-passed 8 _ _ (set-passes L s (q .1) .1) ∙ first-passed 9 _ _ c ∙ last-three (fewBlocks s) any (fits text)
+      first-passed 1 _ _ (q .0) ∙ set-passes L s (q .1) .0 _ ∙ set-passes L s (q .1) .1 _ ∙ first-passed 9 _ _ c ∙ last-three (fewBlocks s) any (fits text)
 
   refusal-listed : (text : List ℕ) → listing L p l s hs text .answer .refusal ≡ firstFailed (listingChecks L p l s hs (length text))
   unfolding listCall

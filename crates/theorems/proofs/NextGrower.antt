@@ -13,7 +13,7 @@ use lib.Seq.{drop-cons}
 use Rattle.model.specs.declared.Delivery.{Delivery}
 use Rattle.model.specs.Lists.{upFrom, every, keep}
 use Rattle.model.specs.Checks.{ask, firstFailed}
-use Rattle.model.specs.Deliveries.{growerOf, inRange}
+use Rattle.model.specs.Deliveries.{growerOf, inRange, dayOk}
 use Rattle.model.specs.Blocks.{held}
 use Rattle.model.specs.Partitions.{parts}
 use Rattle.model.specs.Calls.{Call}
@@ -22,7 +22,7 @@ use Rattle.model.specs.Questions.{growerChecks}
 use Rattle.model.specs.ColumnCalls.{laidColumn, columnCall, columnCalls}
 use Rattle.model.specs.Ledger.{ledgerCall, ledgerCalls}
 use Rattle.model.specs.Growers.{Direction, up, down, atOrPast, GrowerCount, nearest, nearestOf, growersOf, holdsOne, downFrom, path}
-use Rattle.model.specs.Growers.{recordsAt, scannedFor, recordsScanned, scannedForOk}
+use Rattle.model.specs.Growers.{recordsAt, scannedFor, recordsScanned, scannedForOk, scannedForDaysOk}
 use Rattle.model.specs.GrowerCalls.{growerCall, ledgerGrower}
 use Rattle.model.proofs.Tests.{is-false, leb-no, and-fst, and-snd, and-mk, first-passed, nothing-failed}
 use Rattle.model.proofs.ListLaws.{flatten-append, every-joined, bag-length}
@@ -33,7 +33,7 @@ use Rattle.model.proofs.MovesKeep.{All, Sound, all-append}
 use Rattle.model.proofs.GrowerLaws.{Before, all-imply, none-kept, no-hit, no-hit-after, nearest-bag, InTurn, stop-at-first}
 use Rattle.theorems.specs.NextGrower.{SameGrowers, NextGrowerAgrees, AllSameGrowers, none, next, NextGrowerAfterCalls}
 use Rattle.theorems.proofs.Bags.{bag-keep}
-use Rattle.theorems.proofs.ValidColumn.{Valid, valid, count-lengths, place-of, target-there, sound-slots, lent-pass}
+use Rattle.theorems.proofs.ValidColumn.{Valid, valid, in-range, days-in-range, count-lengths, place-of, target-there, sound-slots, lent-pass}
 use Rattle.theorems.proofs.LaidColumn.{laid-records, laid-valid, laid-capacity}
 use Rattle.theorems.proofs.Ledger.{Steps, step}
 
@@ -238,11 +238,18 @@ module _ (L : ℕ) (c : Column) (v : Valid L c) where
       ∙ rw as-many (whole-path w g)
 
   accepted : (w : Direction) (g : ℕ) → firstFailed (growerChecks L c w g) ≡ 0
-  unfolding growerChecks scannedForOk
+  unfolding growerChecks scannedForOk scannedForDaysOk
   accepted w g =
-      let good = every-of-parts inRange (recordsAt L c) (λ i. every-at-part inRange (parts (lengthsOf L c) (slots c)) i (v .values)) (scannedFor L c w g) in
-      lent-pass L c v (ask 8 (every inRange (recordsScanned L c (scannedFor L c w g))) ∷ [])
-      ∙ first-passed 8 (every inRange (recordsScanned L c (scannedFor L c w g))) [] good ∙ nothing-failed
+      lent-pass L c v (ask 8 (every inRange found) ∷ ask 19 (every dayOk found) ∷ [])
+      ∙ first-passed 8 (every inRange found) (ask 19 (every dayOk found) ∷ []) (all-pass inRange (in-range L c v))
+      ∙ first-passed 19 (every dayOk found) [] (all-pass dayOk (days-in-range L c v)) ∙ nothing-failed
+    where
+      found : List Delivery
+      found = recordsScanned L c (scannedFor L c w g)
+
+      -- a test that every record passes
+      all-pass : (f : Delivery → Bool) → T (every f (allRecords L c)) → T (every f found)
+      all-pass f t = every-of-parts f (recordsAt L c) (λ i. every-at-part f (parts (lengthsOf L c) (slots c)) i t) (scannedFor L c w g)
 
   same-growers : (bag : List Delivery) → List·Permᴰ (allRecords L c) bag → SameGrowers L c bag
   unfolding growerCall ledgerGrower
@@ -251,10 +258,10 @@ module _ (L : ℕ) (c : Column) (v : Valid L c) where
       rw (accepted w g) (record { refusal = refl; grower = ap (λ (n : GrowerCount). n .grower) e; records = ap (λ (n : GrowerCount). n .records) e })
 
 pub next-grower-agrees : NextGrowerAgrees
-next-grower-agrees L c bag h s x p = same-growers L c (valid L c h s x) bag p
+next-grower-agrees L c bag h s x n p = same-growers L c (valid L c h s x n) bag p
 
 -- a list of calls, from any bag of the column's records
-after-calls : (calls : List Call) (L : ℕ) (c : Column) → Valid L c → (n : ℕ) → length (c .growers) ≡ n → (bag : List Delivery) → List·Permᴰ (allRecords L c) bag
+after-calls : (calls : List Call) (L : ℕ) (c : Column) → Valid L c → (n : ℕ) → length (c .slices .growers) ≡ n → (bag : List Delivery) → List·Permᴰ (allRecords L c) bag
     → AllSameGrowers L (columnCalls L c calls) (ledgerCalls n bag calls)
 unfolding columnCalls ledgerCalls
 after-calls [] L c v n e bag p = none
@@ -266,5 +273,5 @@ after-calls (k ∷ calls) L c v n e bag p =
 
 pub next-grower-after-calls : NextGrowerAfterCalls
 next-grower-after-calls calls L s ends h =
-    after-calls calls L (laidColumn L s ends) (laid-valid L s ends h) (length (s .growers)) (laid-capacity L s ends h) (held s)
+    after-calls calls L (laidColumn L s ends) (laid-valid L s ends h) (length (s .slices .growers)) (laid-capacity L s ends h) (held s)
     (rw (laid-records L s ends h) (Permᴰ·refl (held s)))

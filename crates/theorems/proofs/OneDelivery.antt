@@ -9,7 +9,7 @@ use lib.Dec.{T, eqb, eqb-refl}
 use lib.ListN.{length, getD}
 use Rattle.model.specs.declared.Delivery.{Delivery}
 use Rattle.model.specs.Lists.{keep}
-use Rattle.model.specs.Deliveries.{delivery, same, among, firstMatch}
+use Rattle.model.specs.Deliveries.{same, withGrower, among, firstMatch}
 use Rattle.model.specs.Ledger.{removeOne, changeOne}
 use Rattle.model.proofs.Tests.{and-mk, is-true, of-true}
 use Rattle.model.proofs.Deliveries.{same-equal}
@@ -19,7 +19,9 @@ same-self d =
     let g = eqb (d .grower) (d .grower) in
     let w = eqb (d .weight) (d .weight) in
     let y = eqb (d .«oil_yield») (d .«oil_yield») in
-    is-true (g && w && y) (and-mk (g && w) y (and-mk g w (eqb-refl (d .grower)) (eqb-refl (d .weight))) (eqb-refl (d .«oil_yield»)))
+    let n = eqb (d .day) (d .day) in
+    is-true (g && w && y && n)
+    (and-mk (g && w && y) n (and-mk (g && w) y (and-mk g w (eqb-refl (d .grower)) (eqb-refl (d .weight))) (eqb-refl (d .«oil_yield»))) (eqb-refl (d .day)))
 
 module _ (d : Delivery) where
   -- a delivery that is there is in its lowest matching slot
@@ -74,17 +76,17 @@ module _ (d : Delivery) where
   bag-without {a} {b} p = rw (remove-first a) at (bag-remove p)
 
   -- and with another delivery in its place
-  changed-bag : (g : ℕ) (l : List Delivery) → T (among d l) → List·Permᴰ (d ∷ changeOne d g l) (delivery g (d .weight) (d .«oil_yield») ∷ l)
+  changed-bag : (g : ℕ) (l : List Delivery) → T (among d l) → List·Permᴰ (d ∷ changeOne d g l) (withGrower g d ∷ l)
   unfolding changeOne among
   changed-bag g [] t = absurd t
   changed-bag g (r ∷ l) t = go (same d r) refl t (changed-bag g l)
     where
-      go : (b : Bool) → same d r ≡ b → T (b || among d l) → (T (among d l) → List·Permᴰ (d ∷ changeOne d g l) (delivery g (d .weight) (d .«oil_yield») ∷ l))
-          → List·Permᴰ (d ∷ cond b (delivery g (d .weight) (d .«oil_yield») ∷ l) (r ∷ changeOne d g l)) (delivery g (d .weight) (d .«oil_yield») ∷ r ∷ l)
+      go : (b : Bool) → same d r ≡ b → T (b || among d l) → (T (among d l) → List·Permᴰ (d ∷ changeOne d g l) (withGrower g d ∷ l))
+          → List·Permᴰ (d ∷ cond b (withGrower g d ∷ l) (r ∷ changeOne d g l)) (withGrower g d ∷ r ∷ l)
       go true e t ih = List·Permᴰ·swap (same-equal d r (of-true _ e)) refl
       go false e t ih = List·Permᴰ·trans (List·Permᴰ·swap refl refl) (List·Permᴰ·trans (List·Permᴰ·cons refl (ih t)) (List·Permᴰ·swap refl refl))
 
-  pub bag-changed : (g : ℕ) {a b : List Delivery} → T (among d b) → List·Permᴰ (d ∷ a) (delivery g (d .weight) (d .«oil_yield») ∷ b) → List·Permᴰ a (changeOne d g b)
+  pub bag-changed : (g : ℕ) {a b : List Delivery} → T (among d b) → List·Permᴰ (d ∷ a) (withGrower g d ∷ b) → List·Permᴰ a (changeOne d g b)
   bag-changed g {a} {b} t p = List·Permᴰ·trans (bag-without p) (Permᴰ·symm (bag-without (changed-bag g b t)))
 
   pub bag-among : {a b : List Delivery} → List·Permᴰ a b → among d a ≡ among d b

@@ -107,7 +107,7 @@ module _ (L : ℕ) (p : PriceCard) (l : Limits) (s : Set) (h : Admitted L p l s)
       let q = prices-pass L p l s h in
       let set = set-passes L s (q .1) in
       let e : firstFailed (costChecks L p s x hs) ≡ 0
-      = first-passed 1 _ _ (and-fst (pricesOk p) (limitsOk l) (q .0)) ∙ set .0 _ ∙ first-passed 6 _ _ (permitted-ok p l s x t) ∙ first-passed 8 _ _ (set .1)
+      = first-passed 1 _ _ (and-fst (pricesOk p) (limitsOk l) (q .0)) ∙ set .0 _ ∙ first-passed 6 _ _ (permitted-ok p l s x t) ∙ set .1 _
       ∙ first-passed 9 _ _ c ∙ nothing-failed in
       rw (e, costCall)
 
@@ -133,7 +133,7 @@ module _ (L : ℕ) (p : PriceCard) (l : Limits) (s : Set) (h : Admitted L p l s)
   unfolding plannerRefusal plannerChecks
   refusal-is out =
       let q = prices-pass L p l s h in
-      first-passed 1 _ _ (q .0) ∙ set-passes L s (q .1) .0 _ ∙ first-passed 8 _ _ (set-passes L s (q .1) .1) ∙ first-passed 9 _ _ c ∙ last-two any (fits out)
+      first-passed 1 _ _ (q .0) ∙ set-passes L s (q .1) .0 _ ∙ set-passes L s (q .1) .1 _ ∙ first-passed 9 _ _ c ∙ last-two any (fits out)
 
   pub refusal-planned : (out : List ℕ) → planCall L p l s hs out .answer .refusal ≡ lastTwo any (fits out)
   unfolding planCall

@@ -9,9 +9,10 @@ use lib.ListN.{length, length-map}
 use Rattle.model.specs.declared.Delivery.{Delivery}
 use Rattle.model.specs.declared.PriceCard.{PriceCard}
 use Rattle.model.specs.Place.{place}
-use Rattle.model.specs.Deliveries.{among, inRange}
+use Rattle.model.specs.Deliveries.{among}
 use Rattle.model.specs.Blocks.{Set, held, blockOf}
-use Rattle.model.specs.Calls.{Call, find, range, insert, delete, move, ordered, offeredOk}
+use Rattle.model.specs.Calendar.{Span}
+use Rattle.model.specs.Calls.{Call, find, range, rangeDays, insert, delete, move, ordered, offeredOk, spanOk, offeredDaysOk}
 use Rattle.model.specs.Histograms.{raises}
 use Rattle.model.specs.Prices.{priced}
 use Rattle.model.specs.Layouts.{layoutOk, before, after, trailing}
@@ -26,7 +27,8 @@ use Rattle.model.proofs.SetLaws.{Good, good, spot, block-mono, part-first, part
 use Rattle.model.proofs.Fresh.{scanned-is}
 use Rattle.theorems.proofs.RecordingSums.{load}
 use Rattle.theorems.proofs.RecordingCosts.{plus, minus}
-use Rattle.theorems.proofs.PlanFresh.{part-in, part-mono, find-report, range-report, insert-report, delete-report, move-report}
+use Rattle.theorems.proofs.PlanChecks.{InBounds, Offered}
+use Rattle.theorems.proofs.PlanFresh.{part-in, part-mono, find-report, range-report, range-days-report, insert-report, delete-report, move-report}
 use Rattle.theorems.proofs.CallPrices.{scanPrice, deletePrice, movePrice, callPrice, price-balanced}
 
 module _ (L : ℕ) (s : Set) (h : SetPasses L s) (ends : List ℕ) (t : T (layoutOk s ends)) where
@@ -91,12 +93,16 @@ module _ (L : ℕ) (s : Set) (h : SetPasses L s) (ends : List ℕ) (t : T (layou
     unfolding callPrice callCounts scanCounts readsOf priced
     range-priced lo hi k = rw (range-report L s h ends t lo hi k, scan-two lo hi k) (omega arith)
 
-    insert-priced : (d : Delivery) → T (inRange d) → s .used < length (s .growers) → Priced (insert d)
+    range-days-priced : (lo hi : ℕ) (days : Span) → lo ≤ hi → T (spanOk days) → Priced (rangeDays lo hi days)
+    unfolding callPrice callCounts scanCounts readsOf priced
+    range-days-priced lo hi days k n = rw (range-days-report L s h ends t lo hi days k n, scan-two lo hi k) (omega arith)
+
+    insert-priced : (d : Delivery) → InBounds d → s .used < length (s .slices .growers) → Priced (insert d)
     unfolding callPrice callCounts priced
     insert-priced d f k = rw (insert-report L s h ends t d f k, onward-is (d .grower)) (omega arith)
 
     -- a delivery that the set has, and one that it has not
-    delete-priced : (d : Delivery) → T (inRange d) → Priced (delete d)
+    delete-priced : (d : Delivery) → InBounds d → Priced (delete d)
     unfolding callPrice callCounts missCounts
     delete-priced d f = rw (delete-report L s h ends t d f) (go (among d (held s)))
       where
@@ -104,7 +110,7 @@ module _ (L : ℕ) (s : Set) (h : SetPasses L s) (ends : List ℕ) (t : T (layou
         go true = rw (near-price p (d .grower) _ _, onward-is (d .grower))
         go false = scan-price p (d .grower)
 
-    move-priced : (d : Delivery) (g : ℕ) → T (inRange d) → Priced (move d g)
+    move-priced : (d : Delivery) (g : ℕ) → InBounds d → Priced (move d g)
     unfolding callPrice callCounts missCounts
     move-priced d g f = rw (move-report L s h ends t d g f) (go (among d (held s)))
       where
@@ -112,14 +118,16 @@ module _ (L : ℕ) (s : Set) (h : SetPasses L s) (ends : List ℕ) (t : T (layou
         go true = rw (near-price p (d .grower) _ _, home-is (d .grower), home-is g)
         go false = scan-price p (d .grower)
 
-    report-priced : s .used < length (s .growers) → (c : Call) → T (ordered c) → T (offeredOk c) → Priced c
-    unfolding ordered offeredOk
+    report-priced : s .used < length (s .slices .growers) → (c : Call) → T (ordered c) → Offered c → Priced c
+    unfolding ordered offeredOk offeredDaysOk
     report-priced k (find g) a b = find-priced g
     report-priced k (range lo hi) a b = range-priced lo hi (leb→le lo hi a)
+    report-priced k (rangeDays lo hi days) a b = range-days-priced lo hi days (leb→le lo hi a) (b .1)
     report-priced k (insert d) a b = insert-priced d b k
     report-priced k (delete d) a b = delete-priced d b
     report-priced k (move d g) a b = move-priced d g b
 
     -- one call: what it adds to the cost, less what it takes away, is what its report is priced at
-    pub balanced : s .used < length (s .growers) → (c : Call) → T (ordered c) → T (offeredOk c) → load (plus p ends) (raises s c) ≡ priced p (reportAlone L s ends c) + load (minus p ends) (raises s c)
+    pub balanced : s .used < length (s .slices .growers) → (c : Call) → T (ordered c) → Offered c
+        → load (plus p ends) (raises s c) ≡ priced p (reportAlone L s ends c) + load (minus p ends) (raises s c)
     balanced k c a b = rw (report-priced k c a b) (price-balanced L s h ends t p c a)

@@ -10,7 +10,7 @@ use lib.IntN.{pos}
 use Rattle.model.specs.declared.PriceCard.{PriceCard}
 use Rattle.model.specs.Lists.{sumOf}
 use Rattle.model.specs.Blocks.{Set, blocks}
-use Rattle.model.specs.Calls.{Call, ordered, offeredOk}
+use Rattle.model.specs.Calls.{Call, ordered}
 use Rattle.model.specs.Histograms.{raises, raiseAll, zeros}
 use Rattle.model.specs.Cost.{costOf}
 use Rattle.model.specs.Recorder.{recorderRefusal, recordCall, recordCalls, acceptedCalls, recordedFromZeros, acceptedFromZeros}
@@ -20,11 +20,12 @@ use Rattle.model.proofs.SetLaws.{Good, good, n-most}
 use Rattle.theorems.proofs.RecordingSums.{load, weigh, weigh-all, weigh-zeros}
 use Rattle.theorems.proofs.RecordingEntries.{raised-below}
 use Rattle.theorems.proofs.RecordingCosts.{plus, minus, is-cost}
+use Rattle.theorems.proofs.PlanChecks.{Offered}
 use Rattle.theorems.proofs.RecordingCalls.{accepted-passed, length-recorded, length-zeros}
 
 -- each call is worth what it adds to the cost, less what it takes away
 module _ (L : ℕ) (s : Set) (h : SetPasses L s) (ends : List ℕ) (p : PriceCard) (worth : Call → ℕ)
-    (balanced : (c : Call) → T (ordered c) → T (offeredOk c) → load (plus p ends) (raises s c) ≡ worth c + load (minus p ends) (raises s c)) where
+    (balanced : (c : Call) → T (ordered c) → Offered c → load (plus p ends) (raises s c) ≡ worth c + load (minus p ends) (raises s c)) where
   o : Good L s
   o = good L s h
 

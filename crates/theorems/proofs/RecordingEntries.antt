@@ -8,7 +8,7 @@ use lib.Dec.{leb, eqb}
 use Rattle.model.specs.Lists.{upFrom}
 use Rattle.model.specs.Deliveries.{among}
 use Rattle.model.specs.Blocks.{Set, held, blocks, blockOf}
-use Rattle.model.specs.Calls.{Call, find, range, insert, delete, move}
+use Rattle.model.specs.Calls.{Call, find, range, rangeDays, insert, delete, move}
 use Rattle.model.specs.Histograms.{Histogram, pq, rs, re, sc, de, ins, udf, utf, udb, utb, position, Entry, at, slot, raises, rangeRaises, moveRaises}
 use Rattle.model.proofs.SetLaws.{Good, spot, n-most}
 use Rattle.theorems.proofs.RecordingSums.{Below, slot-apart}
@@ -31,6 +31,7 @@ module _ (s : Set) (P : List Entry → Type 0)
   unfolding raises rangeRaises moveRaises position
   raised (find g) = one pq g
   raised (range lo hi) = either P (eqb (blockOf s lo) (blockOf s hi)) _ _ (one pq lo) (spread lo hi)
+  raised (rangeDays lo hi days) = either P (eqb (blockOf s lo) (blockOf s hi)) _ _ (one pq lo) (spread lo hi)
   raised (insert d) = one ins (d .grower)
   raised (delete d) = either P (among d (held s)) _ _ (one de (d .grower)) (one pq (d .grower))
   raised (move d g) = either P (among d (held s)) _ _ (either P (leb (d .grower) g) _ _ (two udf utf (d .grower) g (omega arith)) (two udb utb (d .grower) g (omega arith))) (one pq (d .grower))

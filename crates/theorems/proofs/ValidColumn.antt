@@ -1,54 +1,65 @@
--- A column of proper shape, sound and with every value in range: its records, and what its calls scan. Assumes nothing.
+-- A column of proper shape, sound and with every value and day in range: its records, and what its calls scan. Assumes nothing.
 use Prim.Native.Nat.{ℕ, _+_, _-_, _≤_, _<_}
-use mathlib.Core.Path.{_≡_, sym, ap, _∙_, subst}
-use mathlib.Core.Bool.{Bool, true}
-use mathlib.Core.List.{List, [], _++_, map, flatten, append-nil}
+use mathlib.Core.Path.{_≡_, refl, sym, ap, _∙_, subst}
+use mathlib.Core.Bool.{Bool, true, _&&_}
+use mathlib.Core.List.{List, [], _∷_, _++_, map, flatten, append-nil}
 use native.Mathlib.Omega.{arith}
 use lib.Dec.{T, leb, ltb, leb→le, le→leb, eqb→eq}
-use lib.ListN.{length, take, drop, getD, length-map, List·getD-map}
+use lib.ListN.{length, take, drop, getD, List·getD-map}
 use lib.Seq.{drop-cons, length-take-le}
 use Rattle.model.specs.declared.Delivery.{Delivery}
 use Rattle.model.specs.Lists.{sumOf, every, keep}
 use Rattle.model.specs.Checks.{Check, firstFailed}
-use Rattle.model.specs.Deliveries.{inRange, same, among, matches}
+use Rattle.model.specs.Calendar.{Span}
+use Rattle.model.specs.Deliveries.{Slices, Even, inRange, dayOk, same, among, matches, onDays}
 use Rattle.model.specs.Blocks.{slicesOk}
 use Rattle.model.specs.Partitions.{parts, part, between, startOf}
 use Rattle.model.specs.Directory.{partitionCount, directoryBlockOk, directoryOk}
-use Rattle.model.specs.Column.{Column, slots, inPlace, soundGrowers, lengthsOf, fencesOf, target, recordsOf, recordsNear, allRecords, sound, scannedOk, hasFreeSlot, hasDelivery}
+use Rattle.model.specs.Column.{Column, slots, inPlace, soundGrowers, lengthsOf, fencesOf, target, recordsOf, recordsNear, allRecords, sound, scannedOk, scannedDaysOk, hasFreeSlot, hasDelivery}
 use Rattle.model.specs.Questions.{lentChecks}
-use Rattle.model.specs.Lent.{Even}
-use Rattle.model.proofs.Tests.{and-fst, and-snd, and-mk, is-true, yes-first, first-passed}
-use Rattle.model.proofs.ListLaws.{sum-cut, sum-take-le, every-part}
-use Rattle.model.proofs.Deliveries.{same-equal}
+use Rattle.model.proofs.Tests.{and-fst, and-snd, and-mk, pairs-swap, is-true, yes-first, first-passed}
+use Rattle.model.proofs.ListLaws.{sum-cut, sum-take-le, every-part, keep-swap}
+use Rattle.model.proofs.Deliveries.{same-equal, slices-for, length-rows}
 use Rattle.model.proofs.SetLaws.{sliced}
 use Rattle.model.proofs.Places.{Placed, placed, placed-mono}
 use Rattle.model.proofs.Parts.{flatten-parts, between-is, length-parts, lengths-parts}
 use Rattle.model.proofs.DirectoryLaws.{Shaped, shaped, shaped-passes, length-lengths, length-fences}
 use Rattle.model.proofs.MovesMap.{map-parts}
-use Rattle.model.proofs.MovesRows.{rows-columns}
 use Rattle.model.proofs.MovesKeep.{Sound}
 use Rattle.model.proofs.SoundLaws.{everyAt-sound}
 use Rattle.theorems.proofs.OneDelivery.{among-kept}
 use Rattle.theorems.proofs.Scans.{sound-mapped, kept-scan}
 
+-- 8 and 19 of one delivery
+abbrev pub passes : Delivery → Bool
+passes d = inRange d && dayOk d
+
+pub every-passes : (l : List Delivery) → every passes l ≡ every inRange l && every dayOk l
+unfolding every
+every-passes [] = refl
+every-passes (d ∷ l) = ap (λ (t : Bool). passes d && t) (every-passes l) ∙ pairs-swap (inRange d) (dayOk d) (every inRange l) (every dayOk l)
+
+pub both-pass : (l : List Delivery) → T (every inRange l) → T (every dayOk l) → T (every passes l)
+both-pass l v n = subst T (sym (every-passes l)) (and-mk (every inRange l) (every dayOk l) v n)
+
 module _ (L : ℕ) where
   pub record Valid (c : Column) : Type 0 where
     pub block-ok : T (directoryBlockOk L (c .directory))
-    pub slices-ok : T (slicesOk (c .growers) (c .weights) (c .yields))
-    pub shape : Shaped L (length (c .growers)) (c .directory)
+    pub slices-ok : T (slicesOk (c .slices))
+    pub shape : Shaped L (length (c .slices .growers)) (c .directory)
     pub sound : T (sound L c)
-    pub values : T (every inRange (allRecords L c))
+    pub values : T (every passes (allRecords L c))
 
-  pub valid : (c : Column) → firstFailed (lentChecks L c) ≡ 0 → T (sound L c) → T (every inRange (allRecords L c)) → Valid c
-  valid c h s v =
+  pub valid : (c : Column) → firstFailed (lentChecks L c) ≡ 0 → T (sound L c) → T (every inRange (allRecords L c)) → T (every dayOk (allRecords L c)) → Valid c
+  valid c h s v n =
       let c2 = yes-first 1 (directoryBlockOk L (c .directory)) _ h in
-      let c3 = yes-first 2 (slicesOk (c .growers) (c .weights) (c .yields)) _ (c2 .1) in
-      let c6 = yes-first 5 (directoryOk L (length (c .growers)) (c .directory)) _ (c3 .1) in
-      record { block-ok = c2 .0; slices-ok = c3 .0; shape = shaped L _ _ (c6 .0); sound = s; values = v }
+      let c3 = yes-first 2 (slicesOk (c .slices)) _ (c2 .1) in
+      let c6 = yes-first 5 (directoryOk L (length (c .slices .growers)) (c .directory)) _ (c3 .1) in
+      record { block-ok = c2 .0; slices-ok = c3 .0; shape = shaped L _ _ (c6 .0); sound = s; values = both-pass (allRecords L c) v n }
 
   module _ (c : Column) (v : Valid c) where
-    pub even-slices : Even (c .growers) (c .weights) (c .yields)
-    even-slices = sliced (c .growers) (c .weights) (c .yields) (v .slices-ok) .even
+    pub even-slices : Even (c .slices)
+    even-slices = sliced (c .slices) (v .slices-ok) .even
 
     -- there are as many lengths as fences, and every grower has its partition
     pub count-lengths : length (lengthsOf L c) ≡ partitionCount L (c .directory)
@@ -61,11 +72,11 @@ module _ (L : ℕ) where
     target-there g = rw count-lengths (rw (length-fences L _ _ (v .shape)) at (place-of g .within))
 
     -- the slots
-    growers-of : c .growers ≡ map (λ (d : Delivery). d .grower) (slots c)
-    growers-of = rows-columns (c .growers) (c .weights) (c .yields) (even-slices .weights) (even-slices .yields) .growers
+    growers-of : c .slices .growers ≡ map (λ (d : Delivery). d .grower) (slots c)
+    growers-of = ap (λ (s : Slices). s .growers) (sym (slices-for (c .slices) even-slices))
 
-    length-slots : length (slots c) ≡ length (c .growers)
-    length-slots = sym (ap length growers-of ∙ length-map (slots c) (λ (d : Delivery). d .grower))
+    length-slots : length (slots c) ≡ length (c .slices .growers)
+    length-slots = length-rows (c .slices) even-slices
 
     pub room : sumOf (lengthsOf L c) ≤ length (slots c)
     room = rw length-slots (v .shape .room)
@@ -74,14 +85,14 @@ module _ (L : ℕ) where
     length-records = ap length (flatten-parts (lengthsOf L c) (slots c)) ∙ length-take-le (sumOf (lengthsOf L c)) (slots c) room
 
     -- every record is in its grower's partition: the growers alone, and the records
-    pub sound-growers : Sound (λ (p g : ℕ). T (inPlace (fencesOf L c) p g)) 0 (parts (lengthsOf L c) (c .growers))
+    pub sound-growers : Sound (λ (p g : ℕ). T (inPlace (fencesOf L c) p g)) 0 (parts (lengthsOf L c) (c .slices .growers))
     unfolding sound soundGrowers
-    sound-growers = everyAt-sound (inPlace (fencesOf L c)) 0 (parts (lengthsOf L c) (c .growers)) (v .sound)
+    sound-growers = everyAt-sound (inPlace (fencesOf L c)) 0 (parts (lengthsOf L c) (c .slices .growers)) (v .sound)
 
     pub sound-slots : Sound (λ (p : ℕ) (d : Delivery). T (inPlace (fencesOf L c) p (d .grower))) 0 (parts (lengthsOf L c) (slots c))
     sound-slots =
         let f : Delivery → ℕ = λ (d : Delivery). d .grower in
-        let e : parts (lengthsOf L c) (c .growers) ≡ map (map f) (parts (lengthsOf L c) (slots c))
+        let e : parts (lengthsOf L c) (c .slices .growers) ≡ map (map f) (parts (lengthsOf L c) (slots c))
         = ap (parts (lengthsOf L c)) growers-of ∙ sym (map-parts f (lengthsOf L c) (slots c)) in
         sound-mapped f (λ (p g : ℕ). T (inPlace (fencesOf L c) p g)) 0 (parts (lengthsOf L c) (slots c))
         (subst (λ (ps : List (List ℕ)). Sound (λ (p g : ℕ). T (inPlace (fencesOf L c) p g)) 0 ps) e sound-growers)
@@ -101,6 +112,13 @@ module _ (L : ℕ) where
             let y = placed-mono (fencesOf L c) (d .grower) hi _ _ b (place-of (d .grower)) (place-of hi) in
             (omega arith, omega arith)
 
+    -- and every match of some days
+    pub scan-finds-on : (lo hi : ℕ) (s : Span)
+        → keep (matches lo hi) (keep (onDays s) (recordsOf L c (target L c lo) (target L c hi))) ≡ keep (matches lo hi) (keep (onDays s) (allRecords L c))
+    scan-finds-on lo hi s =
+        keep-swap (matches lo hi) (onDays s) (recordsOf L c (target L c lo) (target L c hi))
+        ∙ ap (keep (onDays s)) (scan-finds lo hi) ∙ keep-swap (onDays s) (matches lo hi) (allRecords L c)
+
     -- check 13: a delivery is in its grower's partition just if the column holds it
     pub has-is : (d : Delivery) → hasDelivery L c d ≡ among d (allRecords L c)
     unfolding hasDelivery
@@ -115,21 +133,44 @@ module _ (L : ℕ) where
             let t : T (leb (r .grower) (r .grower)) = le→leb (r .grower) (r .grower) (omega arith) in
             rw e (and-mk (leb (r .grower) (r .grower)) (leb (r .grower) (r .grower)) t t)
 
-    -- check 8: every partition scanned is in range
-    pub scanned-passes : (lo hi : ℕ) → scannedOk L c lo hi ≡ true
-    unfolding scannedOk startOf
-    scanned-passes lo hi =
+    -- what every record passes
+    values-of : T (every inRange (allRecords L c)) × T (every dayOk (allRecords L c))
+    values-of =
+        let a = every inRange (allRecords L c) in
+        let b = every dayOk (allRecords L c) in
+        let t = subst T (every-passes (allRecords L c)) (v .values) in
+        (and-fst a b t, and-snd a b t)
+
+    pub in-range : T (every inRange (allRecords L c))
+    in-range = values-of .0
+
+    pub days-in-range : T (every dayOk (allRecords L c))
+    days-in-range = values-of .1
+
+    -- and so does every partition scanned
+    scanned-pass : (f : Delivery → Bool) → T (every f (allRecords L c)) → (lo hi : ℕ) → every f (recordsOf L c (target L c lo) (target L c hi)) ≡ true
+    unfolding startOf
+    scanned-pass f t lo hi =
         let p = target L c lo in
         let q = target L c hi in
         let ns = lengthsOf L c in
         let rest = drop p ns in
-        is-true (every inRange (between ns p q (slots c)))
+        is-true (every f (between ns p q (slots c)))
         (rw (between-is ns p q (slots c))
-        (every-part inRange (sumOf (take p ns)) (sumOf (take (q + 1 - p) rest)) (sumOf ns) (slots c) (omega (arith, sum-cut p ns, sum-take-le rest (q + 1 - p)))
-        (subst (λ (l : List Delivery). T (every inRange l)) (flatten-parts ns (slots c)) (v .values))))
+        (every-part f (sumOf (take p ns)) (sumOf (take (q + 1 - p) rest)) (sumOf ns) (slots c) (omega (arith, sum-cut p ns, sum-take-le rest (q + 1 - p)))
+        (subst (λ (l : List Delivery). T (every f l)) (flatten-parts ns (slots c)) t)))
+
+    -- checks 8 and 19 of a scan
+    pub scanned-passes : (lo hi : ℕ) → scannedOk L c lo hi ≡ true
+    unfolding scannedOk
+    scanned-passes = scanned-pass inRange in-range
+
+    pub scanned-days-pass : (lo hi : ℕ) → scannedDaysOk L c lo hi ≡ true
+    unfolding scannedDaysOk
+    scanned-days-pass = scanned-pass dayOk days-in-range
 
     -- check 12: as many slots are used as there are records
-    pub free-slot-is : hasFreeSlot L c ≡ ltb (length (allRecords L c)) (length (c .growers))
+    pub free-slot-is : hasFreeSlot L c ≡ ltb (length (allRecords L c)) (length (c .slices .growers))
     unfolding hasFreeSlot
     free-slot-is = rw length-records
 
@@ -137,8 +178,8 @@ module _ (L : ℕ) where
     pub lent-pass : (cs : List Check) → firstFailed (lentChecks L c ++ cs) ≡ firstFailed cs
     lent-pass cs =
         first-passed 2 (directoryBlockOk L (c .directory)) _ (v .block-ok)
-        ∙ first-passed 3 (slicesOk (c .growers) (c .weights) (c .yields)) _ (v .slices-ok)
-        ∙ first-passed 6 (directoryOk L (length (c .growers)) (c .directory)) cs (shaped-passes L _ _ (v .shape))
+        ∙ first-passed 3 (slicesOk (c .slices)) _ (v .slices-ok)
+        ∙ first-passed 6 (directoryOk L (length (c .slices .growers)) (c .directory)) cs (shaped-passes L _ _ (v .shape))
 
     -- the records of one partition
     pub near-is : (g : ℕ) → recordsNear L c g ≡ part (target L c g) (parts (lengthsOf L c) (slots c))

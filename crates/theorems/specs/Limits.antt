@@ -24,15 +24,15 @@ module _ (L : ℕ) (p : PriceCard) (l : Limits) (s : Set) (ends : List ℕ) wher
 
   -- the same of the set's own growers alone, each with one find and one insert
   pub record OwnWithinLimits : Type 0 where
-    pub finds : (i : ℕ) → i < s .used → reported L p s ends (find (getD (s .growers) i 0)) ≤ l .read
-    pub inserts : (i : ℕ) → i < s .used → reported L p s ends (insert (delivery (getD (s .growers) i 0) 0 0)) ≤ l .insert
+    pub finds : (i : ℕ) → i < s .used → reported L p s ends (find (getD (s .slices .growers) i 0)) ≤ l .read
+    pub inserts : (i : ℕ) → i < s .used → reported L p s ends (insert (delivery (getD (s .slices .growers) i 0) 0 0 0)) ≤ l .insert
 
 -- for every admitted set with a free slot: without one an insert is refused by 12 and reports nothing, whatever U is
 abbrev pub LimitsKept : Type 0
-LimitsKept = (L : ℕ) (p : PriceCard) (l : Limits) (s : Set) → Admitted L p l s → s .used < length (s .growers) → (ends : List ℕ)
+LimitsKept = (L : ℕ) (p : PriceCard) (l : Limits) (s : Set) → Admitted L p l s → s .used < length (s .slices .growers) → (ends : List ℕ)
     → T (permitted p l s ends) ↔ (T (layoutOk s ends) × WithinLimits L p l s ends)
 
 -- and it is enough to try the growers that the set has
 abbrev pub OwnLimitsKept : Type 0
-OwnLimitsKept = (L : ℕ) (p : PriceCard) (l : Limits) (s : Set) → Admitted L p l s → s .used < length (s .growers) → (ends : List ℕ)
+OwnLimitsKept = (L : ℕ) (p : PriceCard) (l : Limits) (s : Set) → Admitted L p l s → s .used < length (s .slices .growers) → (ends : List ℕ)
     → T (permitted p l s ends) ↔ (T (layoutOk s ends) × OwnWithinLimits L p l s ends)

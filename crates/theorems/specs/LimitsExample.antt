@@ -6,6 +6,7 @@ use Prim.Native.Nat.{ℕ}
 use lib.ListN.{take}
 use lib.Dec.{T}
 use Rattle.model.specs.Bounds.{blockLimit}
+use Rattle.model.specs.Deliveries.{eachSlice}
 use Rattle.model.specs.Blocks.{Set}
 use Rattle.model.specs.Calls.{find, insert}
 use Rattle.model.specs.Prices.{factory, limits}
@@ -34,7 +35,7 @@ pub record MetExactly : Type 0 where
 
 -- the same deliveries without a free slot
 abbrev pub fullWeek : Set
-fullWeek = record { block = 2; used = 8; growers = take 8 (week .growers); weights = take 8 (week .weights); yields = take 8 (week .yields) }
+fullWeek = record { block = 2; used = 8; slices = eachSlice (take 8) (week .slices) }
 
 -- there inserts are refused and cost nothing, so the calls are within the limits, and yet the layout is not permitted
 pub record FreeSlotNeeded : Type 0 where

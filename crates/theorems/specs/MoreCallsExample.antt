@@ -69,7 +69,7 @@ pub record FourBlocks : Type 0 where
 
 -- the same eight deliveries in one block
 abbrev pub oneBlock : Set
-oneBlock = record { block = 8; used = 8; growers = week .growers; weights = week .weights; yields = week .yields }
+oneBlock = record { block = 8; used = 8; slices = week .slices }
 
 -- there an insert adds 10, which is 02's whole bound: 25 to 35, and two inserts 25 to 45
 pub record OneBlock : Type 0 where

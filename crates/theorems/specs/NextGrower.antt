@@ -10,7 +10,7 @@ use Rattle.model.specs.declared.Delivery.{Delivery}
 use Rattle.model.specs.declared.GrowerAnswer.{GrowerAnswer}
 use Rattle.model.specs.Lists.{every}
 use Rattle.model.specs.Checks.{firstFailed}
-use Rattle.model.specs.Deliveries.{inRange}
+use Rattle.model.specs.Deliveries.{inRange, dayOk}
 use Rattle.model.specs.Blocks.{Set, held}
 use Rattle.model.specs.Calls.{Call}
 use Rattle.model.specs.Column.{Column, allRecords, sound}
@@ -30,10 +30,10 @@ pub record SameGrower (a : GrowerAnswer) (n : GrowerCount) : Type 0 where
 abbrev pub SameGrowers : ℕ → Column → List Delivery → Type 0
 SameGrowers L c bag = (w : Direction) (g : ℕ) → SameGrower (growerCall L c w g) (ledgerGrower bag w g)
 
--- every column of proper shape, sound, all of whose records are in range, and every bag that is its records in some order
+-- every column of proper shape, sound, all of whose records are in range, their days too, and every bag that is its records in some order
 abbrev pub NextGrowerAgrees : Type 0
 NextGrowerAgrees = (L : ℕ) (c : Column) (bag : List Delivery)
-    → firstFailed (lentChecks L c) ≡ 0 → T (sound L c) → T (every inRange (allRecords L c)) → List·Permᴰ (allRecords L c) bag
+    → firstFailed (lentChecks L c) ≡ 0 → T (sound L c) → T (every inRange (allRecords L c)) → T (every dayOk (allRecords L c)) → List·Permᴰ (allRecords L c) bag
     → SameGrowers L c bag
 
 -- as many columns as bags, and each answers as its bag does
@@ -46,4 +46,4 @@ pub data AllSameGrowers (L : ℕ) : List Called → List Entered → Type 0 wher
 abbrev pub NextGrowerAfterCalls : Type 0
 NextGrowerAfterCalls = (calls : List Call) (L : ℕ) (s : Set) (ends : List ℕ)
     → applyCall L s ends .refusal ≡ 0
-    → AllSameGrowers L (columnCalls L (laidColumn L s ends) calls) (ledgerCalls (length (s .growers)) (held s) calls)
+    → AllSameGrowers L (columnCalls L (laidColumn L s ends) calls) (ledgerCalls (length (s .slices .growers)) (held s) calls)

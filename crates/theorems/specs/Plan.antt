@@ -2,7 +2,7 @@
 -- "For every list of the five calls, recorded from zeros, refused ones included: the planner refuses by 11 exactly when no layout
 -- is permitted; otherwise, given room for its output (15), its layout is permitted and no permitted layout has a smaller bill; and
 -- with a free slot, each permitted layout's bill is the sum, over the accepted calls, of the priced counts each reports when made
--- alone on the column freshly laid by it."
+-- alone on the column freshly laid by it." Among the calls are 02's ranges over days (Slip 7), which are recorded and scan as any range.
 use Prim.Native.Nat.{ℕ, _≤_, _<_}
 use mathlib.Core.Path.{_≡_}
 use mathlib.Core.Logic.{_↔_, _≢_}
@@ -16,7 +16,7 @@ use Rattle.model.specs.declared.PriceCard.{PriceCard}
 use Rattle.model.specs.declared.Limits.{Limits}
 use Rattle.model.specs.Lists.{sumOf, every}
 use Rattle.model.specs.Checks.{ask, firstFailed}
-use Rattle.model.specs.Blocks.{Set, blocks, valuesOk}
+use Rattle.model.specs.Blocks.{Set, blocks, valuesOk, daysOk}
 use Rattle.model.specs.Calls.{Call}
 use Rattle.model.specs.Histograms.{countsOk}
 use Rattle.model.specs.Prices.{pricesOk, limitsOk, priced}
@@ -28,9 +28,9 @@ use Rattle.model.specs.Planner.{PlanResult, costCall, plannedEnds, planCall}
 use Rattle.model.specs.Column.{lengthsOf}
 use Rattle.model.specs.ColumnCalls.{applyCall, laidColumn, reportAlone}
 
--- the checks that the planner puts ahead of 11 are answered by yes: 1 2 3 4 5 8. Its 9 is not assumed: see `counted`.
+-- the checks that the planner puts ahead of 11 are answered by yes: 1 2 3 4 5 8 19. Its 9 is not assumed: see `counted`.
 abbrev pub Admitted : ℕ → PriceCard → Limits → Set → Type 0
-Admitted L p l s = firstFailed (ask 1 (pricesOk p && limitsOk l) ∷ setChecks L s ++ ask 8 (valuesOk s) ∷ []) ≡ 0
+Admitted L p l s = firstFailed (ask 1 (pricesOk p && limitsOk l) ∷ setChecks L s ++ ask 8 (valuesOk s) ∷ ask 19 (daysOk s) ∷ []) ≡ 0
 
 -- the layout that the planner wrote: as many ends as it answers
 abbrev pub layoutOf : PlanResult → List ℕ
@@ -80,7 +80,7 @@ module _ (calls : List Call) (L : ℕ) (p : PriceCard) (l : Limits) (s : Set) wh
     pub lays : (ends : List ℕ) → T (permitted p l s ends) → applyCall L s ends .refusal ≡ 0
     -- "with a free slot, each permitted layout's bill is the sum, over the accepted calls, of the priced counts each reports
     -- when made alone on the column freshly laid by it"
-    pub sums : s .used < length (s .growers) → (ends : List ℕ) → T (permitted p l s ends) → cost ends ≡ pos (sumOf (map (reported L p s ends) (acceptedFromZeros L s calls)))
+    pub sums : s .used < length (s .slices .growers) → (ends : List ℕ) → T (permitted p l s ends) → cost ends ≡ pos (sumOf (map (reported L p s ends) (acceptedFromZeros L s calls)))
 
 abbrev pub Demand3 : Type 0
 Demand3 = (calls : List Call) (L : ℕ) (p : PriceCard) (l : Limits) (s : Set) → Admitted L p l s → PlanIsBest calls L p l s

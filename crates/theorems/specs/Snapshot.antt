@@ -7,6 +7,7 @@ use lib.ListN.{length, take, drop}
 use lib.Dec.{T, leb}
 use Rattle.model.specs.Bounds.{mostNumber}
 use Rattle.model.specs.Lists.{every, sumOf}
+use Rattle.model.specs.Deliveries.{Slices, eachSlice, joined}
 use Rattle.model.specs.Blocks.{slicesOk}
 use Rattle.model.specs.Column.{Column, lengthsOf}
 use Rattle.model.specs.SnapshotCalls.{writeCall, readCall}
@@ -20,22 +21,22 @@ abbrev pub written : ℕ → Column → List ℕ → List ℕ
 written L c out = take (writeCall L c out .answer .bytes) (writeCall L c out .text)
 
 -- the directory and the used slots of a column, and past these the slots as they were lent
-abbrev pub readInto : ℕ → Column → List ℕ → List ℕ → List ℕ → Column
-readInto L c gs ws ys =
+abbrev pub readInto : ℕ → Column → Slices → Column
+readInto L c s =
     let m : ℕ = sumOf (lengthsOf L c) in
-    record { directory = c .directory; growers = take m (c .growers) ++ drop m gs; weights = take m (c .weights) ++ drop m ws; yields = take m (c .yields) ++ drop m ys }
+    record { directory = c .directory; slices = joined (eachSlice (take m) (c .slices)) (eachSlice (drop m) s) }
 
--- "A book written and read gives the same column": for every column and room that writing accepts, and slices of any common
+-- "A book written and read gives the same column", its days, which are all 0, included: for every column and room that writing accepts, and slices of any common
 -- length that has the slots, its own among them
 abbrev pub WrittenIsRead : Type 0
-WrittenIsRead = (L : ℕ) → L ≤ mostNumber → (c : Column) (out : List ℕ) → Numbers32 (c .directory) → Numbers32 (c .growers)
+WrittenIsRead = (L : ℕ) → L ≤ mostNumber → (c : Column) (out : List ℕ) → Numbers32 (c .directory) → Numbers32 (c .slices .growers)
     → writeCall L c out .answer .refusal ≡ 0
-    → (gs ws ys : List ℕ) → T (slicesOk gs ws ys) → sumOf (lengthsOf L c) ≤ length gs
-    → readCall L (written L c out) gs ws ys ≡ record { refusal = 0; column = readInto L c gs ws ys }
+    → (s : Slices) → T (slicesOk s) → sumOf (lengthsOf L c) ≤ length (s .growers)
+    → readCall L (written L c out) s ≡ record { refusal = 0; column = readInto L c s }
 
 -- "a book read and written gives the same bytes": for every text and slices that reading accepts, where there is room for the text
 abbrev pub ReadIsWritten : Type 0
-ReadIsWritten = (L : ℕ) (text gs ws ys out : List ℕ)
-    → readCall L text gs ws ys .refusal ≡ 0
+ReadIsWritten = (L : ℕ) (text : List ℕ) (s : Slices) (out : List ℕ)
+    → readCall L text s .refusal ≡ 0
     → length text ≤ length out
-    → writeCall L (readCall L text gs ws ys .column) out ≡ record { answer = record { refusal = 0; bytes = length text }; text = text ++ drop (length text) out }
+    → writeCall L (readCall L text s .column) out ≡ record { answer = record { refusal = 0; bytes = length text }; text = text ++ drop (length text) out }

@@ -2,22 +2,26 @@
 -- Proved in proofs/Weighbridge.antt.
 use Prim.Native.Nat.{ℕ, _≤_}
 use mathlib.Core.Path.{_≡_}
-use mathlib.Core.List.{List, _++_}
-use lib.ListN.{length, take, drop}
+use mathlib.Core.List.{List}
+use lib.ListN.{length, take, drop, replicate}
 use lib.Dec.{T}
+use Rattle.model.specs.Deliveries.{Slices, slicesOf, eachSlice, joined}
 use Rattle.model.specs.Blocks.{slicesOk}
 use Rattle.model.specs.CsvCalls.{importCall, exportCall}
 use Rattle.theorems.specs.Snapshot.{Numbers32}
 
 -- the bytes that exporting wrote
-abbrev pub exported : ℕ → List ℕ → List ℕ → List ℕ → List ℕ → List ℕ
-exported m gs ws ys out = take (exportCall m gs ws ys out .answer .bytes) (exportCall m gs ws ys out .text)
+abbrev pub exported : ℕ → Slices → List ℕ → List ℕ
+exported m s out = take (exportCall m s out .answer .bytes) (exportCall m s out .text)
 
--- "importing an export restores the deliveries": for every export that is accepted, and slices of any common length that has the
--- slots; what stood past them stays
+-- the first m slots of slices, each on day 0
+abbrev pub undatedFront : ℕ → Slices → Slices
+undatedFront m s = slicesOf (take m (s .growers)) (take m (s .weights)) (take m (s .yields)) (replicate m 0)
+
+-- "importing an export restores the deliveries", and by 02, Slip 7 "all but the day": for every export that is accepted, and slices of
+-- any common length that has the slots; what stood past them stays
 abbrev pub ImportRestores : Type 0
-ImportRestores = (m : ℕ) (gs ws ys out : List ℕ) → Numbers32 gs
-    → exportCall m gs ws ys out .answer .refusal ≡ 0
-    → (gs' ws' ys' : List ℕ) → T (slicesOk gs' ws' ys') → m ≤ length gs'
-    → importCall (exported m gs ws ys out) gs' ws' ys'
-    ≡ record { answer = record { refusal = 0; rows = m }; growers = take m gs ++ drop m gs'; weights = take m ws ++ drop m ws'; yields = take m ys ++ drop m ys' }
+ImportRestores = (m : ℕ) (s : Slices) (out : List ℕ) → Numbers32 (s .growers)
+    → exportCall m s out .answer .refusal ≡ 0
+    → (t : Slices) → T (slicesOk t) → m ≤ length (t .growers)
+    → importCall (exported m s out) t ≡ record { answer = record { refusal = 0; rows = m }; slices = joined (undatedFront m s) (eachSlice (drop m) t) }

@@ -1,7 +1,7 @@
 // Theorems over the definitions of the model. The statements are in specs/, their proofs in proofs/.
 ghost use Rattle.theorems.specs.Ledger.{LedgerAgreesFrom, LedgerAgrees};
 ghost use Rattle.theorems.specs.NextGrower.{NextGrowerAgrees, NextGrowerAfterCalls};
-ghost use Rattle.theorems.specs.Sheet.{SheetAgrees, SheetAfterCalls};
+ghost use Rattle.theorems.specs.Sheet.{SheetAgrees, SheetAfterCalls, TermSheetAgrees, TermSheetAfterCalls};
 ghost use Rattle.theorems.specs.Plan.{Demand3, NoneEmptyWhenLaid};
 ghost use Rattle.theorems.specs.Limits.{LimitsKept, OwnLimitsKept};
 ghost use Rattle.theorems.specs.MoreCalls.{EachCostBounded, LeastCostPlanned, LeastCostBounded, OldPlanBounded};
@@ -44,7 +44,7 @@ pub fn growers_agree()
     ensures { λ _. ⌜ NextGrowerAgrees × NextGrowerAfterCalls ⌝ }
 {}
 
-// Does nothing: that the settlement sheet is the ledger's, likewise.
+// Does nothing: that the settlement sheet and that of a term are the ledger's, likewise.
 pub fn sheets_agree()
-    ensures { λ _. ⌜ SheetAgrees × SheetAfterCalls ⌝ }
+    ensures { λ _. ⌜ SheetAgrees × SheetAfterCalls × TermSheetAgrees × TermSheetAfterCalls ⌝ }
 {}

@@ -5,28 +5,40 @@ use crate::inputs::{self, Kind, EDGE_COUNTS, MIXES};
 use crate::{Run, Test};
 use meltusk::{Call, Column, Library, Slots, Step, View, LIBRARIES};
 use second::random::Random;
-use second::{Delivery, BLOCK_LIMIT, FENCES, LENGTHS, SLOT_LIMIT, WEIGHT_LIMIT, YIELD_LIMIT};
+use second::{
+    Delivery, Span, BLOCK_LIMIT, DAY_LIMIT, FENCES, LENGTHS, SLOT_LIMIT, WEIGHT_LIMIT, YIELD_LIMIT,
+};
 
 /// One change of a column or of a call on it.
 #[derive(Clone, Copy, Debug, PartialEq, Eq)]
 pub enum Fault {
-    /// Weight or yield of a record that the call scans.
+    /// Weight, yield or day of a record that the call scans.
     ScannedWeight(u32),
     ScannedYield(u32),
-    /// Weight or yield of a record that the call does not scan.
+    ScannedDay(u32),
+    /// Weight, yield or day of a record that the call does not scan.
     OtherWeight,
     OtherYield,
+    OtherDay,
     FreeSlot,
-    /// Weight or yield of the delivery that the call is offered.
+    /// Weight, yield or day of the delivery that the call is offered.
     OfferedWeight(u32),
     OfferedYield(u32),
+    OfferedDay(u32),
+    /// The first or the last of the days that a range names.
+    FirstDay(u32),
+    LastDay(u32),
+    /// The last of them earlier than the first; no fault at all.
+    DaysFall,
     RangeFalls,
     Absent,
+    /// Absent but for its day.
+    AbsentDay,
     Full,
-    /// One slice of the three.
+    /// One slice of the four.
     Shorter(usize),
     Longer(usize),
-    /// All three slices.
+    /// All four slices.
     Length(usize),
     FencesEqual,
     FencesFall,
@@ -49,22 +61,35 @@ pub const FAULTS: &[Fault] = &[
     ScannedWeight(u32::MAX),
     ScannedYield(YIELD_LIMIT + 1),
     ScannedYield(u32::MAX),
+    ScannedDay(DAY_LIMIT + 1),
+    ScannedDay(u32::MAX),
     OtherWeight,
     OtherYield,
+    OtherDay,
     FreeSlot,
     OfferedWeight(WEIGHT_LIMIT + 1),
     OfferedWeight(u32::MAX),
     OfferedYield(YIELD_LIMIT + 1),
     OfferedYield(u32::MAX),
+    OfferedDay(DAY_LIMIT + 1),
+    OfferedDay(u32::MAX),
+    DaysFall,
+    FirstDay(DAY_LIMIT + 1),
+    FirstDay(u32::MAX),
+    LastDay(DAY_LIMIT + 1),
+    LastDay(u32::MAX),
     RangeFalls,
     Absent,
+    AbsentDay,
     Full,
     Shorter(0),
     Shorter(1),
     Shorter(2),
+    Shorter(3),
     Longer(0),
     Longer(1),
     Longer(2),
+    Longer(3),
     Length(0),
     Length(SLOT_LIMIT + 1),
     FencesEqual,
@@ -110,7 +135,9 @@ fn scanned(asked: &Asked, c: &Column) -> Option<(usize, usize)> {
     };
     match call {
         Call::Find(g) => Some((view.partition_of(g), view.partition_of(g))),
-        Call::Range(lo, hi) => Some((view.partition_of(lo), view.partition_of(hi))),
+        Call::Range(lo, hi) | Call::RangeDays(lo, hi, _) => {
+            Some((view.partition_of(lo), view.partition_of(hi)))
+        }
         Call::Delete(d) | Call::Move(d, _) => {
             let p = view.partition_of(d.grower);
             Some((p, p))
@@ -135,7 +162,15 @@ impl Fault {
     pub fn is_of_call(self) -> bool {
         matches!(
             self,
-            OfferedWeight(_) | OfferedYield(_) | RangeFalls | Absent
+            OfferedWeight(_)
+                | OfferedYield(_)
+                | OfferedDay(_)
+                | FirstDay(_)
+                | LastDay(_)
+                | DaysFall
+                | RangeFalls
+                | Absent
+                | AbsentDay
         )
     }
 
@@ -143,9 +178,10 @@ impl Fault {
     pub fn put(self, r: &mut Random, c: &mut Column, asked: &mut Asked) -> bool {
         let k = c.directory[1] as usize;
         match self {
-            ScannedWeight(_) | ScannedYield(_) | OtherWeight | OtherYield => {
+            ScannedWeight(_) | ScannedYield(_) | ScannedDay(_) | OtherWeight | OtherYield
+            | OtherDay => {
                 let range = scanned(asked, c);
-                let inside = matches!(self, ScannedWeight(_) | ScannedYield(_));
+                let inside = matches!(self, ScannedWeight(_) | ScannedYield(_) | ScannedDay(_));
                 let view = c.view();
                 let slots: Vec<usize> = (0..k)
                     .filter(|&p| range.is_some_and(|(a, z)| a <= p && p <= z) == inside)
@@ -158,8 +194,10 @@ impl Fault {
                 match self {
                     ScannedWeight(w) => c.weights[i] = w,
                     ScannedYield(y) => c.yields[i] = y,
+                    ScannedDay(n) => c.days[i] = n,
                     OtherWeight => c.weights[i] = inputs::weight_out(r),
-                    _ => c.yields[i] = inputs::oil_yield_out(r),
+                    OtherYield => c.yields[i] = inputs::oil_yield_out(r),
+                    _ => c.days[i] = inputs::day_out(r),
                 }
             }
             FreeSlot => {
@@ -169,6 +207,7 @@ impl Fault {
                 }
                 c.weights[used] = u32::MAX;
                 c.yields[used] = u32::MAX;
+                c.days[used] = u32::MAX;
             }
             OfferedWeight(w) => match offered(asked) {
                 Some(d) => d.weight = w,
@@ -178,8 +217,20 @@ impl Fault {
                 Some(d) => d.oil_yield = y,
                 None => return false,
             },
+            OfferedDay(n) => match offered(asked) {
+                Some(d) => d.day = n,
+                None => return false,
+            },
+            FirstDay(_) | LastDay(_) | DaysFall => match asked {
+                Asked::Call(Call::RangeDays(_, _, span)) => match self {
+                    FirstDay(n) => span.first = n,
+                    LastDay(n) => span.last = n,
+                    _ => *span = Span::new(r.within(1, 36_524) as u32, 0),
+                },
+                _ => return false,
+            },
             RangeFalls => match asked {
-                Asked::Call(Call::Range(lo, hi)) => {
+                Asked::Call(Call::Range(lo, hi) | Call::RangeDays(lo, hi, _)) => {
                     let x = *hi;
                     *hi = if *lo == 0 { 0 } else { *lo - 1 };
                     *lo = x.max(*hi + 1);
@@ -189,6 +240,11 @@ impl Fault {
             // No random delivery has this weight.
             Absent => match offered(asked) {
                 Some(d) if d.weight <= WEIGHT_LIMIT => d.weight = 54_321,
+                _ => return false,
+            },
+            // No random delivery has this day.
+            AbsentDay => match offered(asked) {
+                Some(d) if d.day <= DAY_LIMIT => d.day = 12_321,
                 _ => return false,
             },
             Full => {
@@ -257,10 +313,12 @@ impl Fault {
         let removes = matches!(asked, Asked::Call(Call::Delete(_) | Call::Move(..)));
         match self {
             ScannedWeight(_) | ScannedYield(_) => 8,
-            OtherWeight | OtherYield | FreeSlot => 0,
+            ScannedDay(_) => 19,
+            OtherWeight | OtherYield | OtherDay | FreeSlot | DaysFall => 0,
             OfferedWeight(_) | OfferedYield(_) => 8,
+            OfferedDay(_) | FirstDay(_) | LastDay(_) => 19,
             RangeFalls => 7,
-            Absent => on(removes, 13),
+            Absent | AbsentDay => on(removes, 13),
             Full => on(insert, 12),
             Shorter(_) | Longer(_) => on(!partition, 3),
             Length(_) => 3,
@@ -281,8 +339,18 @@ pub fn base(r: &mut Random) -> Column {
     }
 }
 
+/// Of two refusals the one whose check is put first: they are in the order of
+/// their numbers, but 19 comes just after 8.
+pub fn asked_first(a: u32, b: u32) -> u32 {
+    let place = |number: u32| match number {
+        19 => 17,
+        n => 2 * n,
+    };
+    std::cmp::min_by_key(a, b, |&n| place(n))
+}
+
 /// What `about` can ask.
-const CALLS: usize = 8;
+const CALLS: usize = 9;
 
 /// One of the calls, about a delivery and a range of growers. A move goes to a
 /// grower near the first `used` slots.
@@ -302,7 +370,11 @@ fn about(
         4 => Call::Move(d, inputs::near(r, &c.view(), used)),
         5 => return Asked::Partition(d.grower),
         6 => return Step::Next(d.grower).into(),
-        _ => return Step::Previous(d.grower).into(),
+        7 => return Step::Previous(d.grower).into(),
+        _ => {
+            let (x, y) = (inputs::day(r), inputs::day(r));
+            Call::RangeDays(lo, hi, Span::new(x, y))
+        }
     };
     call.into()
 }
@@ -432,7 +504,7 @@ fn any_directory(run: &mut Run) -> Result<(), String> {
     })
 }
 
-/// Weights and yields on both sides of their limits, offered and held.
+/// Weights, yields and days on both sides of their limits, offered and held.
 fn values(run: &mut Run) -> Result<(), String> {
     run.cases(13, 20, |run, r| {
         let library = inputs::library(r);
@@ -443,16 +515,31 @@ fn values(run: &mut Run) -> Result<(), String> {
             WEIGHT_LIMIT + 1,
             u32::MAX,
         ] {
-            for oil_yield in [0, YIELD_LIMIT - 1, YIELD_LIMIT, YIELD_LIMIT + 1, u32::MAX] {
+            for (oil_yield, day) in [
+                (0, 0),
+                (YIELD_LIMIT - 1, DAY_LIMIT - 1),
+                (YIELD_LIMIT, DAY_LIMIT),
+                (YIELD_LIMIT, DAY_LIMIT + 1),
+                (0, u32::MAX),
+                (YIELD_LIMIT + 1, 0),
+                (u32::MAX, DAY_LIMIT),
+                (YIELD_LIMIT + 1, DAY_LIMIT + 1),
+            ] {
                 for which in 0..CALLS {
                     let mut c = base(r);
                     let i = r.below(c.view().used());
                     c.weights[i] = weight;
                     c.yields[i] = oil_yield;
+                    c.days[i] = day;
                     let d = c.view().slot(i);
                     let asked = about(r, &c, i + 1, d, (d.grower, d.grower), which);
                     let refusal = single(run, r, &library, &c, &asked)?;
-                    let expected = if which == 5 || d.in_range() { 0 } else { 8 };
+                    let expected = match () {
+                        () if which == 5 => 0,
+                        () if !d.in_range() => 8,
+                        () if !d.day_in_range() => 19,
+                        () => 0,
+                    };
                     if refusal != expected {
                         return Err(format!("{asked:?}, record {d:?}: refusal {refusal}"));
                     }
@@ -466,21 +553,26 @@ fn values(run: &mut Run) -> Result<(), String> {
 /// Slices of the same and of different lengths, at the limits of length.
 fn slice_lengths(run: &mut Run) -> Result<(), String> {
     let limit = SLOT_LIMIT;
-    let same = [1, limit - 1, limit, limit + 1, limit + 8, 2 * limit].map(|n| [n; 3]);
+    let same = [1, limit - 1, limit, limit + 1, limit + 8, 2 * limit].map(|n| [n; 4]);
     let different = [
-        [0, 0, 1],
-        [0, 1, 0],
-        [1, 0, 0],
-        [1, 1, 0],
-        [1, 0, 1],
-        [0, 1, 1],
-        [limit, limit, limit + 1],
-        [limit, limit + 1, limit],
-        [limit + 1, limit, limit],
-        [limit - 1, limit, limit],
-        [0, limit, limit],
+        [0, 0, 0, 1],
+        [0, 0, 1, 0],
+        [0, 1, 0, 0],
+        [1, 0, 0, 0],
+        [1, 1, 1, 0],
+        [1, 1, 0, 1],
+        [1, 0, 1, 1],
+        [0, 1, 1, 1],
+        [limit, limit, limit, limit + 1],
+        [limit, limit, limit, limit - 1],
+        [limit, limit, limit + 1, limit],
+        [limit, limit + 1, limit, limit],
+        [limit + 1, limit, limit, limit],
+        [limit - 1, limit, limit, limit],
+        [0, limit, limit, limit],
+        [limit, limit, limit, 0],
     ];
-    let none = [[0; 3]];
+    let none = [[0; 4]];
     run.cases(14, 2, |run, r| {
         for lengths in none.iter().chain(&same).chain(&different) {
             for library in LIBRARIES {
@@ -535,24 +627,24 @@ fn nothing_lent(run: &mut Run) -> Result<(), String> {
     })
 }
 
-/// Directory, growers, weights and yields, each alone at the edge counts.
+/// Directory, growers, weights, yields and days, each alone at the edge counts.
 fn edge_counts(run: &mut Run) -> Result<(), String> {
     run.cases(16, 1, |run, r| {
         for library in LIBRARIES {
             for which in 0..CALLS {
-                for lent in 0..4 {
+                for lent in 0..5 {
                     for n in EDGE_COUNTS {
                         let mut c = base(r);
                         let asked = accepted(r, &c, which);
                         let used = c.view().used();
                         match lent {
-                            3 => c.directory.resize(n, 0),
+                            4 => c.directory.resize(n, 0),
                             i => c.slices()[i].resize(n, 0),
                         }
                         let expected = match (lent, which) {
-                            (3, _) => 6,
+                            (4, _) => 6,
                             // A partition is asked of the growers alone.
-                            (1 | 2, 5) => 0,
+                            (1..=3, 5) => 0,
                             (0, 5) if n == 1 && used == 1 => 0,
                             (0, 5) if n == 1 => 6,
                             _ => 3,
@@ -597,7 +689,10 @@ pub const TESTS: &[(&str, Test)] = &[
     ("broken input, each fault alone", alone),
     ("broken input, two faults", pairs),
     ("broken input, any directory", any_directory),
-    ("broken input, weights and yields at their limits", values),
+    (
+        "broken input, weights, yields and days at their limits",
+        values,
+    ),
     ("broken input, slice lengths", slice_lengths),
     ("broken input, nothing lent", nothing_lent),
     ("broken input, each slice at the edge counts", edge_counts),

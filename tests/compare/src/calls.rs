@@ -9,7 +9,7 @@ use meltusk::{
 use second::random::Random;
 use std::fmt::Write;
 
-/// What a column is asked: one of the five calls, a step from grower to grower,
+/// What a column is asked: one of the calls, a step from grower to grower,
 /// or where a partition lies.
 #[derive(Clone, Copy, Debug)]
 pub enum Asked {
@@ -48,14 +48,17 @@ impl Outcome {
 }
 
 /// Order of the slices of a column in its memory.
-pub const NAMES: [&str; 4] = ["growers", "weights", "yields", "directory"];
+pub const NAMES: [&str; 5] = ["growers", "weights", "yields", "days", "directory"];
+/// Those of the slots.
+pub const SLOT_NAMES: [&str; 4] = ["growers", "weights", "yields", "days"];
 
-fn slices([growers, weights, yields, directory]: [&mut [u32]; 4]) -> ColumnSlices<'_> {
+fn slices([growers, weights, yields, days, directory]: [&mut [u32]; 5]) -> ColumnSlices<'_> {
     ColumnSlices {
         directory,
         growers,
         weights,
         yields,
+        days,
     }
 }
 
@@ -95,12 +98,13 @@ pub struct Pair {
 /// Most slots printed of a failed case.
 const PRINTED: usize = 100;
 
-pub fn slots_text(growers: &[u32], weights: &[u32], yields: &[u32]) -> String {
-    let lengths = [growers.len(), weights.len(), yields.len()];
+pub fn slots_text([growers, weights, yields, days]: [&[u32]; 4]) -> String {
+    let lengths = [growers.len(), weights.len(), yields.len(), days.len()];
     let shown = lengths.iter().min().map_or(0, |&n| n.min(PRINTED));
     let mut text = format!("slice lengths {lengths:?}, slots");
     for i in 0..shown {
-        let _ = write!(text, " {}/{}/{}", growers[i], weights[i], yields[i]);
+        let (g, w, y, n) = (growers[i], weights[i], yields[i], days[i]);
+        let _ = write!(text, " {g}/{w}/{y}/{n}");
     }
     if shown < lengths[0] {
         text.push_str(" ..");
@@ -124,9 +128,27 @@ pub fn directory_text(directory: &[u32]) -> String {
     )
 }
 
+/// The slices of a column, as they are lent.
+pub fn column_memory(r: &mut Random, c: &Column) -> Memory {
+    let View {
+        directory,
+        growers,
+        weights,
+        yields,
+        days,
+    } = c.view();
+    Memory::new(r, &[growers, weights, yields, days, directory])
+}
+
+/// The slots of a column.
+pub fn column_text(c: &Column) -> String {
+    let slots = slots_text([&c.growers, &c.weights, &c.yields, &c.days]);
+    format!("{}, {slots}", directory_text(&c.directory))
+}
+
 impl Pair {
     pub fn new(r: &mut Random, c: &Column) -> Pair {
-        let compiled = Memory::new(r, &[&c.growers, &c.weights, &c.yields, &c.directory]);
+        let compiled = column_memory(r, c);
         Pair {
             second: compiled.clone(),
             before: compiled.clone(),
@@ -139,7 +161,8 @@ impl Pair {
             growers: self.second.slice(0),
             weights: self.second.slice(1),
             yields: self.second.slice(2),
-            directory: self.second.slice(3),
+            days: self.second.slice(3),
+            directory: self.second.slice(4),
         }
     }
 
@@ -158,8 +181,8 @@ impl Pair {
         self.before.clone_from(&self.second);
         let second = ask_second(&mut self.second, &asked);
         let compiled = ask_compiled(library, &mut self.compiled, &asked);
-        let (growers, directory) = (self.before.slice(0), self.before.slice(3));
-        seen::note(seen, &asked, second.refusal(), growers, directory);
+        let [growers, days, directory] = [0, 3, 4].map(|i| self.before.slice(i));
+        seen::note(seen, &asked, second.refusal(), (growers, days), directory);
         seen.lent(seen::name(&asked), library, self.before.counts(&NAMES));
         if compiled == second && self.compiled.equals(&self.second) {
             return Ok(second);
@@ -168,8 +191,8 @@ impl Pair {
         let before = |i: usize| self.before.slice(i);
         Err(format!(
             "{asked:?}: compiled {compiled:?}, second {second:?}; {slices}; before: {}, {}",
-            directory_text(before(3)),
-            slots_text(before(0), before(1), before(2))
+            directory_text(before(4)),
+            slots_text([0, 1, 2, 3].map(before))
         ))
     }
 }
@@ -182,14 +205,14 @@ pub fn apply(
     set: &Set,
     ends: &[u32],
 ) -> Result<Applied, String> {
-    let slices = [&set.growers[..], &set.weights, &set.yields, ends];
+    let slices = [&set.growers[..], &set.weights, &set.yields, &set.days, ends];
     let mut memory = Memory::new(r, &slices);
     let before = memory.clone();
     let second = Applied::from(second::apply_layout(&set.view(), ends));
-    let compiled = memory.lend(|[growers, weights, yields, ends]| {
-        library.apply_layout(&set.over([growers, weights, yields]), ends)
+    let compiled = memory.lend(|[growers, weights, yields, days, ends]| {
+        library.apply_layout(&set.over([growers, weights, yields, days]), ends)
     });
-    let names = ["growers", "weights", "yields", "ends"];
+    let names = ["growers", "weights", "yields", "days", "ends"];
     seen.answer("apply_layout", second.refusal);
     seen.lent("apply_layout", library, memory.counts(&names));
     if compiled == second && memory.equals(&before) {
@@ -204,6 +227,6 @@ pub fn apply(
         directory_text(&second.directory),
         set.block,
         set.used,
-        slots_text(&set.growers, &set.weights, &set.yields)
+        slots_text([&set.growers, &set.weights, &set.yields, &set.days])
     ))
 }

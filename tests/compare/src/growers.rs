@@ -47,7 +47,7 @@ const KINDS: [[&str; 11]; 2] = [
     ],
 ];
 
-/// Notes what a step met; 8 is its only refusal.
+/// Notes what a step met; 8 and 19 are its only refusals.
 fn note(seen: &mut Seen, view: &View, step: &Step, a: &Stepped) {
     let (low, high) = stepped_over(step, view);
     let last = view.partitions() - 1;
@@ -96,7 +96,7 @@ fn step(run: &mut Run, library: &Library, pair: &mut Pair, step: Step) -> Result
     }
 }
 
-/// Asks the column, and the ledger too if it is one of the five calls.
+/// Asks the column, and the ledger too if it has the call.
 fn ask(
     run: &mut Run,
     library: &Library,
@@ -111,6 +111,7 @@ fn ask(
     let (refusal, totals) = match call {
         Call::Find(g) => ledger.find(g),
         Call::Range(lo, hi) => ledger.range(lo, hi),
+        Call::RangeDays(lo, hi, span) => ledger.range_days(lo, hi, span),
         Call::Insert(d) => (ledger.insert(d), second::Totals::ZERO),
         Call::Delete(d) => (ledger.delete(d), second::Totals::ZERO),
         Call::Move(d, g) => (ledger.move_delivery(d, g), second::Totals::ZERO),
@@ -242,8 +243,8 @@ fn unsound(run: &mut Run) -> Result<(), String> {
     })
 }
 
-/// A value out of range: 8 if its partition is scanned, whether it holds a hit
-/// or not, and else the answer as without it.
+/// A value out of range: 8, or 19 of a day, if its partition is scanned, whether
+/// it holds a hit or not, and else the answer as without it.
 fn values(run: &mut Run) -> Result<(), String> {
     run.cases(113, 6_000, |run, r| {
         let library = inputs::library(r);
@@ -256,14 +257,23 @@ fn values(run: &mut Run) -> Result<(), String> {
             let scanned = view.start(low)..view.start(high + 1);
             let at = r.below(used);
             let mut bad = clean.clone();
-            if r.one_in(2) {
-                bad.weights[at] = inputs::weight_out(r);
-            } else {
-                bad.yields[at] = inputs::oil_yield_out(r);
-            }
+            let number = match r.below(3) {
+                0 => {
+                    bad.weights[at] = inputs::weight_out(r);
+                    8
+                }
+                1 => {
+                    bad.yields[at] = inputs::oil_yield_out(r);
+                    8
+                }
+                _ => {
+                    bad.days[at] = inputs::day_out(r);
+                    19
+                }
+            };
             let a = step(run, &library, &mut Pair::new(r, &bad), way)?;
             let good = match scanned.contains(&at) {
-                true => a.refusal == 8,
+                true => a.refusal == number,
                 false => a == right,
             };
             if !good {
@@ -286,6 +296,7 @@ fn one_record(run: &mut Run) -> Result<(), String> {
                 growers: vec![grower, 5],
                 weights: vec![inputs::weight(r), u32::MAX],
                 yields: vec![inputs::oil_yield(r), u32::MAX],
+                days: vec![inputs::day(r), u32::MAX],
             };
             column.directory[..2].copy_from_slice(&[1, 64]);
             column.directory[LENGTHS + at] = 1;

@@ -1,13 +1,15 @@
 //! The calls that the C header declares: each has been compared, with each of
-//! its slices at every edge.
+//! its slices at every edge; and the numbers that it names.
 
 use crate::{Run, Test};
 use meltusk::EDGES;
+use second::DAY_LIMIT;
+use std::collections::BTreeSet;
 
 const HEADER: &str = include_str!("../../../include/meltusk.h");
 
 /// Fewer calls found mean that the header is read wrongly.
-const CALLS: usize = 23;
+const CALLS: usize = 29;
 
 /// The header without its comments.
 fn declarations() -> String {
@@ -58,7 +60,32 @@ fn every_call(run: &mut Run) -> Result<(), String> {
     Ok(())
 }
 
-pub const TESTS: &[(&str, Test)] = &[(
-    "every call of the header, each slice null, empty, of one and past 262,144",
-    every_call,
-)];
+/// The numbers that the enum names: each refusal that has occurred, and no other.
+fn every_refusal(run: &mut Run) -> Result<(), String> {
+    let code = declarations();
+    let names = code.lines().filter_map(|line| {
+        let (name, number) = line.trim().trim_end_matches(',').split_once(" = ")?;
+        name.starts_with("MELTUSK_").then_some(number.parse())?.ok()
+    });
+    let named: Vec<u32> = names.collect();
+    let distinct: BTreeSet<u32> = named.iter().copied().collect();
+    let seen = run.seen.refusals();
+    if named.len() != distinct.len() || distinct != seen {
+        return Err(format!("named {named:?}, seen {seen:?}"));
+    }
+    match code.contains(&format!("#define MELTUSK_MOST_DAY {DAY_LIMIT}\n")) {
+        true => Ok(()),
+        false => Err("another last day".into()),
+    }
+}
+
+pub const TESTS: &[(&str, Test)] = &[
+    (
+        "every call of the header, each slice null, empty, of one and past 262,144",
+        every_call,
+    ),
+    (
+        "every refusal that occurred is named in the header",
+        every_refusal,
+    ),
+];

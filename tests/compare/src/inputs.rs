@@ -4,7 +4,8 @@ use crate::calls::Asked;
 use meltusk::{Call, Column, Empty, Library, Set, Step, View};
 use second::random::Random;
 use second::{
-    Delivery, UnlaidSet, DIRECTORY_LEN, FENCES, LENGTHS, SLOT_LIMIT, WEIGHT_LIMIT, YIELD_LIMIT,
+    Delivery, Span, UnlaidSet, DAY_LIMIT, DIRECTORY_LEN, FENCES, LENGTHS, SLOT_LIMIT, WEIGHT_LIMIT,
+    YIELD_LIMIT,
 };
 
 /// Counts of a slice, at the edges of what any slice may have.
@@ -24,6 +25,34 @@ pub fn weight(r: &mut Random) -> u32 {
 
 pub fn oil_yield(r: &mut Random) -> u32 {
     r.pick(&[0, 1, 2_000, 2_000, 9_999, YIELD_LIMIT])
+}
+
+/// Few days: those about the ends of terms, of February 2024 and of the range;
+/// or any even one.
+pub fn day(r: &mut Random) -> u32 {
+    let about = [0, 0, 1, 14, 15, 30, 31, 8_811, 8_812, 8_825, 8_825, 8_826];
+    match r.below(8) {
+        0 => 2 * r.below(DAY_LIMIT as usize / 2 + 1) as u32,
+        1 => r.pick(&[36_508, 36_509, DAY_LIMIT - 1, DAY_LIMIT, DAY_LIMIT]),
+        _ => r.pick(&about),
+    }
+}
+
+pub fn day_out(r: &mut Random) -> u32 {
+    r.pick(&[DAY_LIMIT + 1, DAY_LIMIT + 1, 1 << 31, u32::MAX])
+}
+
+/// A first and a last day: mostly in order, both days.
+pub fn span(r: &mut Random) -> Span {
+    let (x, y) = (day(r), day(r));
+    match r.below(16) {
+        0 => Span::new(day_out(r), y),
+        1 => Span::new(x, day_out(r)),
+        2 | 3 => Span::new(x.max(y), x.min(y)),
+        4 | 5 => Span::new(x, x),
+        6 => Span::ALL,
+        _ => Span::new(x.min(y), x.max(y)),
+    }
 }
 
 pub fn weight_out(r: &mut Random) -> u32 {
@@ -115,7 +144,7 @@ fn grower_in(r: &mut Random, fences: &[u32], p: usize, few: bool) -> u32 {
     }
 }
 
-/// A column of proper shape, all weights and yields in range.
+/// A column of proper shape, all weights, yields and days in range.
 pub fn clean_column(r: &mut Random, kind: Kind) -> Column {
     let k = match r.below(8) {
         0 => 1,
@@ -136,6 +165,7 @@ pub fn clean_column(r: &mut Random, kind: Kind) -> Column {
         growers: Vec::new(),
         weights: Vec::new(),
         yields: Vec::new(),
+        days: Vec::new(),
     };
     c.directory[0] = match kind {
         Kind::Large => r.pick(&[1, 7, 64, 1_000, 4_096]),
@@ -154,6 +184,7 @@ pub fn clean_column(r: &mut Random, kind: Kind) -> Column {
             c.growers.push(grower_in(r, &fences, owner, few));
             c.weights.push(weight(r));
             c.yields.push(oil_yield(r));
+            c.days.push(day(r));
         }
     }
     let free = match kind {
@@ -169,11 +200,13 @@ pub fn clean_column(r: &mut Random, kind: Kind) -> Column {
         c.growers.push(stale(r));
         c.weights.push(stale(r));
         c.yields.push(stale(r));
+        c.days.push(stale(r));
     }
     c
 }
 
-/// A column of proper shape; in some a weight or a yield is out of range.
+/// A column of proper shape; in some a weight or a yield is out of range, in
+/// some a day, in some both.
 pub fn column(r: &mut Random, kind: Kind) -> Column {
     let mut c = clean_column(r, kind);
     let used = c.view().used();
@@ -184,6 +217,10 @@ pub fn column(r: &mut Random, kind: Kind) -> Column {
         } else {
             c.yields[i] = oil_yield_out(r);
         }
+    }
+    if used > 0 && r.one_in(8) {
+        let i = r.below(used);
+        c.days[i] = day_out(r);
     }
     c
 }
@@ -204,6 +241,7 @@ pub fn one_slot(r: &mut Random, is_used: bool) -> Column {
         growers: vec![10 * target as u32],
         weights: vec![weight(r)],
         yields: vec![oil_yield(r)],
+        days: vec![day(r)],
     }
 }
 
@@ -228,11 +266,13 @@ pub fn set(r: &mut Random, most_blocks: usize, free: usize) -> Set {
         growers,
         weights: (0..used).map(|_| weight(r)).collect(),
         yields: (0..used).map(|_| oil_yield(r)).collect(),
+        days: (0..used).map(|_| day(r)).collect(),
     };
     for _ in 0..free {
         s.growers.push(stale(r));
         s.weights.push(stale(r));
         s.yields.push(stale(r));
+        s.days.push(stale(r));
     }
     s
 }
@@ -245,6 +285,7 @@ pub fn one_delivery(r: &mut Random, block: u32, used: u32) -> Set {
         growers: vec![r.next() as u32],
         weights: vec![weight(r)],
         yields: vec![oil_yield(r)],
+        days: vec![day(r)],
     }
 }
 
@@ -308,7 +349,7 @@ pub fn near(r: &mut Random, c: &View, used: usize) -> u32 {
 /// A delivery that is mostly among those held.
 fn mostly_held(r: &mut Random, c: &View, used: usize) -> Delivery {
     let mut d = if used == 0 || r.one_in(10) {
-        Delivery::new(near(r, c, used), weight(r), oil_yield(r))
+        Delivery::new(near(r, c, used), weight(r), oil_yield(r)).on(day(r))
     } else {
         c.slot(r.below(used))
     };
@@ -318,22 +359,25 @@ fn mostly_held(r: &mut Random, c: &View, used: usize) -> Delivery {
         2 => d.grower = near(r, c, used),
         3 => d.weight = weight(r),
         4 => d.oil_yield = oil_yield(r),
+        5 => d.day = day_out(r),
+        6 => d.day = day(r),
+        7 => (d.weight, d.day) = (weight_out(r), day_out(r)),
         _ => {}
     }
     d
 }
 
 /// How often each call comes: find, range, insert, delete, move, partition,
-/// next grower, previous grower.
-pub const MIXES: [[usize; 8]; 4] = [
-    [2, 2, 3, 3, 4, 1, 1, 1],
-    [1, 1, 8, 2, 3, 1, 1, 1],
-    [1, 1, 2, 8, 3, 1, 1, 1],
-    [1, 1, 2, 2, 9, 1, 1, 1],
+/// next grower, previous grower, range over days.
+pub const MIXES: [[usize; 9]; 4] = [
+    [2, 2, 3, 3, 4, 1, 1, 1, 2],
+    [1, 1, 8, 2, 3, 1, 1, 1, 1],
+    [1, 1, 2, 8, 3, 1, 1, 1, 1],
+    [1, 1, 2, 2, 9, 1, 1, 1, 1],
 ];
 
 /// What a column of proper shape is asked.
-pub fn asked(r: &mut Random, c: &View, mix: &[usize; 8]) -> Asked {
+pub fn asked(r: &mut Random, c: &View, mix: &[usize; 9]) -> Asked {
     let used = c.used();
     let mut at = r.below(mix.iter().sum());
     let mut which = 0;
@@ -343,13 +387,17 @@ pub fn asked(r: &mut Random, c: &View, mix: &[usize; 8]) -> Asked {
     }
     let call = match which {
         0 => Call::Find(near(r, c, used)),
-        1 => {
+        1 | 8 => {
             let (x, y) = (near(r, c, used), near(r, c, used));
-            match r.below(12) {
-                0 => Call::Range(x.max(y), x.min(y)),
-                1 => Call::Range(0, u32::MAX),
-                2 => Call::Range(x, x),
-                _ => Call::Range(x.min(y), x.max(y)),
+            let (lo, hi) = match r.below(12) {
+                0 => (x.max(y), x.min(y)),
+                1 => (0, u32::MAX),
+                2 => (x, x),
+                _ => (x.min(y), x.max(y)),
+            };
+            match which {
+                1 => Call::Range(lo, hi),
+                _ => Call::RangeDays(lo, hi, span(r)),
             }
         }
         2 => {

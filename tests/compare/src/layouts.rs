@@ -5,13 +5,14 @@ use crate::inputs::{self, EDGE_COUNTS};
 use crate::{Run, Test};
 use meltusk::{Set, Slots, LIBRARIES};
 use second::random::Random;
-use second::{BLOCK_LIMIT, SLOT_LIMIT, WEIGHT_LIMIT, YIELD_LIMIT};
+use second::{BLOCK_LIMIT, DAY_LIMIT, SLOT_LIMIT, WEIGHT_LIMIT, YIELD_LIMIT};
 
 /// One change of a set or of the ends of a layout.
 #[derive(Clone, Copy, Debug, PartialEq, Eq)]
 pub enum Fault {
     Weight(u32),
     Yield(u32),
+    Day(u32),
     FreeSlot,
     GrowersFall,
     /// Equal growers on both sides of an end.
@@ -40,6 +41,8 @@ pub const SET_FAULTS: &[Fault] = &[
     Weight(u32::MAX),
     Yield(YIELD_LIMIT + 1),
     Yield(u32::MAX),
+    Day(DAY_LIMIT + 1),
+    Day(u32::MAX),
     FreeSlot,
     GrowersFall,
     UsedPastBlocks,
@@ -49,9 +52,11 @@ pub const SET_FAULTS: &[Fault] = &[
     Shorter(0),
     Shorter(1),
     Shorter(2),
+    Shorter(3),
     Longer(0),
     Longer(1),
     Longer(2),
+    Longer(3),
     Length(0),
     Length(SLOT_LIMIT + 1),
     Block(0),
@@ -88,6 +93,10 @@ impl Fault {
                 let i = r.edge(0, used - 1);
                 s.yields[i] = y;
             }
+            Day(n) => {
+                let i = r.edge(0, used - 1);
+                s.days[i] = n;
+            }
             FreeSlot => {
                 if used >= s.growers.len() {
                     return false;
@@ -95,6 +104,7 @@ impl Fault {
                 s.growers[used] = 0;
                 s.weights[used] = u32::MAX;
                 s.yields[used] = u32::MAX;
+                s.days[used] = u32::MAX;
             }
             GrowersFall => {
                 if used < 2 {
@@ -170,6 +180,7 @@ impl Fault {
     pub fn expected(self) -> u32 {
         match self {
             Weight(_) | Yield(_) => 8,
+            Day(_) => 19,
             FreeSlot => 0,
             GrowersFall => 5,
             Used(_) | UsedPastSlices | UsedPastBlocks => 4,
@@ -288,6 +299,7 @@ fn largest(run: &mut Run) -> Result<(), String> {
                     growers: (0..slots as u32).map(|i| i.wrapping_mul(16_000)).collect(),
                     weights: vec![WEIGHT_LIMIT; slots],
                     yields: vec![YIELD_LIMIT; slots],
+                    days: vec![DAY_LIMIT; slots],
                 };
                 set.growers[used.min(slots) - 1] = u32::MAX;
                 let blocks = used.div_ceil(block) as u32;
@@ -302,24 +314,24 @@ fn largest(run: &mut Run) -> Result<(), String> {
     })
 }
 
-/// Growers, weights, yields and ends, each alone at the edge counts; then
+/// Growers, weights, yields, days and ends, each alone at the edge counts; then
 /// nothing lent.
 fn edge_counts(run: &mut Run) -> Result<(), String> {
     run.cases(25, 4, |run, r| {
         for library in LIBRARIES {
-            for lent in 0..4 {
+            for lent in 0..5 {
                 for n in EDGE_COUNTS {
                     let mut set = base(r);
                     let last = set.used.div_ceil(set.block) - 1;
                     let mut ends = inputs::layout(r, &set.view());
                     let expected = match (lent, n) {
-                        (3, 1) => 0,
-                        (3, _) => 6,
+                        (4, 1) => 0,
+                        (4, _) => 6,
                         _ => 3,
                     };
                     match lent {
                         // The only end is the last block.
-                        3 => ends = (0..n as u32).map(|i| last + i).collect(),
+                        4 => ends = (0..n as u32).map(|i| last + i).collect(),
                         i => set.slices()[i].resize(n, u32::MAX),
                     }
                     let applied = apply(r, &mut run.seen, &library, &set, &ends)?;

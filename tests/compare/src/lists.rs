@@ -28,6 +28,7 @@ fn apply_to(run: &mut Run, r: &mut Random, library: &Library, pair: &Pair) -> Re
         growers: column.growers,
         weights: column.weights,
         yields: column.yields,
+        days: column.days,
     };
     let blocks = used.div_ceil(block as usize).max(1);
     let ends = inputs::any_ends(r, blocks);
@@ -122,6 +123,7 @@ fn largest(run: &mut Run) -> Result<(), String> {
             yields: (0..used)
                 .map(|_| if heavy { 10_000 } else { inputs::oil_yield(r) })
                 .collect(),
+            days: (0..used).map(|_| inputs::day(r)).collect(),
         };
         set.resize(slots);
         let count = r.pick(&[1, 8, 64]);
@@ -152,6 +154,7 @@ pub fn main_column() -> Column {
         growers: (1..=8).map(|i| 10 * i).collect(),
         weights: vec![100; 8],
         yields: vec![2_000; 8],
+        days: vec![0; 8],
     };
     column.resize(9);
     column
@@ -168,6 +171,7 @@ fn examples(run: &mut Run) -> Result<(), String> {
         growers: column.growers.clone(),
         weights: column.weights.clone(),
         yields: column.yields.clone(),
+        days: column.days.clone(),
     };
     let applied = apply(&mut r, &mut run.seen, &library, &set, &[1, 3])?;
     if applied.refusal != 0 || applied.directory[..] != column.directory[..] {

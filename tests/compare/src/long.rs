@@ -5,7 +5,7 @@
 use crate::{valgrind, Run, Test};
 use meltusk::{Applied, Call, ColumnSlices, Empty, Library, Step, View};
 use second::{
-    Delivery, Limits, PriceCard, UnlaidSet, DIRECTORY_LEN, FENCES, HISTOGRAM_LEN, LENGTHS,
+    Delivery, Limits, PriceCard, Span, UnlaidSet, DIRECTORY_LEN, FENCES, HISTOGRAM_LEN, LENGTHS,
 };
 use std::ffi::{c_int, c_void};
 
@@ -71,12 +71,13 @@ fn reserve(run: &mut Run, more: usize) -> Option<Long> {
     long
 }
 
-/// The five calls.
-fn five() -> [Call; 5] {
+/// A call of each kind.
+fn each() -> [Call; 6] {
     let d = Delivery::new(0, 0, 0);
     [
         Call::Find(0),
         Call::Range(0, 1),
+        Call::RangeDays(0, 1, Span::ALL),
         Call::Insert(d),
         Call::Delete(d),
         Call::Move(d, 1),
@@ -86,7 +87,7 @@ fn five() -> [Call; 5] {
 /// Each call and step on a column of one record and one free slot, all in
 /// partition 0.
 fn calls(run: &mut Run, column: &mut ColumnSlices, expected: u32) -> Result<(), String> {
-    for call in five() {
+    for call in each() {
         let answer = LIBRARY.call(column, &call);
         run.seen.calls += 1;
         let zero = answer.counts.rr == 0 && answer.counts.rw == 0 && answer.totals.records == 0;
@@ -114,13 +115,25 @@ fn partition(column: &ColumnSlices, expected: u32) -> Result<(), String> {
 }
 
 /// A set of one used slot.
-fn one_slot<'a>(growers: &'a [u32], weights: &'a [u32], yields: &'a [u32]) -> UnlaidSet<'a> {
+fn one_slot([growers, weights, yields, days]: [&[u32]; 4]) -> UnlaidSet<'_> {
     UnlaidSet {
         b: 1,
         m: 1,
         growers,
         weights,
         yields,
+        days,
+    }
+}
+
+/// The long slice as one of the four.
+fn in_turn<'a>(which: usize, long: &'a mut [u32], short: [&'a mut [u32]; 3]) -> [&'a mut [u32]; 4] {
+    let [a, b, c] = short;
+    match which {
+        0 => [long, a, b, c],
+        1 => [a, long, b, c],
+        2 => [a, b, long, c],
+        _ => [a, b, c, long],
     }
 }
 
@@ -133,20 +146,15 @@ fn one_record() -> [u32; DIRECTORY_LEN] {
     directory
 }
 
-/// The growers, the weights and the yields in turn.
+/// The growers, the weights, the yields and the days in turn.
 fn long_slots(run: &mut Run) -> Result<(), String> {
     let Some(mut long) = reserve(run, 2) else {
         return Ok(());
     };
-    for which in 0..3 {
-        let (mut a, mut b) = ([0; 2], [0; 2]);
-        let (a, b) = (&mut a[..], &mut b[..]);
-        let [growers, weights, yields] = match which {
-            0 => [long.slice(), a, b],
-            1 => [a, long.slice(), b],
-            _ => [a, b, long.slice()],
-        };
-        let set = one_slot(growers, weights, yields);
+    for which in 0..4 {
+        let [a, b, c] = &mut [[0; 2]; 3];
+        let [growers, weights, yields, days] = in_turn(which, long.slice(), [a, b, c]);
+        let set = one_slot([growers, weights, yields, days]);
         let second = Applied::from(second::apply_layout(&set, &[0]));
         let compiled = LIBRARY.apply_layout(&set, &[0]);
         run.seen.calls += 1;
@@ -158,6 +166,7 @@ fn long_slots(run: &mut Run) -> Result<(), String> {
             growers,
             weights,
             yields,
+            days,
         };
         if which == 0 {
             partition(&column, 3)?;
@@ -173,12 +182,13 @@ fn long_directory(run: &mut Run) -> Result<(), String> {
         return Ok(());
     };
     long.slice()[..DIRECTORY_LEN].copy_from_slice(&one_record());
-    let [growers, weights, yields] = &mut [[0; 2]; 3];
+    let [growers, weights, yields, days] = &mut [[0; 2]; 4];
     let mut column = ColumnSlices {
         directory: long.slice(),
         growers,
         weights,
         yields,
+        days,
     };
     partition(&column, 6)?;
     calls(run, &mut column, 6)
@@ -196,7 +206,7 @@ fn long_ends(run: &mut Run) -> Result<(), String> {
     ends.slice()[0] = 1;
     let set = UnlaidSet {
         m: 2,
-        ..one_slot(&[0, 1], &[0; 2], &[0; 2])
+        ..one_slot([&[0, 1], &[0; 2], &[0; 2], &[0; 2]])
     };
     let compiled = LIBRARY.apply_layout(&set, ends.slice());
     run.seen.calls += 1;
@@ -218,12 +228,14 @@ const TEXT: &[u8] = b"          1          1          1
           0          0          0
 ";
 
-fn view<'a>(directory: &'a [u32], [growers, weights, yields]: [&'a [u32]; 3]) -> View<'a> {
+fn view<'a>(directory: &'a [u32], slots: [&'a [u32]; 4]) -> View<'a> {
+    let [growers, weights, yields, days] = slots;
     View {
         directory,
         growers,
         weights,
         yields,
+        days,
     }
 }
 
@@ -239,27 +251,22 @@ fn snapshots(run: &mut Run) -> Result<(), String> {
     ) else {
         return Ok(());
     };
-    let (mut a, mut b, mut c) = ([0], [0], [0]);
+    let (mut a, mut b, mut c, mut d) = ([0], [0], [0], [0]);
     text.bytes()[..TEXT.len()].copy_from_slice(TEXT);
-    let read = LIBRARY.read_snapshot(text.bytes(), &mut a, &mut b, &mut c);
-    let written = LIBRARY.write_snapshot(&view(&directory, [&a, &b, &c]), room.bytes());
+    let read = LIBRARY.read_snapshot(text.bytes(), &mut a, &mut b, &mut c, &mut d);
+    let written = LIBRARY.write_snapshot(&view(&directory, [&a, &b, &c, &d]), room.bytes());
     // Each refusal and the one it has to be.
     let mut refusals = vec![(read.refusal, 14), (written.refusal, 0)];
-    for which in 0..3 {
-        let long = slots.slice();
-        let [g, w, y] = match which {
-            0 => [long, &mut a, &mut b],
-            1 => [&mut a, long, &mut b],
-            _ => [&mut a, &mut b, long],
-        };
+    for which in 0..4 {
+        let [g, w, y, n] = in_turn(which, slots.slice(), [&mut a, &mut b, &mut c]);
         let mut out = [0; TEXT.len()];
-        let written = LIBRARY.write_snapshot(&view(&directory, [g, w, y]), &mut out);
-        let read = LIBRARY.read_snapshot(TEXT, g, w, y);
+        let written = LIBRARY.write_snapshot(&view(&directory, [g, w, y, n]), &mut out);
+        let read = LIBRARY.read_snapshot(TEXT, g, w, y, n);
         refusals.extend([(written.refusal, 3), (read.refusal, 3)]);
     }
     let long = long_directory.slice();
     long[..DIRECTORY_LEN].copy_from_slice(&directory);
-    let refused = LIBRARY.write_snapshot(&view(long, [&a, &b, &c]), &mut [0; TEXT.len()]);
+    let refused = LIBRARY.write_snapshot(&view(long, [&a, &b, &c, &d]), &mut [0; TEXT.len()]);
     refusals.push((refused.refusal, 6));
     run.seen.calls += refusals.len() as u64;
     let right = refusals.iter().all(|(is, should)| is == should);
@@ -288,27 +295,30 @@ fn sheets(run: &mut Run) -> Result<(), String> {
         return Ok(());
     };
     let (zero, mut short) = ([0], [7]);
-    let one = view(&directory, [&zero; 3]);
+    let one = view(&directory, [&zero; 4]);
     let mut out = [0; SHEET.len()];
     let long_order = LIBRARY.write_sheet(&one, room.bytes(), lists.slice(), &mut short);
     let long_work = LIBRARY.write_sheet(&one, &mut out, &mut short, lists.slice());
     // Each refusal and the one it has to be.
     let mut refusals = vec![(long_order.refusal, 0), (long_work.refusal, 0)];
-    let long: &[u32] = slots.slice();
-    for columns in [
-        [long, &zero, &zero],
-        [&zero, long, &zero],
-        [&zero, &zero, long],
-    ] {
+    let of_term = LIBRARY.write_term_sheet(&one, 14, room.bytes(), lists.slice(), &mut short);
+    refusals.push((of_term.refusal, 0));
+    for which in 0..4 {
+        let (mut a, mut b, mut c) = ([0], [0], [0]);
+        let columns = in_turn(which, slots.slice(), [&mut a, &mut b, &mut c]).map(|s| &*s);
+        let column = view(&directory, columns);
         let mut text = [0; SHEET.len()];
-        let a = LIBRARY.write_sheet(&view(&directory, columns), &mut text, &mut [7], &mut [7]);
-        refusals.push((a.refusal, 3));
+        let a = LIBRARY.write_sheet(&column, &mut text, &mut [7], &mut [7]);
+        let b = LIBRARY.write_term_sheet(&column, 0, &mut text, &mut [7], &mut [7]);
+        refusals.extend([(a.refusal, 3), (b.refusal, 3)]);
     }
     let long = long_directory.slice();
     long[..DIRECTORY_LEN].copy_from_slice(&directory);
     let mut text = [0; SHEET.len()];
-    let a = LIBRARY.write_sheet(&view(long, [&zero; 3]), &mut text, &mut [7], &mut [7]);
-    refusals.push((a.refusal, 6));
+    let column = view(long, [&zero; 4]);
+    let a = LIBRARY.write_sheet(&column, &mut text, &mut [7], &mut [7]);
+    let b = LIBRARY.write_term_sheet(&column, 0, &mut text, &mut [7], &mut [7]);
+    refusals.extend([(a.refusal, 6), (b.refusal, 6)]);
     run.seen.calls += refusals.len() as u64;
     let right = refusals.iter().all(|(is, should)| is == should);
     match right && &room.bytes()[..SHEET.len()] == SHEET && out == SHEET {
@@ -330,23 +340,18 @@ fn files(run: &mut Run) -> Result<(), String> {
     else {
         return Ok(());
     };
-    let (mut a, mut b, mut c) = ([0], [0], [0]);
+    let (mut a, mut b, mut c, mut d) = ([0], [0], [0], [0]);
     // A broken quote just behind the file.
     let behind = [FILE, b"\"\"x"].concat();
     text.bytes()[..behind.len()].copy_from_slice(&behind);
-    let imported = LIBRARY.import_csv(text.bytes(), &mut a, &mut b, &mut c);
-    let exported = LIBRARY.export_csv(1, &a, &b, &c, room.bytes());
+    let imported = LIBRARY.import_csv(text.bytes(), &mut a, &mut b, &mut c, &mut d);
+    let exported = LIBRARY.export_csv(1, &a, &b, &c, &d, room.bytes());
     // Each refusal and the one it has to be.
     let mut refusals = vec![(imported.refusal, 18), (exported.refusal, 0)];
-    for which in 0..3 {
-        let long = slots.slice();
-        let [g, w, y] = match which {
-            0 => [long, &mut a, &mut b],
-            1 => [&mut a, long, &mut b],
-            _ => [&mut a, &mut b, long],
-        };
-        let exported = LIBRARY.export_csv(1, g, w, y, &mut [0; FILE.len()]);
-        let imported = LIBRARY.import_csv(FILE, g, w, y);
+    for which in 0..4 {
+        let [g, w, y, n] = in_turn(which, slots.slice(), [&mut a, &mut b, &mut c]);
+        let exported = LIBRARY.export_csv(1, g, w, y, n, &mut [0; FILE.len()]);
+        let imported = LIBRARY.import_csv(FILE, g, w, y, n);
         refusals.extend([(exported.refusal, 3), (imported.refusal, 3)]);
     }
     run.seen.calls += refusals.len() as u64;
@@ -369,17 +374,17 @@ fn planned(
     ends: &[u32],
     room: &mut [u32],
     text: &mut [u8],
-) -> [(u32, i64); 8] {
+) -> [(u32, i64); 9] {
     let card = PriceCard::FACTORY;
     let limits = Limits::new(100, 100);
     let cost = LIBRARY.cost(&card, set, ends, histograms);
     let plan = LIBRARY.plan(&card, &limits, set, histograms, room);
     let list = LIBRARY.list_layouts(&card, &limits, set, histograms, text);
-    let [find, range, insert, delete, moved] =
-        five().map(|call| (LIBRARY.record(histograms, set, &call), 0));
+    let [find, range, dated, insert, delete, moved] =
+        each().map(|call| (LIBRARY.record(histograms, set, &call), 0));
     let (cost, plan) = ((cost.refusal, cost.cost), (plan.refusal, plan.cost));
     let list = (list.refusal, 0);
-    [find, range, insert, delete, moved, cost, plan, list]
+    [find, range, dated, insert, delete, moved, cost, plan, list]
 }
 
 /// Long slots are refused by 3 and long histograms by 9; long ends are no
@@ -405,26 +410,31 @@ fn plans(run: &mut Run) -> Result<(), String> {
         }
         false => ends.slice(),
     };
-    let of_slots = [[long, one, one], [one, long, one], [one, one, long]];
-    let of_slots = of_slots.map(|[growers, weights, yields]| {
-        let set = one_slot(growers, weights, yields);
+    let of_slots = [
+        [long, one, one, one],
+        [one, long, one, one],
+        [one, one, long, one],
+        [one, one, one, long],
+    ];
+    let of_slots = of_slots.map(|slots| {
+        let set = one_slot(slots);
         let given = planned(&set, &mut short(), &[0], &mut [7], &mut line);
-        (given, [3; 8])
+        (given, [3; 9])
     });
-    let proper = one_slot(one, one, one);
+    let proper = one_slot([one; 4]);
     // The answers, each with the refusals that they have to have.
     let mut answers = of_slots.to_vec();
     answers.extend([
         (
             planned(&proper, counts.slice(), &[0], &mut [7], &mut line),
-            [9; 8],
+            [9; 9],
         ),
         (
             planned(&proper, &mut short(), ends, room.slice(), text.bytes()),
-            [0, 0, 0, 0, 0, 6, 0, 0],
+            [0, 0, 0, 0, 0, 0, 6, 0, 0],
         ),
     ]);
-    run.seen.calls += 8 * answers.len() as u64;
+    run.seen.calls += 9 * answers.len() as u64;
     for (i, (given, expected)) in answers.iter().enumerate() {
         if *given != expected.map(|refusal| (refusal, 0)) {
             return Err(format!("case {i}: {given:?} for {expected:?}"));

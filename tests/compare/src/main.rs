@@ -18,6 +18,7 @@
 mod broken;
 mod calls;
 mod csv;
+mod days;
 mod growers;
 mod header;
 mod inputs;
@@ -31,6 +32,7 @@ mod seen;
 mod sheets;
 mod snapshots;
 mod tallies;
+mod terms;
 mod text;
 mod valgrind;
 
@@ -93,9 +95,11 @@ fn tests() -> Vec<(&'static str, Test)> {
     tests.extend(long::TESTS);
     tests.extend(layouts::TESTS);
     tests.extend(growers::TESTS);
+    tests.extend(days::TESTS);
     tests.push(("every answer of every call has occurred", every_answer));
     tests.extend(snapshots::TESTS);
     tests.extend(sheets::TESTS);
+    tests.extend(terms::TESTS);
     tests.extend(csv::TESTS);
     tests.extend(tallies::TESTS);
     tests.extend(plan::TESTS);

@@ -24,6 +24,7 @@ fn gapped(r: &mut Random) -> Column {
         growers: Vec::new(),
         weights: Vec::new(),
         yields: Vec::new(),
+        days: Vec::new(),
     };
     column.directory[..2].copy_from_slice(&[r.within(1, 4) as u32, k as u32]);
     for p in 0..k {
@@ -35,6 +36,7 @@ fn gapped(r: &mut Random) -> Column {
             column.growers.push(fence(p) - below);
             column.weights.push(inputs::weight(r));
             column.yields.push(inputs::oil_yield(r));
+            column.days.push(inputs::day(r));
         }
     }
     let slots = column.growers.len() + r.within(1, 3);

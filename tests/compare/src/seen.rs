@@ -3,19 +3,21 @@
 
 use crate::calls::Asked;
 use meltusk::{Call, Seen, Step};
-use second::{FENCES, LENGTHS};
+use second::{Span, DAY_LIMIT, FENCES, LENGTHS};
+use std::collections::BTreeSet;
 
 /// The refusals of each call, 0 for accepted.
-const ANSWERS: [(&str, &[u32]); 9] = [
-    ("find", &[0, 2, 3, 6, 8]),
-    ("range", &[0, 2, 3, 6, 7, 8]),
-    ("insert", &[0, 2, 3, 6, 8, 12]),
-    ("delete", &[0, 2, 3, 6, 8, 13]),
-    ("move", &[0, 2, 3, 6, 8, 13]),
-    ("next_grower", &[0, 2, 3, 6, 8]),
-    ("previous_grower", &[0, 2, 3, 6, 8]),
+const ANSWERS: [(&str, &[u32]); 10] = [
+    ("find", &[0, 2, 3, 6, 8, 19]),
+    ("range", &[0, 2, 3, 6, 7, 8, 19]),
+    ("range_days", &[0, 2, 3, 6, 7, 8, 19]),
+    ("insert", &[0, 2, 3, 6, 8, 12, 19]),
+    ("delete", &[0, 2, 3, 6, 8, 13, 19]),
+    ("move", &[0, 2, 3, 6, 8, 13, 19]),
+    ("next_grower", &[0, 2, 3, 6, 8, 19]),
+    ("previous_grower", &[0, 2, 3, 6, 8, 19]),
     ("partition", &[0, 2, 3, 6]),
-    ("apply_layout", &[0, 2, 3, 4, 5, 6, 8]),
+    ("apply_layout", &[0, 2, 3, 4, 5, 6, 8, 19]),
 ];
 
 const MOVES: [&str; 8] = [
@@ -49,10 +51,22 @@ const GAPS: [&str; 6] = [
     "move refused by 13 in an empty partition",
 ];
 
+/// What a range over days met.
+const DAYS: [&str; 7] = [
+    "range over days: the last earlier than the first",
+    "range over days: one day",
+    "range over days: every day",
+    "range over days: some of the growers' records, not all",
+    "range over days: a record on the first day",
+    "range over days: a record on the last day",
+    "range over days: days of several terms",
+];
+
 pub fn name(asked: &Asked) -> &'static str {
     match asked {
         Asked::Call(Call::Find(_)) => "find",
         Asked::Call(Call::Range(..)) => "range",
+        Asked::Call(Call::RangeDays(..)) => "range_days",
         Asked::Call(Call::Insert(_)) => "insert",
         Asked::Call(Call::Delete(_)) => "delete",
         Asked::Call(Call::Move(..)) => "move",
@@ -101,9 +115,34 @@ fn note_gaps(seen: &mut Seen, lengths: &[u32]) {
     seen.kind(last + 1 < lengths.len(), GAPS[3]);
 }
 
-/// Notes what was asked and its refusal; growers and directory are those
+/// Notes the days of the records of the growers lo to hi.
+fn note_days(seen: &mut Seen, held: &[u32], span: Span) {
+    let inside = held.iter().filter(|&&day| span.holds(day));
+    let count = inside.clone().count();
+    let terms = inside.map(|&day| second::term_of(day).first);
+    let there = [
+        span.last < span.first,
+        span.last == span.first,
+        span == Span::ALL,
+        0 < count && count < held.len(),
+        span.first > 0 && span.first <= span.last && held.contains(&span.first),
+        span.last < DAY_LIMIT && span.first <= span.last && held.contains(&span.last),
+        terms.collect::<BTreeSet<u32>>().len() > 1,
+    ];
+    for (kind, there) in DAYS.iter().zip(there) {
+        seen.kind(there, kind);
+    }
+}
+
+/// Notes what was asked and its refusal; growers, days and directory are those
 /// before the call.
-pub fn note(seen: &mut Seen, asked: &Asked, refusal: u32, growers: &[u32], directory: &[u32]) {
+pub fn note(
+    seen: &mut Seen,
+    asked: &Asked,
+    refusal: u32,
+    (growers, days): (&[u32], &[u32]),
+    directory: &[u32],
+) {
     seen.answer(name(asked), refusal);
     let Asked::Call(call) = asked else { return };
     if refusal != 0 && refusal != 13 {
@@ -135,6 +174,13 @@ pub fn note(seen: &mut Seen, asked: &Asked, refusal: u32, growers: &[u32], direc
             note_scans(seen, &parts[partition(lo)..=partition(hi)], lo, hi);
             note_gaps(seen, &lengths[partition(lo)..=partition(hi)]);
         }
+        Call::RangeDays(lo, hi, span) => {
+            note_gaps(seen, &lengths[partition(lo)..=partition(hi)]);
+            let start = |p: usize| lengths[..p].iter().map(|&n| n as usize).sum::<usize>();
+            let slots = start(partition(lo))..start(partition(hi) + 1);
+            let own = slots.filter(|&i| lo <= growers[i] && growers[i] <= hi);
+            note_days(seen, &own.map(|i| days[i]).collect::<Vec<u32>>(), span);
+        }
         Call::Insert(d) => past(seen, &lengths[partition(d.grower) + 1..], 0, 1),
         Call::Delete(d) => past(seen, &lengths[partition(d.grower) + 1..], 2, 3),
         Call::Move(d, g) => {
@@ -152,5 +198,6 @@ pub fn note(seen: &mut Seen, asked: &Asked, refusal: u32, growers: &[u32], direc
 
 /// An error if an answer or a kind of move or scan has not occurred.
 pub fn complete(seen: &Seen) -> Result<(), String> {
-    seen.complete(&ANSWERS, &[&MOVES[..], &SCANS[..], &GAPS[..]].concat())
+    let kinds = [&MOVES[..], &SCANS, &GAPS, &DAYS].concat();
+    seen.complete(&ANSWERS, &kinds)
 }

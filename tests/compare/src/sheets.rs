@@ -2,7 +2,7 @@
 //! text, the order and the work.
 
 use crate::broken;
-use crate::calls::{directory_text, slots_text, Pair, NAMES};
+use crate::calls::{column_memory, column_text, Pair, NAMES};
 use crate::inputs::{self, Kind, EDGE_COUNTS, MIXES};
 use crate::lists;
 use crate::memory::Memory;
@@ -16,7 +16,7 @@ use std::collections::{BTreeMap, BTreeSet};
 use std::fmt::Write;
 
 /// The refusals of the call, 0 for accepted.
-const ANSWERS: [(&str, &[u32]); 1] = [("write_sheet", &[0, 2, 3, 6, 8, 15])];
+const ANSWERS: [(&str, &[u32]); 1] = [("write_sheet", &[0, 2, 3, 6, 8, 15, 19])];
 
 const WRITTEN: [&str; 21] = [
     "sheet: no delivery in one partition",
@@ -56,24 +56,24 @@ const UNSOUND: &str = "sheet: an unsound column";
 
 /// Growers about the counts at which one that works in batches of 8,192 has to
 /// go on.
-const MANY: [usize; 9] = [
+pub const MANY: [usize; 9] = [
     8_191, 8_192, 8_193, 16_383, 16_384, 16_385, 20_000, 24_576, 24_577,
 ];
 
 /// How many bytes and numbers are lent.
 #[derive(Clone, Copy, Debug)]
-struct Room {
-    text: usize,
-    order: usize,
-    work: usize,
+pub struct Room {
+    pub text: usize,
+    pub order: usize,
+    pub work: usize,
 }
 
-/// The sheet and the order of the slots by another writer than those compared,
-/// of a column whose directory has its shape.
-fn sheet(c: &Column) -> (Vec<u8>, Vec<u32>) {
+/// The sheet of the records on chosen days and the order of their slots by
+/// another writer than those compared, of a column whose directory has its shape.
+pub fn sheet_of(c: &Column, chosen: impl Fn(u32) -> bool) -> (Vec<u8>, Vec<u32>) {
     let mut growers: BTreeMap<u32, ([u64; 3], Vec<u32>)> = BTreeMap::new();
     let mut all = [0; 3];
-    for i in 0..c.view().used() {
+    for i in (0..c.view().used()).filter(|&i| chosen(c.days[i])) {
         let d = c.view().slot(i);
         let (sums, slots) = growers.entry(d.grower).or_default();
         let (weight, oil_yield) = (u64::from(d.weight), u64::from(d.oil_yield));
@@ -93,6 +93,10 @@ fn sheet(c: &Column) -> (Vec<u8>, Vec<u32>) {
     (text.into_bytes(), order.collect())
 }
 
+fn sheet(c: &Column) -> (Vec<u8>, Vec<u32>) {
+    sheet_of(c, |_| true)
+}
+
 /// The room that a column of proper shape needs.
 fn exact(c: &Column) -> Room {
     let used = c.view().used();
@@ -108,17 +112,17 @@ fn exact(c: &Column) -> Room {
 
 /// What the call is lent to write.
 #[derive(Clone)]
-struct Lent {
-    text: Memory<u8>,
+pub struct Lent {
+    pub text: Memory<u8>,
     /// Order and work.
-    lists: Memory,
+    pub lists: Memory,
 }
 
-const LISTS: [&str; 2] = ["order", "work"];
+pub const LISTS: [&str; 2] = ["order", "work"];
 
 impl Lent {
-    fn new(r: &mut Random, room: Room) -> Lent {
-        let [order, work, _] = old_slots(r, [room.order, room.work, 0]);
+    pub fn new(r: &mut Random, room: Room) -> Lent {
+        let [order, work] = old_slots(r, [room.order, room.work]);
         let text = old_bytes(r, room.text);
         Lent {
             text: Memory::new(r, &[&text]),
@@ -126,18 +130,18 @@ impl Lent {
         }
     }
 
-    fn lend<A>(&mut self, call: impl FnOnce(&mut [u8], &mut [u32], &mut [u32]) -> A) -> A {
+    pub fn lend<A>(&mut self, call: impl FnOnce(&mut [u8], &mut [u32], &mut [u32]) -> A) -> A {
         let Lent { text, lists } = self;
         text.lend(|[text]| lists.lend(|[order, work]| call(text, order, work)))
     }
 
-    fn equals(&self, other: &Lent) -> bool {
+    pub fn equals(&self, other: &Lent) -> bool {
         self.text.equals(&other.text) && self.lists.equals(&other.lists)
     }
 
     /// Whether an accepted column left its sheet, its order and zeros, and past
     /// them what was there before.
-    fn holds(&self, before: &Lent, (text, order): (&[u8], &[u32])) -> bool {
+    pub fn holds(&self, before: &Lent, (text, order): (&[u8], &[u32])) -> bool {
         fn is<T: PartialEq>(after: &[T], before: &[T], front: &[T]) -> bool {
             after.starts_with(front) && after[front.len()..] == before[front.len()..]
         }
@@ -219,14 +223,15 @@ fn write(
 ) -> Result<u32, String> {
     let before = Lent::new(r, room);
     let (mut compiled_lent, mut second_lent) = (before.clone(), before.clone());
-    let mut slots = Memory::new(r, &[&c.growers, &c.weights, &c.yields, &c.directory]);
+    let mut slots = column_memory(r, c);
     let slots_before = slots.clone();
-    let compiled = slots.lend(|[growers, weights, yields, directory]| {
+    let compiled = slots.lend(|[growers, weights, yields, days, directory]| {
         let column = View {
             directory,
             growers,
             weights,
             yields,
+            days,
         };
         compiled_lent.lend(|text, order, work| library.write_sheet(&column, text, order, work))
     });
@@ -252,13 +257,12 @@ fn write(
     }
     Err(format!(
         "write_sheet: compiled {compiled:?}, second {second:?}, left as it has to be {left}; {}; {}; {}; \
-         text {}, {room:?}, {}, {}",
+         text {}, {room:?}, {}",
         compiled_lent.text.compared(&second_lent.text, &TEXT),
         compiled_lent.lists.compared(&second_lent.lists, &LISTS),
         slots.compared(&slots_before, &NAMES),
         shown(compiled_lent.text.slice(0)),
-        directory_text(&c.directory),
-        slots_text(&c.growers, &c.weights, &c.yields)
+        column_text(c)
     ))
 }
 
@@ -418,7 +422,7 @@ fn laid(run: &mut Run) -> Result<(), String> {
 
 /// Exchanges records inside each partition: none, some, or all at random; or the
 /// first of each go to its end.
-fn stir(r: &mut Random, c: &mut Column) {
+pub fn stir(r: &mut Random, c: &mut Column) {
     let view = c.view();
     let parts: Vec<(usize, usize)> = (0..view.partitions())
         .map(|p| (view.start(p), view.length(p)))
@@ -451,7 +455,7 @@ fn stir(r: &mut Random, c: &mut Column) {
 
 /// So many growers, each with one to `most` records, in `k` partitions; a free
 /// slot in one of two.
-fn column_of(r: &mut Random, growers: usize, most: usize, k: usize) -> Column {
+pub fn column_of(r: &mut Random, growers: usize, most: usize, k: usize) -> Column {
     let count = growers as u32;
     let held: Vec<u32> = match r.below(3) {
         0 => (0..count).collect(),
@@ -468,6 +472,7 @@ fn column_of(r: &mut Random, growers: usize, most: usize, k: usize) -> Column {
         growers: Vec::new(),
         weights: Vec::new(),
         yields: Vec::new(),
+        days: Vec::new(),
     };
     c.directory[..2].copy_from_slice(&[r.pick(&[1, 64, 4_096]), k as u32]);
     let mut first = 0;
@@ -478,6 +483,7 @@ fn column_of(r: &mut Random, growers: usize, most: usize, k: usize) -> Column {
                 c.growers.push(g);
                 c.weights.push(inputs::weight(r));
                 c.yields.push(inputs::oil_yield(r));
+                c.days.push(inputs::day(r));
             }
         }
         c.directory[LENGTHS + p] = (c.growers.len() - before) as u32;
@@ -549,6 +555,7 @@ fn largest(run: &mut Run) -> Result<(), String> {
             c.growers.resize(SLOT_LIMIT, last);
             c.weights = vec![100_000; SLOT_LIMIT];
             c.yields = vec![10_000; SLOT_LIMIT];
+            c.days = vec![36_524; SLOT_LIMIT];
             if growers == 1 {
                 c.directory[LENGTHS] = SLOT_LIMIT as u32;
             }
@@ -561,7 +568,7 @@ fn largest(run: &mut Run) -> Result<(), String> {
 
 /// One change of a column or of a room.
 #[derive(Clone, Copy, Debug, PartialEq, Eq)]
-enum Fault {
+pub enum Fault {
     Written(WriteFault),
     OrderShort,
     NoOrder,
@@ -572,19 +579,19 @@ enum Fault {
 use Fault::*;
 
 /// Those of a room come first.
-fn faults() -> Vec<Fault> {
+pub fn faults() -> Vec<Fault> {
     let mut all = vec![OrderShort, NoOrder, WorkShort, NoWork];
     all.extend(writing::faults().into_iter().map(Written));
     all
 }
 
 impl Fault {
-    fn is_large(self) -> bool {
+    pub fn is_large(self) -> bool {
         matches!(self, Written(fault) if fault.is_large())
     }
 
     /// Puts the fault; false if it cannot be put here.
-    fn put(self, r: &mut Random, c: &mut Column, room: &mut Room, need: Room) -> bool {
+    pub fn put(self, r: &mut Random, c: &mut Column, room: &mut Room, need: Room) -> bool {
         match self {
             Written(fault) => return fault.put(r, c, &mut room.text, need.text),
             OrderShort => room.order = need.order - 1,
@@ -595,7 +602,7 @@ impl Fault {
         true
     }
 
-    fn expected(self) -> u32 {
+    pub fn expected(self) -> u32 {
         match self {
             Written(fault) => fault.expected(),
             _ => 15,
@@ -604,7 +611,7 @@ impl Fault {
 }
 
 /// The refusal of two faults, of which the second is put later.
-fn expected_of(first: Fault, second: Fault) -> u32 {
+pub fn expected_of(first: Fault, second: Fault) -> u32 {
     match (first, second) {
         (Written(first), Written(second)) => writing::expected_of(first, second),
         // The first is of a room, and 15 is the last check.
@@ -691,25 +698,25 @@ fn any(run: &mut Run) -> Result<(), String> {
     })
 }
 
-/// Growers, weights, yields, directory, text, order and work, each alone at the
-/// edge counts; then nothing lent.
+/// Growers, weights, yields, days, directory, text, order and work, each alone
+/// at the edge counts; then nothing lent.
 fn edge_counts(run: &mut Run) -> Result<(), String> {
     run.cases(129, 1, |run, r| {
         for library in LIBRARIES {
-            for lent in 0..7 {
+            for lent in 0..8 {
                 for n in EDGE_COUNTS {
                     let (mut c, mut room, need) = base(r);
                     let (expected, least) = match lent {
-                        0..=2 => (3, usize::MAX),
-                        3 => (6, usize::MAX),
-                        4 => (15, need.text),
+                        0..=3 => (3, usize::MAX),
+                        4 => (6, usize::MAX),
+                        5 => (15, need.text),
                         _ => (15, need.order),
                     };
                     match lent {
-                        6 => room.work = n,
-                        5 => room.order = n,
-                        4 => room.text = n,
-                        3 => c.directory.resize(n, 0),
+                        7 => room.work = n,
+                        6 => room.order = n,
+                        5 => room.text = n,
+                        4 => c.directory.resize(n, 0),
                         i => c.slices()[i].resize(n, 0),
                     }
                     let expected = if n < least { expected } else { 0 };

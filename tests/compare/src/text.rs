@@ -49,7 +49,7 @@ pub enum Lent {
     Exact,
     More,
     Fewer,
-    /// One of the three slices has another length.
+    /// One of the four slices has another length.
     Unequal,
     None,
 }
@@ -65,23 +65,23 @@ pub const LENT: [Lent; 5] = [
 impl Lent {
     /// The lengths of the slices for a text of M deliveries; none if there
     /// are no such.
-    pub fn lengths(self, r: &mut Random, m: usize) -> Option<[usize; 3]> {
+    pub fn lengths(self, r: &mut Random, m: usize) -> Option<[usize; 4]> {
         match self {
-            Lent::Exact => (m > 0).then_some([m; 3]),
-            Lent::More => Some([m + r.within(1, 5); 3]),
-            Lent::Fewer => (m > 1).then(|| [r.edge(1, m - 1); 3]),
+            Lent::Exact => (m > 0).then_some([m; 4]),
+            Lent::More => Some([m + r.within(1, 5); 4]),
+            Lent::Fewer => (m > 1).then(|| [r.edge(1, m - 1); 4]),
             Lent::Unequal => {
-                let mut lengths = [m + 1; 3];
-                lengths[r.below(3)] = m + r.pick(&[0, 2]);
+                let mut lengths = [m + 1; 4];
+                lengths[r.below(4)] = m + r.pick(&[0, 2]);
                 Some(lengths)
             }
-            Lent::None => Some([0; 3]),
+            Lent::None => Some([0; 4]),
         }
     }
 }
 
 /// Slots as they may be before reading; none is 0.
-pub fn old_slots(r: &mut Random, lengths: [usize; 3]) -> [Vec<u32>; 3] {
+pub fn old_slots<const N: usize>(r: &mut Random, lengths: [usize; N]) -> [Vec<u32>; N] {
     lengths.map(|n| {
         (0..n)
             .map(|_| r.within(1, u32::MAX as usize) as u32)

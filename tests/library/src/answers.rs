@@ -94,6 +94,60 @@ pub struct Imported {
     pub rows: u64,
 }
 
+#[repr(C)]
+#[derive(Clone, Copy, Debug, PartialEq, Eq)]
+pub struct DayAnswer {
+    pub refusal: u32,
+    pub day: u32,
+}
+
+#[repr(C)]
+#[derive(Clone, Copy, Debug, PartialEq, Eq)]
+pub struct DateAnswer {
+    pub refusal: u32,
+    pub year: u32,
+    pub month: u32,
+    pub day: u32,
+}
+
+#[repr(C)]
+#[derive(Clone, Copy, Debug, PartialEq, Eq)]
+pub struct TermAnswer {
+    pub refusal: u32,
+    pub first: u32,
+    pub last: u32,
+}
+
+impl From<second::DayAnswer> for DayAnswer {
+    fn from(a: second::DayAnswer) -> DayAnswer {
+        DayAnswer {
+            refusal: a.refusal,
+            day: a.day,
+        }
+    }
+}
+
+impl From<second::DateAnswer> for DateAnswer {
+    fn from(a: second::DateAnswer) -> DateAnswer {
+        DateAnswer {
+            refusal: a.refusal,
+            year: a.year,
+            month: a.month,
+            day: a.day,
+        }
+    }
+}
+
+impl From<second::TermAnswer> for TermAnswer {
+    fn from(a: second::TermAnswer) -> TermAnswer {
+        TermAnswer {
+            refusal: a.refusal,
+            first: a.first,
+            last: a.last,
+        }
+    }
+}
+
 impl From<second::Counts> for Counts {
     fn from(c: second::Counts) -> Counts {
         Counts {

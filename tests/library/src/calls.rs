@@ -1,16 +1,17 @@
-//! The five calls as values, made and recorded by either implementation, the
-//! steps from grower to grower, and the second implementation's sheet.
+//! The calls as values, made and recorded by either implementation, the steps
+//! from grower to grower, and the second implementation's sheets.
 
 use crate::answers::{Answer, Stepped, Written};
 use crate::column::{ColumnSlices, View};
 use crate::library::Library;
-use second::{Delivery, UnlaidSet};
+use second::{Delivery, Span, UnlaidSet};
 
 /// A call on a column, or one to be recorded against a set.
 #[derive(Clone, Copy, Debug)]
 pub enum Call {
     Find(u32),
     Range(u32, u32),
+    RangeDays(u32, u32, Span),
     Insert(Delivery),
     Delete(Delivery),
     Move(Delivery, u32),
@@ -21,7 +22,7 @@ impl Call {
     pub fn offered(&mut self) -> Option<&mut Delivery> {
         match self {
             Call::Insert(d) | Call::Delete(d) | Call::Move(d, _) => Some(d),
-            Call::Find(_) | Call::Range(..) => None,
+            Call::Find(_) | Call::Range(..) | Call::RangeDays(..) => None,
         }
     }
 }
@@ -59,6 +60,7 @@ impl Library {
         match *call {
             Call::Find(grower) => self.find(&column.view(), grower),
             Call::Range(lo, hi) => self.range(&column.view(), lo, hi),
+            Call::RangeDays(lo, hi, span) => self.range_days(&column.view(), lo, hi, span),
             Call::Insert(d) => self.insert(column, d),
             Call::Delete(d) => self.delete(column, d),
             Call::Move(d, new_grower) => self.move_delivery(column, d, new_grower),
@@ -77,6 +79,9 @@ impl Library {
         match *call {
             Call::Find(grower) => self.record_find(histograms, set, grower),
             Call::Range(lo, hi) => self.record_range(histograms, set, lo, hi),
+            Call::RangeDays(lo, hi, span) => {
+                self.record_range_days(histograms, set, (lo, hi), span)
+            }
             Call::Insert(d) => self.record_insert(histograms, set, d),
             Call::Delete(d) => self.record_delete(histograms, set, d),
             Call::Move(d, new_grower) => self.record_move(histograms, set, d, new_grower),
@@ -91,13 +96,15 @@ pub fn call_second(column: &mut ColumnSlices, call: &Call) -> Answer {
         growers: g,
         weights: w,
         yields: y,
+        days: n,
     } = column;
     match *call {
-        Call::Find(grower) => second::find(g, w, y, at, grower).into(),
-        Call::Range(lo, hi) => second::range(g, w, y, at, lo, hi).into(),
-        Call::Insert(d) => second::insert(g, w, y, at, d).into(),
-        Call::Delete(d) => second::delete(g, w, y, at, d).into(),
-        Call::Move(d, new_grower) => second::move_delivery(g, w, y, at, d, new_grower).into(),
+        Call::Find(grower) => second::find(g, w, y, n, at, grower).into(),
+        Call::Range(lo, hi) => second::range(g, w, y, n, at, lo, hi).into(),
+        Call::RangeDays(lo, hi, span) => second::range_days(g, w, y, n, at, (lo, hi), span).into(),
+        Call::Insert(d) => second::insert(g, w, y, n, at, d).into(),
+        Call::Delete(d) => second::delete(g, w, y, n, at, d).into(),
+        Call::Move(d, new_grower) => second::move_delivery(g, w, y, n, at, d, new_grower).into(),
     }
 }
 
@@ -108,10 +115,11 @@ pub fn step_second(column: &View, step: &Step) -> Stepped {
         growers: g,
         weights: w,
         yields: y,
+        days: n,
     } = *column;
     match *step {
-        Step::Next(grower) => second::next_grower(g, w, y, at, grower).into(),
-        Step::Previous(grower) => second::previous_grower(g, w, y, at, grower).into(),
+        Step::Next(grower) => second::next_grower(g, w, y, n, at, grower).into(),
+        Step::Previous(grower) => second::previous_grower(g, w, y, n, at, grower).into(),
     }
 }
 
@@ -128,14 +136,35 @@ pub fn sheet_second(
         growers: g,
         weights: w,
         yields: y,
+        days: n,
     } = *column;
-    second::sheet_write(g, w, y, at, text, order, work).into()
+    second::sheet_write(g, w, y, n, at, text, order, work).into()
+}
+
+/// The second implementation's sheet of the term that holds a day.
+#[inline]
+pub fn term_sheet_second(
+    column: &View,
+    day: u32,
+    text: &mut [u8],
+    order: &mut [u32],
+    work: &mut [u32],
+) -> Written {
+    let View {
+        directory: at,
+        growers: g,
+        weights: w,
+        yields: y,
+        days: n,
+    } = *column;
+    second::term_sheet_write(g, w, y, n, at, day, text, order, work).into()
 }
 
 pub fn record_second(histograms: &mut [u32], set: &UnlaidSet, call: &Call) -> u32 {
     match *call {
         Call::Find(grower) => second::record_find(set, histograms, grower),
         Call::Range(lo, hi) => second::record_range(set, histograms, lo, hi),
+        Call::RangeDays(lo, hi, span) => second::record_range_days(set, histograms, (lo, hi), span),
         Call::Insert(d) => second::record_insert(set, histograms, d),
         Call::Delete(d) => second::record_delete(set, histograms, d),
         Call::Move(d, new_grower) => second::record_move(set, histograms, d, new_grower),

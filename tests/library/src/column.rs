@@ -1,4 +1,4 @@
-//! Columns: a directory and three slices.
+//! Columns: a directory and four slices.
 
 use crate::set::Slots;
 use second::{Delivery, FENCES, LENGTHS};
@@ -10,6 +10,7 @@ pub struct Column {
     pub growers: Vec<u32>,
     pub weights: Vec<u32>,
     pub yields: Vec<u32>,
+    pub days: Vec<u32>,
 }
 
 impl Column {
@@ -19,7 +20,15 @@ impl Column {
             growers: &self.growers,
             weights: &self.weights,
             yields: &self.yields,
+            days: &self.days,
         }
+    }
+
+    /// Day 0 in every record, as a snapshot has it.
+    pub fn undated(mut self) -> Column {
+        let used = self.view().used();
+        self.days[..used].fill(0);
+        self
     }
 
     pub fn lend(&mut self) -> ColumnSlices<'_> {
@@ -28,13 +37,21 @@ impl Column {
             growers: &mut self.growers,
             weights: &mut self.weights,
             yields: &mut self.yields,
+            days: &mut self.days,
         }
     }
 }
 
 impl Slots for Column {
-    fn slices(&mut self) -> [&mut Vec<u32>; 3] {
-        [&mut self.growers, &mut self.weights, &mut self.yields]
+    fn slices(&mut self) -> [&mut Vec<u32>; 4] {
+        let Column {
+            growers,
+            weights,
+            yields,
+            days,
+            ..
+        } = self;
+        [growers, weights, yields, days]
     }
 }
 
@@ -44,6 +61,7 @@ pub struct ColumnSlices<'a> {
     pub growers: &'a mut [u32],
     pub weights: &'a mut [u32],
     pub yields: &'a mut [u32],
+    pub days: &'a mut [u32],
 }
 
 impl ColumnSlices<'_> {
@@ -54,6 +72,7 @@ impl ColumnSlices<'_> {
             growers: self.growers,
             weights: self.weights,
             yields: self.yields,
+            days: self.days,
         }
     }
 }
@@ -65,6 +84,7 @@ pub struct View<'a> {
     pub growers: &'a [u32],
     pub weights: &'a [u32],
     pub yields: &'a [u32],
+    pub days: &'a [u32],
 }
 
 /// Of a column whose directory has its shape.
@@ -97,7 +117,7 @@ impl View<'_> {
     }
 
     pub fn slot(&self, i: usize) -> Delivery {
-        Delivery::new(self.growers[i], self.weights[i], self.yields[i])
+        Delivery::new(self.growers[i], self.weights[i], self.yields[i]).on(self.days[i])
     }
 
     pub fn to_column(&self) -> Column {
@@ -106,6 +126,7 @@ impl View<'_> {
             growers: self.growers.to_vec(),
             weights: self.weights.to_vec(),
             yields: self.yields.to_vec(),
+            days: self.days.to_vec(),
         }
     }
 }

@@ -1,11 +1,12 @@
 //! Safe calls of the compiled library.
 
 use crate::answers::{
-    Answer, Applied, Costed, Counts, Imported, Listed, PartitionSlice, Planned, Stepped, Written,
+    Answer, Applied, Costed, Counts, DateAnswer, DayAnswer, Imported, Listed, PartitionSlice,
+    Planned, Stepped, TermAnswer, Written,
 };
 use crate::column::{ColumnSlices, View};
 use crate::declared;
-use second::{Delivery, Limits, PriceCard, UnlaidSet};
+use second::{Delivery, Limits, PriceCard, Span, UnlaidSet};
 
 /// The pointer with which an empty slice is lent.
 #[derive(Clone, Copy, Debug, PartialEq, Eq)]
@@ -74,55 +75,62 @@ impl Library {
     #[inline]
     pub fn apply_layout(&self, set: &UnlaidSet, ends: &[u32]) -> Applied {
         call!(self => meltusk_apply_layout(
-            set.b, set.m as u32, &set.growers, &set.weights, &set.yields, &ends
+            set.b, set.m as u32, &set.growers, &set.weights, &set.yields, &set.days, &ends
         ))
     }
 
     #[inline]
     pub fn find(&self, c: &View, grower: u32) -> Answer {
-        call!(self => meltusk_find(&c.directory, &c.growers, &c.weights, &c.yields, grower))
+        call!(self => meltusk_find(&c.directory, &c.growers, &c.weights, &c.yields, &c.days, grower))
     }
 
     #[inline]
     pub fn range(&self, c: &View, lo: u32, hi: u32) -> Answer {
-        call!(self => meltusk_range(&c.directory, &c.growers, &c.weights, &c.yields, lo, hi))
+        call!(self => meltusk_range(&c.directory, &c.growers, &c.weights, &c.yields, &c.days, lo, hi))
+    }
+
+    #[inline]
+    pub fn range_days(&self, c: &View, lo: u32, hi: u32, span: Span) -> Answer {
+        call!(self => meltusk_range_days(
+            &c.directory, &c.growers, &c.weights, &c.yields, &c.days, lo, hi, span.first, span.last
+        ))
     }
 
     #[inline]
     pub fn insert(&self, c: &mut ColumnSlices, d: Delivery) -> Answer {
         call!(self => meltusk_insert(
-            mut c.directory, mut c.growers, mut c.weights, mut c.yields,
-            d.grower, d.weight, d.oil_yield
+            mut c.directory, mut c.growers, mut c.weights, mut c.yields, mut c.days,
+            d.grower, d.weight, d.oil_yield, d.day
         ))
     }
 
     #[inline]
     pub fn delete(&self, c: &mut ColumnSlices, d: Delivery) -> Answer {
         call!(self => meltusk_delete(
-            mut c.directory, mut c.growers, mut c.weights, mut c.yields,
-            d.grower, d.weight, d.oil_yield
+            mut c.directory, mut c.growers, mut c.weights, mut c.yields, mut c.days,
+            d.grower, d.weight, d.oil_yield, d.day
         ))
     }
 
     #[inline]
     pub fn move_delivery(&self, c: &mut ColumnSlices, d: Delivery, new_grower: u32) -> Answer {
         call!(self => meltusk_move(
-            mut c.directory, mut c.growers, mut c.weights, mut c.yields,
-            d.grower, d.weight, d.oil_yield, new_grower
+            mut c.directory, mut c.growers, mut c.weights, mut c.yields, mut c.days,
+            d.grower, d.weight, d.oil_yield, d.day, new_grower
         ))
     }
 
     #[inline]
     pub fn next_grower(&self, c: &View, grower: u32) -> Stepped {
         call!(self => meltusk_next_grower(
-            &c.directory, &c.growers, &c.weights, &c.yields, grower
+            &c.directory, &c.growers, &c.weights, &c.yields, &c.days, grower
         ))
     }
 
     #[inline]
     pub fn previous_grower(&self, c: &View, grower: u32) -> Stepped {
         call!(self => meltusk_previous_grower(
-            &c.directory, &c.growers, &c.weights, &c.yields, grower
+            &c.directory, &c.growers, &c.weights, &c.yields, &c.days, grower
         ))
     }
 
@@ -133,27 +141,40 @@ impl Library {
 
     pub fn record_find(&self, histograms: &mut [u32], set: &UnlaidSet, grower: u32) -> u32 {
         call!(self => meltusk_record_find(
-            mut histograms, set.b, set.m as u32, &set.growers, &set.weights, &set.yields, grower
+            mut histograms, set.b, set.m as u32, &set.growers, &set.weights, &set.yields, &set.days, grower
         ))
     }
 
     pub fn record_range(&self, histograms: &mut [u32], set: &UnlaidSet, lo: u32, hi: u32) -> u32 {
         call!(self => meltusk_record_range(
-            mut histograms, set.b, set.m as u32, &set.growers, &set.weights, &set.yields, lo, hi
+            mut histograms, set.b, set.m as u32, &set.growers, &set.weights, &set.yields, &set.days, lo, hi
+        ))
+    }
+
+    pub fn record_range_days(
+        &self,
+        histograms: &mut [u32],
+        set: &UnlaidSet,
+        (lo, hi): (u32, u32),
+        span: Span,
+    ) -> u32 {
+        call!(self => meltusk_record_range_days(
+            mut histograms, set.b, set.m as u32, &set.growers, &set.weights, &set.yields, &set.days,
+            lo, hi, span.first, span.last
         ))
     }
 
     pub fn record_insert(&self, histograms: &mut [u32], set: &UnlaidSet, d: Delivery) -> u32 {
         call!(self => meltusk_record_insert(
-            mut histograms, set.b, set.m as u32, &set.growers, &set.weights, &set.yields,
-            d.grower, d.weight, d.oil_yield
+            mut histograms, set.b, set.m as u32, &set.growers, &set.weights, &set.yields, &set.days,
+            d.grower, d.weight, d.oil_yield, d.day
         ))
     }
 
     pub fn record_delete(&self, histograms: &mut [u32], set: &UnlaidSet, d: Delivery) -> u32 {
         call!(self => meltusk_record_delete(
-            mut histograms, set.b, set.m as u32, &set.growers, &set.weights, &set.yields,
-            d.grower, d.weight, d.oil_yield
+            mut histograms, set.b, set.m as u32, &set.growers, &set.weights, &set.yields, &set.days,
+            d.grower, d.weight, d.oil_yield, d.day
         ))
     }
 
@@ -165,8 +186,8 @@ impl Library {
         new_grower: u32,
     ) -> u32 {
         call!(self => meltusk_record_move(
-            mut histograms, set.b, set.m as u32, &set.growers, &set.weights, &set.yields,
-            d.grower, d.weight, d.oil_yield, new_grower
+            mut histograms, set.b, set.m as u32, &set.growers, &set.weights, &set.yields, &set.days,
+            d.grower, d.weight, d.oil_yield, d.day, new_grower
         ))
     }
 
@@ -179,7 +200,7 @@ impl Library {
     ) -> Costed {
         call!(self => meltusk_cost(
             card.rr, card.sr, card.rw, set.b, set.m as u32,
-            &set.growers, &set.weights, &set.yields, &ends, &histograms
+            &set.growers, &set.weights, &set.yields, &set.days, &ends, &histograms
         ))
     }
 
@@ -193,7 +214,7 @@ impl Library {
     ) -> Planned {
         call!(self => meltusk_plan(
             card.rr, card.sr, card.rw, limits.read, limits.insert, set.b, set.m as u32,
-            &set.growers, &set.weights, &set.yields, &histograms, mut ends
+            &set.growers, &set.weights, &set.yields, &set.days, &histograms, mut ends
         ))
     }
 
@@ -207,14 +228,14 @@ impl Library {
     ) -> Listed {
         call!(self => meltusk_list_layouts(
             card.rr, card.sr, card.rw, limits.read, limits.insert, set.b, set.m as u32,
-            &set.growers, &set.weights, &set.yields, &histograms, mut text
+            &set.growers, &set.weights, &set.yields, &set.days, &histograms, mut text
         ))
     }
 
     #[inline]
     pub fn write_snapshot(&self, c: &View, text: &mut [u8]) -> Written {
         call!(self => meltusk_write_snapshot(
-            &c.directory, &c.growers, &c.weights, &c.yields, mut text
+            &c.directory, &c.growers, &c.weights, &c.yields, &c.days, mut text
         ))
     }
 
@@ -227,7 +248,22 @@ impl Library {
         work: &mut [u32],
     ) -> Written {
         call!(self => meltusk_write_sheet(
-            &c.directory, &c.growers, &c.weights, &c.yields, mut text, mut order, mut work
+            &c.directory, &c.growers, &c.weights, &c.yields, &c.days, mut text, mut order, mut work
+        ))
+    }
+
+    #[inline]
+    pub fn write_term_sheet(
+        &self,
+        c: &View,
+        day: u32,
+        text: &mut [u8],
+        order: &mut [u32],
+        work: &mut [u32],
+    ) -> Written {
+        call!(self => meltusk_write_term_sheet(
+            &c.directory, &c.growers, &c.weights, &c.yields, &c.days, day,
+            mut text, mut order, mut work
         ))
     }
 
@@ -238,8 +274,9 @@ impl Library {
         growers: &mut [u32],
         weights: &mut [u32],
         yields: &mut [u32],
+        days: &mut [u32],
     ) -> Applied {
-        call!(self => meltusk_read_snapshot(&text, mut growers, mut weights, mut yields))
+        call!(self => meltusk_read_snapshot(&text, mut growers, mut weights, mut yields, mut days))
     }
 
     #[inline]
@@ -249,8 +286,9 @@ impl Library {
         growers: &mut [u32],
         weights: &mut [u32],
         yields: &mut [u32],
+        days: &mut [u32],
     ) -> Imported {
-        call!(self => meltusk_import_csv(&text, mut growers, mut weights, mut yields))
+        call!(self => meltusk_import_csv(&text, mut growers, mut weights, mut yields, mut days))
     }
 
     #[inline]
@@ -260,13 +298,29 @@ impl Library {
         growers: &[u32],
         weights: &[u32],
         yields: &[u32],
+        days: &[u32],
         text: &mut [u8],
     ) -> Written {
-        call!(self => meltusk_export_csv(used, &growers, &weights, &yields, mut text))
+        call!(self => meltusk_export_csv(used, &growers, &weights, &yields, &days, mut text))
     }
 }
 
 /// Adds to the three numbers of a tally.
 pub fn tally_add(rr: &mut u64, sr: &mut u64, rw: &mut u64, more: &Counts) -> u32 {
     unsafe { declared::meltusk_tally_add(rr, sr, rw, more.rr, more.sr, more.rw) }
+}
+
+/// The day number of a date.
+pub fn day_of(year: u32, month: u32, day: u32) -> DayAnswer {
+    unsafe { declared::meltusk_day_of(year, month, day) }
+}
+
+/// The date of a day number.
+pub fn date_of(day: u32) -> DateAnswer {
+    unsafe { declared::meltusk_date_of(day) }
+}
+
+/// The term that holds a day.
+pub fn term_of(day: u32) -> TermAnswer {
+    unsafe { declared::meltusk_term_of(day) }
 }

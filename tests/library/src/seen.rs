@@ -68,6 +68,11 @@ impl Seen {
         self.edges.contains(&(call, slice, edge))
     }
 
+    /// Every refusal that has occurred, 0 for accepted.
+    pub fn refusals(&self) -> BTreeSet<u32> {
+        self.answers.keys().map(|&(_, refusal)| refusal).collect()
+    }
+
     /// How often a call was made.
     pub fn count(&self, call: &str) -> u64 {
         let of_call = self.answers.iter().filter(|((name, _), _)| *name == call);

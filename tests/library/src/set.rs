@@ -3,13 +3,13 @@
 use crate::answers::Applied;
 use crate::column::Column;
 use second::random::Random;
-use second::{UnlaidSet, BLOCK_LIMIT};
+use second::{Delivery, UnlaidSet, BLOCK_LIMIT};
 
-/// What owns growers, weights and yields.
+/// What owns growers, weights, yields and days.
 pub trait Slots {
-    fn slices(&mut self) -> [&mut Vec<u32>; 3];
+    fn slices(&mut self) -> [&mut Vec<u32>; 4];
 
-    /// Changes the length of all three slices; new slots hold 0, 0, 0.
+    /// Changes the length of all four slices; new slots hold zeros.
     fn resize(&mut self, length: usize) {
         for slice in self.slices() {
             slice.resize(length, 0);
@@ -25,22 +25,30 @@ pub struct Set {
     pub growers: Vec<u32>,
     pub weights: Vec<u32>,
     pub yields: Vec<u32>,
+    pub days: Vec<u32>,
 }
 
 impl Set {
     pub fn view(&self) -> UnlaidSet<'_> {
-        self.over([&self.growers, &self.weights, &self.yields])
+        self.over([&self.growers, &self.weights, &self.yields, &self.days])
     }
 
     /// The set's block length and used slots with other slices.
-    pub fn over<'a>(&self, [growers, weights, yields]: [&'a [u32]; 3]) -> UnlaidSet<'a> {
+    pub fn over<'a>(&self, slices: [&'a [u32]; 4]) -> UnlaidSet<'a> {
+        let [growers, weights, yields, days] = slices;
         UnlaidSet {
             b: self.block,
             m: self.used as usize,
             growers,
             weights,
             yields,
+            days,
         }
+    }
+
+    /// The delivery in a slot.
+    pub fn slot(&self, i: usize) -> Delivery {
+        Delivery::new(self.growers[i], self.weights[i], self.yields[i]).on(self.days[i])
     }
 
     /// The column that a layout of the set gave.
@@ -50,13 +58,21 @@ impl Set {
             growers: self.growers,
             weights: self.weights,
             yields: self.yields,
+            days: self.days,
         }
     }
 }
 
 impl Slots for Set {
-    fn slices(&mut self) -> [&mut Vec<u32>; 3] {
-        [&mut self.growers, &mut self.weights, &mut self.yields]
+    fn slices(&mut self) -> [&mut Vec<u32>; 4] {
+        let Set {
+            growers,
+            weights,
+            yields,
+            days,
+            ..
+        } = self;
+        [growers, weights, yields, days]
     }
 }
 

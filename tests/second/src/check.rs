@@ -7,7 +7,7 @@ pub const ACCEPTED: u32 = 0;
 pub const PRICES: u32 = 1;
 /// B 1 to 4,096.
 pub const BLOCK_LENGTH: u32 = 2;
-/// Three slices of one length C, 1 to 262,144.
+/// Four slices of one length C, 1 to 262,144.
 pub const SLICES: u32 = 3;
 /// M in range for an unlaid set (an export: 0 to C).
 pub const RECORD_COUNT: u32 = 4;
@@ -40,6 +40,9 @@ pub const COLUMN_TWICE: u32 = 17;
 /// Each row has the header's field count, no broken quote, and its numbers in
 /// range.
 pub const ROW: u32 = 18;
+/// Days at most 36,524, of records asked just after 8; a date exists and lies in
+/// 2000 to 2099; a day to be written is 0.
+pub const DAYS: u32 = 19;
 /// A set to be listed has at most 12 blocks; asked ahead of 11.
 pub const LISTED_BLOCKS: u32 = 23;
 
@@ -78,12 +81,10 @@ pub fn block_length(b: u32) -> Checked<()> {
 
 /// Check 3.
 #[inline]
-pub fn slices(growers: &[u32], weights: &[u32], yields: &[u32]) -> Checked<()> {
+pub fn slices(growers: &[u32], weights: &[u32], yields: &[u32], days: &[u32]) -> Checked<()> {
     let c = growers.len();
-    ensure(
-        weights.len() == c && yields.len() == c && (1..=SLOT_LIMIT).contains(&c),
-        SLICES,
-    )
+    let even = [weights, yields, days].iter().all(|slice| slice.len() == c);
+    ensure(even && (1..=SLOT_LIMIT).contains(&c), SLICES)
 }
 
 /// Whether all numbers are at most `limit`; no early exit, so that the loop
@@ -98,6 +99,19 @@ fn all_within(numbers: &[u32], limit: u32) -> bool {
 pub fn values(weights: &[u32], yields: &[u32]) -> Checked<()> {
     let good = all_within(weights, WEIGHT_LIMIT) && all_within(yields, YIELD_LIMIT);
     ensure(good, VALUES)
+}
+
+/// Whether check 19 passes over a run of records. Of several runs 8 is asked of
+/// all before 19 is asked of one.
+#[inline]
+pub fn days_in_range(days: &[u32]) -> bool {
+    all_within(days, DAY_LIMIT)
+}
+
+/// Check 19 over a run of records.
+#[inline]
+pub fn days(days: &[u32]) -> Checked<()> {
+    ensure(days_in_range(days), DAYS)
 }
 
 /// Check 9.

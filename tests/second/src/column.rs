@@ -56,10 +56,11 @@ pub(crate) fn check_column(
     growers: &[u32],
     weights: &[u32],
     yields: &[u32],
+    days: &[u32],
     directory: &[u32],
 ) -> Checked<Shape> {
     check_directory_block_length(directory)?;
-    check::slices(growers, weights, yields)?;
+    check::slices(growers, weights, yields, days)?;
     check_directory(directory, growers.len())
 }
 
@@ -107,33 +108,37 @@ pub(crate) fn scan_counts(blocks: u64) -> Counts {
 /// Records looked at together in a scan.
 pub(crate) const STRIDE: usize = 64;
 
-/// Check 8 of all records of one partition, then the totals of its growers
-/// lo to hi. The loops have no branch per record, so each does several
-/// records at a time; a stride without a match is passed over. Not inlined, so
-/// that its loops stay the same whatever stands around the call.
+/// Check 8 of all records of one partition, then the totals of its growers lo to
+/// hi, on the days of the span if these are looked at. Check 19 is the caller's.
+/// The loops have no branch per record, so each does several records at a time; a
+/// stride without a match is passed over. Not inlined, so that its loops stay the
+/// same whatever stands around the call.
 #[inline(never)]
-fn scan_totals(
+fn scan_totals<const DATED: bool>(
     growers: &[u32],
     weights: &[u32],
     yields: &[u32],
-    lo: u32,
-    hi: u32,
+    days: &[u32],
+    (lo, hi): (u32, u32),
+    span: &Span,
 ) -> Checked<Totals> {
     check::values(weights, yields)?;
-    let span = hi - lo;
-    let matches = |g: u32| g.wrapping_sub(lo) <= span;
+    let width = hi - lo;
+    let matches = |g: u32, n: u32| (g.wrapping_sub(lo) <= width) & (!DATED | span.holds(n));
     let mut totals = Totals::ZERO;
     let strides = growers
         .chunks(STRIDE)
         .zip(weights.chunks(STRIDE))
-        .zip(yields.chunks(STRIDE));
-    for ((gs, ws), ys) in strides {
-        if !gs.iter().fold(false, |any, &g| any | matches(g)) {
+        .zip(yields.chunks(STRIDE))
+        .zip(days.chunks(STRIDE));
+    for (((gs, ws), ys), ns) in strides {
+        let dated = gs.iter().zip(ns);
+        if !dated.fold(false, |any, (&g, &n)| any | matches(g, n)) {
             continue;
         }
-        for ((&g, &w), &y) in gs.iter().zip(ws).zip(ys) {
-            let weight = if matches(g) { w } else { 0 };
-            totals.records += u64::from(matches(g));
+        for (((&g, &w), &y), &n) in gs.iter().zip(ws).zip(ys).zip(ns) {
+            let weight = if matches(g, n) { w } else { 0 };
+            totals.records += u64::from(matches(g, n));
             totals.weight += u64::from(weight);
             totals.oil += u64::from(weight) * u64::from(y);
         }
@@ -144,19 +149,29 @@ fn scan_totals(
 /// Lowest slot of one partition that holds a record equal to `d`. Not inlined,
 /// as above.
 #[inline(never)]
-fn scan_match(growers: &[u32], weights: &[u32], yields: &[u32], d: &Delivery) -> Option<usize> {
+fn scan_match(
+    growers: &[u32],
+    weights: &[u32],
+    yields: &[u32],
+    days: &[u32],
+    d: &Delivery,
+) -> Option<usize> {
     growers
         .iter()
         .zip(weights)
         .zip(yields)
-        .position(|((&g, &w), &y)| (g == d.grower) & (w == d.weight) & (y == d.oil_yield))
+        .zip(days)
+        .position(|(((&g, &w), &y), &n)| {
+            (g == d.grower) & (w == d.weight) & (y == d.oil_yield) & (n == d.day)
+        })
 }
 
-/// The three slices as one array of records.
+/// The four slices as one array of records.
 struct Slots<'a> {
     growers: &'a mut [u32],
     weights: &'a mut [u32],
     yields: &'a mut [u32],
+    days: &'a mut [u32],
 }
 
 impl Slots<'_> {
@@ -165,6 +180,7 @@ impl Slots<'_> {
         self.growers[to] = self.growers[from];
         self.weights[to] = self.weights[from];
         self.yields[to] = self.yields[from];
+        self.days[to] = self.days[from];
     }
 
     #[inline]
@@ -172,6 +188,7 @@ impl Slots<'_> {
         self.growers[at] = d.grower;
         self.weights[at] = d.weight;
         self.yields[at] = d.oil_yield;
+        self.days[at] = d.day;
     }
 
     /// The free slot `hole` lies just past the last of the partitions whose
@@ -207,12 +224,13 @@ impl Slots<'_> {
     }
 }
 
-/// Checks 2 3 4 5 6 8, then the directory of the layout. No record moves.
+/// Checks 2 3 4 5 6 8 19, then the directory of the layout. No record moves.
 pub fn apply_layout(set: &UnlaidSet, ends: &[u32]) -> DirectoryAnswer {
     let checked = set
         .check_order()
         .and_then(|()| set.check_layout(ends))
-        .and_then(|()| set.check_values());
+        .and_then(|()| set.check_values())
+        .and_then(|()| set.check_days());
     if let Err(number) = checked {
         return DirectoryAnswer::refused(number);
     }
@@ -232,40 +250,50 @@ pub fn apply_layout(set: &UnlaidSet, ends: &[u32]) -> DirectoryAnswer {
     }
 }
 
-/// Scans the partitions from lo's to hi's, after checks 2 3 6 7.
+/// Scans the partitions from lo's to hi's, after checks 2 3 6 7: 8 of them all,
+/// then 19 of them all and of the days named.
 fn read(
     growers: &[u32],
     weights: &[u32],
     yields: &[u32],
+    days: &[u32],
     directory: &[u32],
-    lo: u32,
-    hi: u32,
+    (lo, hi): (u32, u32),
+    span: &Span,
 ) -> Checked<ReadAnswer> {
-    let shape = check_column(growers, weights, yields, directory)?;
+    let shape = check_column(growers, weights, yields, days, directory)?;
     ensure(lo <= hi, check::RANGE)?;
     let first = partition_of(directory, shape.k, lo);
     let last = partition_of(directory, shape.k, hi);
     let mut at = start(directory, first);
     let mut blocks = 0;
     let mut totals = Totals::ZERO;
+    let mut dated = span.in_range();
     for p in first..=last {
         let past = at + length(directory, p);
         if past == at {
             continue;
         }
-        let part = scan_totals(
+        let scan = match *span == Span::ALL {
+            true => scan_totals::<false>,
+            false => scan_totals::<true>,
+        };
+        let part = scan(
             &growers[at..past],
             &weights[at..past],
             &yields[at..past],
-            lo,
-            hi,
+            &days[at..past],
+            (lo, hi),
+            span,
         )?;
+        dated &= check::days_in_range(&days[at..past]);
         totals.records += part.records;
         totals.weight += part.weight;
         totals.oil += part.oil;
         blocks += block_count(past - at, shape.b);
         at = past;
     }
+    ensure(dated, check::DAYS)?;
     Ok(ReadAnswer {
         refusal: check::ACCEPTED,
         totals,
@@ -273,43 +301,82 @@ fn read(
     })
 }
 
-/// Checks 2 3 6 8.
+/// Checks 2 3 6 8 19.
 pub fn find(
     growers: &[u32],
     weights: &[u32],
     yields: &[u32],
+    days: &[u32],
     directory: &[u32],
     g: u32,
 ) -> ReadAnswer {
-    read(growers, weights, yields, directory, g, g).unwrap_or_else(ReadAnswer::refused)
+    read(
+        growers,
+        weights,
+        yields,
+        days,
+        directory,
+        (g, g),
+        &Span::ALL,
+    )
+    .unwrap_or_else(ReadAnswer::refused)
 }
 
-/// Checks 2 3 6 7 8.
+/// Checks 2 3 6 7 8 19.
 pub fn range(
     growers: &[u32],
     weights: &[u32],
     yields: &[u32],
+    days: &[u32],
     directory: &[u32],
     lo: u32,
     hi: u32,
 ) -> ReadAnswer {
-    read(growers, weights, yields, directory, lo, hi).unwrap_or_else(ReadAnswer::refused)
+    read(
+        growers,
+        weights,
+        yields,
+        days,
+        directory,
+        (lo, hi),
+        &Span::ALL,
+    )
+    .unwrap_or_else(ReadAnswer::refused)
 }
 
-/// Checks 2 3 6 8 12, then the new record goes just past its partition.
+/// Checks 2 3 6 7 8 19, the last of the days named too; only records on these
+/// days match.
+pub fn range_days(
+    growers: &[u32],
+    weights: &[u32],
+    yields: &[u32],
+    days: &[u32],
+    directory: &[u32],
+    (lo, hi): (u32, u32),
+    span: Span,
+) -> ReadAnswer {
+    read(growers, weights, yields, days, directory, (lo, hi), &span)
+        .unwrap_or_else(ReadAnswer::refused)
+}
+
+/// Checks 2 3 6 8 19 12, then the new record goes just past its partition.
 pub fn insert(
     growers: &mut [u32],
     weights: &mut [u32],
     yields: &mut [u32],
+    days: &mut [u32],
     directory: &mut [u32],
     d: Delivery,
 ) -> WriteAnswer {
-    let shape = match check_column(growers, weights, yields, directory) {
+    let shape = match check_column(growers, weights, yields, days, directory) {
         Ok(shape) => shape,
         Err(number) => return WriteAnswer::refused(number),
     };
     if !d.in_range() {
         return WriteAnswer::refused(check::VALUES);
+    }
+    if !d.day_in_range() {
+        return WriteAnswer::refused(check::DAYS);
     }
     if shape.used == growers.len() {
         return WriteAnswer::refused(check::FULL);
@@ -319,6 +386,7 @@ pub fn insert(
         growers,
         weights,
         yields,
+        days,
     };
     let later = &directory[LENGTHS + target + 1..LENGTHS + shape.k];
     let hole = slots.ripple_back(later, shape.used);
@@ -345,27 +413,32 @@ struct Found {
     scan: Counts,
 }
 
-/// Checks 2 3 6 8 13 of delete and move; 13 reports its scan.
+/// Checks 2 3 6 8 19 13 of delete and move; 13 reports its scan.
 fn locate(
     growers: &[u32],
     weights: &[u32],
     yields: &[u32],
+    days: &[u32],
     directory: &[u32],
     d: &Delivery,
 ) -> Result<Found, WriteAnswer> {
-    let shape = check_column(growers, weights, yields, directory).map_err(WriteAnswer::refused)?;
+    let shape =
+        check_column(growers, weights, yields, days, directory).map_err(WriteAnswer::refused)?;
     ensure(d.in_range(), check::VALUES).map_err(WriteAnswer::refused)?;
     let partition = partition_of(directory, shape.k, d.grower);
     let n = length(directory, partition);
     let at = start(directory, partition);
-    let (gs, ws, ys) = (
+    let (gs, ws, ys, ns) = (
         &growers[at..at + n],
         &weights[at..at + n],
         &yields[at..at + n],
+        &days[at..at + n],
     );
     check::values(ws, ys).map_err(WriteAnswer::refused)?;
+    ensure(d.day_in_range(), check::DAYS).map_err(WriteAnswer::refused)?;
+    check::days(ns).map_err(WriteAnswer::refused)?;
     let scan = scan_counts(block_count(n, shape.b));
-    match scan_match(gs, ws, ys, d) {
+    match scan_match(gs, ws, ys, ns, d) {
         Some(i) => Ok(Found {
             shape,
             partition,
@@ -380,16 +453,17 @@ fn locate(
     }
 }
 
-/// Checks 2 3 6 8 13, then the lowest matching record is removed and the
-/// freed slot at the end becomes 0, 0, 0.
+/// Checks 2 3 6 8 19 13, then the lowest matching record is removed and the
+/// freed slot at the end becomes 0, 0, 0, 0.
 pub fn delete(
     growers: &mut [u32],
     weights: &mut [u32],
     yields: &mut [u32],
+    days: &mut [u32],
     directory: &mut [u32],
     d: Delivery,
 ) -> WriteAnswer {
-    let found = match locate(growers, weights, yields, directory, &d) {
+    let found = match locate(growers, weights, yields, days, directory, &d) {
         Ok(found) => found,
         Err(answer) => return answer,
     };
@@ -398,6 +472,7 @@ pub fn delete(
         growers,
         weights,
         yields,
+        days,
     };
     let last = found.start + length(directory, p) - 1;
     slots.copy(last, found.slot);
@@ -416,17 +491,18 @@ pub fn delete(
     }
 }
 
-/// Checks 2 3 6 8 13, then the lowest matching record gets the new grower
-/// and goes to that grower's partition. Weight and yield are kept.
+/// Checks 2 3 6 8 19 13, then the lowest matching record gets the new grower
+/// and goes to that grower's partition. Weight, yield and day are kept.
 pub fn move_delivery(
     growers: &mut [u32],
     weights: &mut [u32],
     yields: &mut [u32],
+    days: &mut [u32],
     directory: &mut [u32],
     d: Delivery,
     new_grower: u32,
 ) -> WriteAnswer {
-    let found = match locate(growers, weights, yields, directory, &d) {
+    let found = match locate(growers, weights, yields, days, directory, &d) {
         Ok(found) => found,
         Err(answer) => return answer,
     };
@@ -440,6 +516,7 @@ pub fn move_delivery(
         growers,
         weights,
         yields,
+        days,
     };
     let passed = if from <= to {
         // Forward, or within (nothing passed, the hole is the last slot).
@@ -472,7 +549,7 @@ pub fn move_delivery(
 /// Checks 2, 3 (growers alone) and 6, then the span of the partition of `g`.
 pub fn partition_span(growers: &[u32], directory: &[u32], g: u32) -> SpanAnswer {
     let checked = check_directory_block_length(directory)
-        .and_then(|()| check::slices(growers, growers, growers))
+        .and_then(|()| check::slices(growers, growers, growers, growers))
         .and_then(|()| check_directory(directory, growers.len()));
     match checked {
         Ok(shape) => {

@@ -63,11 +63,12 @@ fn try_cost(card: &PriceCard, set: &UnlaidSet, histograms: &[u32], ends: &[u32])
     set.check_order()?;
     set.check_layout(ends)?;
     set.check_values()?;
+    set.check_days()?;
     check::histograms(histograms)?;
     Ok(to_bill(layout_cost(card, histograms, ends)))
 }
 
-/// Checks 1 (prices) 2 3 4 5 6 8 9, then the bill.
+/// Checks 1 (prices) 2 3 4 5 6 8 19 9, then the bill.
 pub fn cost(card: &PriceCard, set: &UnlaidSet, histograms: &[u32], ends: &[u32]) -> CostAnswer {
     match try_cost(card, set, histograms, ends) {
         Ok(bill) => CostAnswer {

@@ -4,7 +4,7 @@
 use crate::check::{self, ensure, Checked};
 use crate::types::*;
 
-/// The needed columns, in the order of the three slices.
+/// The needed columns, in the order of the first three slices.
 const NAMES: [&[u8]; 3] = [b"grower", b"weight", b"yield"];
 
 /// The largest number of each.
@@ -165,8 +165,9 @@ fn try_import(
     growers: &mut [u32],
     weights: &mut [u32],
     yields: &mut [u32],
+    days: &mut [u32],
 ) -> Checked<usize> {
-    check::slices(growers, weights, yields)?;
+    check::slices(growers, weights, yields, days)?;
     let mut reader = Reader { rest: text };
     let columns = reader.header()?;
     let mut deliveries = Vec::new();
@@ -174,22 +175,23 @@ fn try_import(
         deliveries.push(reader.row(&columns).ok_or(check::ROW)?);
     }
     ensure(deliveries.len() <= growers.len(), check::FULL)?;
-    let slots = growers.iter_mut().zip(weights).zip(yields);
-    for (((grower, weight), oil_yield), d) in slots.zip(&deliveries) {
-        (*grower, *weight, *oil_yield) = (d.grower, d.weight, d.oil_yield);
+    let slots = growers.iter_mut().zip(weights).zip(yields).zip(days);
+    for ((((grower, weight), oil_yield), day), d) in slots.zip(&deliveries) {
+        (*grower, *weight, *oil_yield, *day) = (d.grower, d.weight, d.oil_yield, d.day);
     }
     Ok(deliveries.len())
 }
 
-/// Checks 3 16 17 18 12, then stores the rows from slot 0 on. Later slots
-/// stay as they were.
+/// Checks 3 16 17 18 12, then stores the rows from slot 0 on, with day 0. Later
+/// slots stay as they were.
 pub fn csv_import(
     text: &[u8],
     growers: &mut [u32],
     weights: &mut [u32],
     yields: &mut [u32],
+    days: &mut [u32],
 ) -> ImportAnswer {
-    match try_import(text, growers, weights, yields) {
+    match try_import(text, growers, weights, yields, days) {
         Ok(rows) => ImportAnswer {
             refusal: check::ACCEPTED,
             rows,
@@ -229,12 +231,14 @@ fn try_export(
     growers: &[u32],
     weights: &[u32],
     yields: &[u32],
+    days: &[u32],
     out: &mut [u8],
 ) -> Checked<usize> {
-    check::slices(growers, weights, yields)?;
+    check::slices(growers, weights, yields, days)?;
     ensure(used <= growers.len(), check::RECORD_COUNT)?;
     let (growers, weights, yields) = (&growers[..used], &weights[..used], &yields[..used]);
     check::values(weights, yields)?;
+    check::days(&days[..used])?;
     let size = csv_size(growers, weights, yields);
     ensure(size <= out.len(), check::ROOM)?;
     let (header, mut rest) = out.split_at_mut(HEADER.len());
@@ -247,16 +251,17 @@ fn try_export(
     Ok(size)
 }
 
-/// Checks 3 4 (M is 0 to C) 8 (of the first M slots) 15, then the text. Bytes
-/// past it stay as they were.
+/// Checks 3 4 (M is 0 to C) 8 19 (of the first M slots) 15, then the text, which
+/// has no day. Bytes past it stay as they were.
 pub fn csv_export(
     used: usize,
     growers: &[u32],
     weights: &[u32],
     yields: &[u32],
+    days: &[u32],
     out: &mut [u8],
 ) -> TextAnswer {
-    match try_export(used, growers, weights, yields, out) {
+    match try_export(used, growers, weights, yields, days, out) {
         Ok(written) => TextAnswer {
             refusal: check::ACCEPTED,
             written,

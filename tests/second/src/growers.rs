@@ -1,6 +1,6 @@
 //! The next and the previous grower with records.
 
-use crate::check::{self, Checked};
+use crate::check::{self, ensure, Checked};
 use crate::column::{block_count, check_column, length, partition_of, scan_counts, start, STRIDE};
 use crate::types::*;
 
@@ -35,22 +35,25 @@ fn search<const DOWN: bool>(
     growers: &[u32],
     weights: &[u32],
     yields: &[u32],
+    days: &[u32],
     directory: &[u32],
     g: u32,
 ) -> Checked<GrowerAnswer> {
-    let shape = check_column(growers, weights, yields, directory)?;
+    let shape = check_column(growers, weights, yields, days, directory)?;
     // The distance of a grower on the other side wraps, past the furthest.
     let up = |held: u32| held.wrapping_sub(g);
     let down = |held: u32| g.wrapping_sub(held);
     let mut p = partition_of(directory, shape.k, g);
     let mut at = start(directory, p);
     let mut blocks = 0;
+    let mut dated = true;
     loop {
         let n = length(directory, p);
         let mut found = None;
         if n > 0 {
             let part = &growers[at..at + n];
             check::values(&weights[at..at + n], &yields[at..at + n])?;
+            dated &= check::days_in_range(&days[at..at + n]);
             blocks += block_count(n, shape.b);
             // Laid growers rise: this end of the partition is mostly the nearer one.
             found = if DOWN {
@@ -61,6 +64,7 @@ fn search<const DOWN: bool>(
         }
         let is_last = p == if DOWN { 0 } else { shape.k - 1 };
         if found.is_some() || is_last {
+            ensure(dated, check::DAYS)?;
             let (grower, records) = found.unwrap_or_default();
             return Ok(GrowerAnswer {
                 refusal: check::ACCEPTED,
@@ -79,26 +83,30 @@ fn search<const DOWN: bool>(
     }
 }
 
-/// Checks 2 3 6 8, then the smallest grower at or above `g` with a record, and
+/// Checks 2 3 6 8 19, then the smallest grower at or above `g` with a record, and
 /// his record count.
 pub fn next_grower(
     growers: &[u32],
     weights: &[u32],
     yields: &[u32],
+    days: &[u32],
     directory: &[u32],
     g: u32,
 ) -> GrowerAnswer {
-    search::<false>(growers, weights, yields, directory, g).unwrap_or_else(GrowerAnswer::refused)
+    search::<false>(growers, weights, yields, days, directory, g)
+        .unwrap_or_else(GrowerAnswer::refused)
 }
 
-/// Checks 2 3 6 8, then the largest grower at or below `g` with a record, and
+/// Checks 2 3 6 8 19, then the largest grower at or below `g` with a record, and
 /// his record count.
 pub fn previous_grower(
     growers: &[u32],
     weights: &[u32],
     yields: &[u32],
+    days: &[u32],
     directory: &[u32],
     g: u32,
 ) -> GrowerAnswer {
-    search::<true>(growers, weights, yields, directory, g).unwrap_or_else(GrowerAnswer::refused)
+    search::<true>(growers, weights, yields, days, directory, g)
+        .unwrap_or_else(GrowerAnswer::refused)
 }

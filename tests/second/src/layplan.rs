@@ -23,10 +23,11 @@ struct Input {
     limits: Limits,
     b: u32,
     m: usize,
-    /// One more slot than deliveries; the free slot holds zeros.
+    /// One more slot than deliveries; the free slot holds zeros. Every day is 0.
     growers: Vec<u32>,
     weights: Vec<u32>,
     yields: Vec<u32>,
+    days: Vec<u32>,
     calls: Vec<CallLine>,
 }
 
@@ -58,6 +59,7 @@ fn read_input(text: &[u8]) -> Option<Input> {
         growers: vec![0; m + 1],
         weights: vec![0; m + 1],
         yields: vec![0; m + 1],
+        days: vec![0; m + 1],
         calls: Vec::with_capacity(q as usize),
     };
     for s in 0..m {
@@ -78,11 +80,7 @@ fn read_input(text: &[u8]) -> Option<Input> {
 
 fn record(set: &UnlaidSet, histograms: &mut [u32], call: &CallLine) -> u32 {
     let [kind, grower, weight, oil_yield, new_grower] = *call;
-    let d = Delivery {
-        grower,
-        weight,
-        oil_yield,
-    };
+    let d = Delivery::new(grower, weight, oil_yield);
     match kind {
         1 => record_find(set, histograms, grower),
         2 => record_range(set, histograms, grower, weight),
@@ -100,6 +98,7 @@ fn run(text: &[u8]) -> Checked<Vec<u8>> {
         growers: &input.growers,
         weights: &input.weights,
         yields: &input.yields,
+        days: &input.days,
     };
     let mut histograms = [0; HISTOGRAM_LEN];
     for call in &input.calls {

@@ -1,5 +1,5 @@
-//! The ledger: a bag of at most C deliveries, with the same five calls and the
-//! two that step from grower to grower.
+//! The ledger: a bag of at most C deliveries, with the same calls and the two
+//! that step from grower to grower.
 
 use crate::check;
 use crate::types::*;
@@ -37,14 +37,22 @@ impl Ledger {
 
     /// Check 7, then the totals of the growers lo to hi.
     pub fn range(&self, lo: u32, hi: u32) -> (u32, Totals) {
+        self.range_days(lo, hi, Span::ALL)
+    }
+
+    /// Checks 7 and 19, then the totals of the growers lo to hi on these days.
+    pub fn range_days(&self, lo: u32, hi: u32, span: Span) -> (u32, Totals) {
         if lo > hi {
             return (check::RANGE, Totals::ZERO);
+        }
+        if !span.in_range() {
+            return (check::DAYS, Totals::ZERO);
         }
         let mut totals = Totals::ZERO;
         for d in self
             .records
             .iter()
-            .filter(|d| lo <= d.grower && d.grower <= hi)
+            .filter(|d| lo <= d.grower && d.grower <= hi && span.holds(d.day))
         {
             totals.records += 1;
             totals.weight += u64::from(d.weight);
@@ -75,10 +83,13 @@ impl Ledger {
         grower.map_or((0, 0), |g| (g, self.find(g).1.records))
     }
 
-    /// Checks 8 and 12.
+    /// Checks 8, 19 and 12.
     pub fn insert(&mut self, d: Delivery) -> u32 {
         if !d.in_range() {
             return check::VALUES;
+        }
+        if !d.day_in_range() {
+            return check::DAYS;
         }
         if self.records.len() >= self.capacity {
             return check::FULL;
@@ -87,10 +98,13 @@ impl Ledger {
         check::ACCEPTED
     }
 
-    /// Checks 8 and 13.
+    /// Checks 8, 19 and 13.
     pub fn delete(&mut self, d: Delivery) -> u32 {
         if !d.in_range() {
             return check::VALUES;
+        }
+        if !d.day_in_range() {
+            return check::DAYS;
         }
         let Some(at) = self.records.iter().position(|held| *held == d) else {
             return check::ABSENT;
@@ -99,10 +113,13 @@ impl Ledger {
         check::ACCEPTED
     }
 
-    /// Checks 8 and 13; one equal delivery gets the new grower.
+    /// Checks 8, 19 and 13; one equal delivery gets the new grower.
     pub fn move_delivery(&mut self, d: Delivery, new_grower: u32) -> u32 {
         if !d.in_range() {
             return check::VALUES;
+        }
+        if !d.day_in_range() {
+            return check::DAYS;
         }
         let Some(at) = self.records.iter().position(|held| *held == d) else {
             return check::ABSENT;

@@ -8,6 +8,7 @@
 
 #![forbid(unsafe_code)]
 
+pub mod calendar;
 pub mod check;
 pub mod column;
 pub mod cost;
@@ -28,8 +29,10 @@ pub mod tally;
 pub mod types;
 pub mod unlaid;
 
+pub use calendar::{date_of, day_of, term_of};
 pub use column::{
     apply_layout, delete, find, insert, move_delivery, partition_slice, partition_span, range,
+    range_days,
 };
 pub use cost::cost;
 pub use csv::{csv_export, csv_import, csv_size};
@@ -39,8 +42,10 @@ pub use layplan::layplan;
 pub use ledger::Ledger;
 pub use listing::{list_layouts, listing_size, permitted_layouts};
 pub use planner::{plan_by_listing, plan_by_table};
-pub use recorder::{record_delete, record_find, record_insert, record_move, record_range};
-pub use sheet::{settlement, sheet_size, sheet_write};
+pub use recorder::{
+    record_delete, record_find, record_insert, record_move, record_range, record_range_days,
+};
+pub use sheet::{settlement, sheet_size, sheet_write, term_sheet_write};
 pub use snapshot::{snapshot_read, snapshot_size, snapshot_write};
 pub use tally::tally_add;
 pub use types::*;

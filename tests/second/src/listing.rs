@@ -93,7 +93,7 @@ fn try_list(
     })
 }
 
-/// Checks 1 2 3 4 5 8 9 23 11 15, then a line a layout. Bytes past the lines
+/// Checks 1 2 3 4 5 8 19 9 23 11 15, then a line a layout. Bytes past the lines
 /// stay as they were.
 pub fn list_layouts(
     card: &PriceCard,

@@ -28,7 +28,7 @@ pub fn longest_partition(card: &PriceCard, limits: &Limits) -> usize {
     }
 }
 
-/// Checks 1 2 3 4 5 8 9.
+/// Checks 1 2 3 4 5 8 19 9.
 pub(crate) fn check_all(
     card: &PriceCard,
     limits: &Limits,
@@ -38,6 +38,7 @@ pub(crate) fn check_all(
     check::prices_and_limits(card, limits)?;
     set.check_order()?;
     set.check_values()?;
+    set.check_days()?;
     check::histograms(histograms)
 }
 

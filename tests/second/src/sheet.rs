@@ -1,6 +1,7 @@
 //! The settlement sheet of a column, and the program `settlement` on byte
 //! slices.
 
+use crate::calendar::term_of;
 use crate::check::{self, ensure, Checked};
 use crate::column::check_column;
 use crate::field::{refusal_text, wide_line_size, write_wide_line};
@@ -19,8 +20,7 @@ pub const fn sheet_size(growers: usize) -> usize {
 type Slot = (u32, u32);
 
 /// The slots in rising order of grower; those of one grower in rising order.
-fn sorted(growers: &[u32]) -> Vec<Slot> {
-    let mut slots: Vec<Slot> = growers.iter().copied().zip(0..).collect();
+fn sorted(mut slots: Vec<Slot>) -> Vec<Slot> {
     slots.sort_by_key(|&(grower, _)| grower);
     slots
 }
@@ -36,19 +36,33 @@ fn totals_of(slots: &[Slot], weights: &[u32], yields: &[u32]) -> Totals {
     totals
 }
 
+/// The sheet of all records, or of those of the term that holds a given day. The
+/// whole column is asked either way.
 fn try_write(
     growers: &[u32],
     weights: &[u32],
     yields: &[u32],
+    days: &[u32],
     directory: &[u32],
+    day: Option<u32>,
     out: &mut [u8],
     [order, work]: [&mut [u32]; 2],
 ) -> Checked<usize> {
-    let shape = check_column(growers, weights, yields, directory)?;
+    let shape = check_column(growers, weights, yields, days, directory)?;
     ensure(is_sound(growers, directory, &shape), check::SHAPE)?;
-    let m = shape.used;
-    check::values(&weights[..m], &yields[..m])?;
-    let slots = sorted(&growers[..m]);
+    let used = shape.used;
+    check::values(&weights[..used], &yields[..used])?;
+    check::days(&days[..used])?;
+    let span = match day.map(term_of) {
+        None => Span::ALL,
+        Some(term) => {
+            ensure(term.refusal == check::ACCEPTED, term.refusal)?;
+            Span::new(term.first, term.last)
+        }
+    };
+    let all = growers[..used].iter().copied().zip(0..);
+    let slots = sorted(all.filter(|&(_, s)| span.holds(days[s as usize])).collect());
+    let m = slots.len();
     let of_growers = || slots.chunk_by(|a, b| a.0 == b.0);
     let room = sheet_size(of_growers().count()) <= out.len();
     ensure(room && m <= order.len() && m <= work.len(), check::ROOM)?;
@@ -73,19 +87,8 @@ fn try_write(
     ))
 }
 
-/// Checks 2 3 6 (shape, then soundness) 8 15, then the text, the used slots in
-/// the order of the sheet, and as many zeros. What lies past them stays as it
-/// was.
-pub fn sheet_write(
-    growers: &[u32],
-    weights: &[u32],
-    yields: &[u32],
-    directory: &[u32],
-    out: &mut [u8],
-    order: &mut [u32],
-    work: &mut [u32],
-) -> TextAnswer {
-    match try_write(growers, weights, yields, directory, out, [order, work]) {
+fn answer(outcome: Checked<usize>) -> TextAnswer {
+    match outcome {
         Ok(written) => TextAnswer {
             refusal: check::ACCEPTED,
             written,
@@ -97,13 +100,52 @@ pub fn sheet_write(
     }
 }
 
+/// Checks 2 3 6 (shape, then soundness) 8 19 15, then the text, the used slots in
+/// the order of the sheet, and as many zeros. What lies past them stays as it
+/// was.
+pub fn sheet_write(
+    growers: &[u32],
+    weights: &[u32],
+    yields: &[u32],
+    days: &[u32],
+    directory: &[u32],
+    out: &mut [u8],
+    order: &mut [u32],
+    work: &mut [u32],
+) -> TextAnswer {
+    let lists = [order, work];
+    answer(try_write(
+        growers, weights, yields, days, directory, None, out, lists,
+    ))
+}
+
+/// The sheet of the term that holds the day, from that term's records alone.
+/// Checks as for the whole sheet, 19 of the day too; 15 asks room for the term's
+/// records, whose slots are the order.
+pub fn term_sheet_write(
+    growers: &[u32],
+    weights: &[u32],
+    yields: &[u32],
+    days: &[u32],
+    directory: &[u32],
+    day: u32,
+    out: &mut [u8],
+    order: &mut [u32],
+    work: &mut [u32],
+) -> TextAnswer {
+    let (day, lists) = (Some(day), [order, work]);
+    answer(try_write(
+        growers, weights, yields, days, directory, day, out, lists,
+    ))
+}
+
 fn run(text: &[u8]) -> Checked<Vec<u8>> {
     let accepted = |refusal: u32| match refusal {
         check::ACCEPTED => Ok(()),
         number => Err(number),
     };
-    let [mut growers, mut weights, mut yields] = [[0; SETTLEMENT_SLOTS]; 3];
-    let read = snapshot_read(text, &mut growers, &mut weights, &mut yields);
+    let [mut growers, mut weights, mut yields, mut days] = [[0; SETTLEMENT_SLOTS]; 4];
+    let read = snapshot_read(text, &mut growers, &mut weights, &mut yields, &mut days);
     accepted(read.refusal)?;
     let mut out = vec![0; sheet_size(SETTLEMENT_SLOTS)];
     let [mut order, mut work] = [[0; SETTLEMENT_SLOTS]; 2];
@@ -111,6 +153,7 @@ fn run(text: &[u8]) -> Checked<Vec<u8>> {
         &growers,
         &weights,
         &yields,
+        &days,
         &read.directory,
         &mut out,
         &mut order,

@@ -40,13 +40,15 @@ fn try_write(
     growers: &[u32],
     weights: &[u32],
     yields: &[u32],
+    days: &[u32],
     directory: &[u32],
     out: &mut [u8],
 ) -> Checked<usize> {
-    let shape = check_column(growers, weights, yields, directory)?;
+    let shape = check_column(growers, weights, yields, days, directory)?;
     ensure(is_sound(growers, directory, &shape), check::SHAPE)?;
     let m = shape.used;
     check::values(&weights[..m], &yields[..m])?;
+    ensure(days[..m].iter().all(|&day| day == 0), check::DAYS)?;
     ensure(snapshot_size(m, shape.k) <= out.len(), check::ROOM)?;
     let mut at = write_line(out, 0, &[directory[0], m as u32, directory[1]]);
     for p in 0..shape.k {
@@ -58,16 +60,17 @@ fn try_write(
     Ok(at)
 }
 
-/// Checks 2 3 6 (shape, then soundness) 8 15, then the text. Bytes past it
-/// stay as they were.
+/// Checks 2 3 6 (shape, then soundness) 8 19 (every day is 0) 15, then the text.
+/// Bytes past it stay as they were.
 pub fn snapshot_write(
     growers: &[u32],
     weights: &[u32],
     yields: &[u32],
+    days: &[u32],
     directory: &[u32],
     out: &mut [u8],
 ) -> TextAnswer {
-    match try_write(growers, weights, yields, directory, out) {
+    match try_write(growers, weights, yields, days, directory, out) {
         Ok(written) => TextAnswer {
             refusal: check::ACCEPTED,
             written,
@@ -119,11 +122,7 @@ fn read_body(
     for p in 0..k {
         for _ in 0..directory[LENGTHS + p] {
             let ([grower, weight, oil_yield], next) = read_line_u32::<3>(text, at)?;
-            let d = Delivery {
-                grower,
-                weight,
-                oil_yield,
-            };
+            let d = Delivery::new(grower, weight, oil_yield);
             if !d.in_range() || partition_of(&directory, k, grower) != p {
                 return None;
             }
@@ -138,8 +137,9 @@ fn try_read(
     growers: &mut [u32],
     weights: &mut [u32],
     yields: &mut [u32],
+    days: &mut [u32],
 ) -> Checked<[u32; DIRECTORY_LEN]> {
-    check::slices(growers, weights, yields)?;
+    check::slices(growers, weights, yields, days)?;
     let head = read_head(text).ok_or(check::TEXT)?;
     let m = head.1;
     ensure(m <= growers.len(), check::FULL)?;
@@ -148,20 +148,22 @@ fn try_read(
     for s in 0..m {
         let (record, next) = read_line_u32::<3>(text, at).ok_or(check::TEXT)?;
         [growers[s], weights[s], yields[s]] = record;
+        days[s] = 0;
         at = next;
     }
     Ok(directory)
 }
 
 /// Checks 3, then 12 if line 1 is three numbers in range, then 14. Fills the
-/// first M slots; later slots stay as they were.
+/// first M slots, with day 0; later slots stay as they were.
 pub fn snapshot_read(
     text: &[u8],
     growers: &mut [u32],
     weights: &mut [u32],
     yields: &mut [u32],
+    days: &mut [u32],
 ) -> DirectoryAnswer {
-    match try_read(text, growers, weights, yields) {
+    match try_read(text, growers, weights, yields, days) {
         Ok(directory) => DirectoryAnswer {
             refusal: check::ACCEPTED,
             directory,

@@ -12,6 +12,8 @@ pub const SLOT_LIMIT: usize = 262_144;
 pub const WEIGHT_LIMIT: u32 = 100_000;
 /// Largest oil yield in hundredths of a per cent.
 pub const YIELD_LIMIT: u32 = 10_000;
+/// Largest day number: 31 December 2099, of days counted from 1 January 2000.
+pub const DAY_LIMIT: u32 = 36_524;
 /// Largest price.
 pub const PRICE_LIMIT: u32 = 1_000;
 /// Largest read or insert limit.
@@ -39,20 +41,59 @@ pub struct Delivery {
     pub weight: u32,
     /// hundredths of a per cent
     pub oil_yield: u32,
+    /// days since 1 January 2000
+    pub day: u32,
 }
 
 impl Delivery {
+    /// A delivery of day 0, as old books, imports and `layplan` give it.
     pub const fn new(grower: u32, weight: u32, oil_yield: u32) -> Delivery {
         Delivery {
             grower,
             weight,
             oil_yield,
+            day: 0,
         }
+    }
+
+    /// The delivery on another day.
+    pub const fn on(self, day: u32) -> Delivery {
+        Delivery { day, ..self }
     }
 
     /// Check 8 of a delivery that a call is offered.
     pub const fn in_range(&self) -> bool {
         self.weight <= WEIGHT_LIMIT && self.oil_yield <= YIELD_LIMIT
+    }
+
+    /// Check 19 of a delivery that a call is offered.
+    pub const fn day_in_range(&self) -> bool {
+        self.day <= DAY_LIMIT
+    }
+}
+
+/// A first and a last day, both counted; no day if the last is earlier.
+#[derive(Clone, Copy, Debug, PartialEq, Eq)]
+pub struct Span {
+    pub first: u32,
+    pub last: u32,
+}
+
+impl Span {
+    /// Every day.
+    pub const ALL: Span = Span::new(0, DAY_LIMIT);
+
+    pub const fn new(first: u32, last: u32) -> Span {
+        Span { first, last }
+    }
+
+    pub const fn holds(&self, day: u32) -> bool {
+        self.first <= day && day <= self.last
+    }
+
+    /// Check 19 of the days that a range names.
+    pub const fn in_range(&self) -> bool {
+        self.first <= DAY_LIMIT && self.last <= DAY_LIMIT
     }
 }
 
@@ -293,6 +334,30 @@ pub struct TextAnswer {
     pub refusal: u32,
     /// Number of bytes written, 0 when refused.
     pub written: usize,
+}
+
+/// Answer of the conversion of a date, 0 when refused.
+#[derive(Clone, Copy, Debug, PartialEq, Eq)]
+pub struct DayAnswer {
+    pub refusal: u32,
+    pub day: u32,
+}
+
+/// Answer of the conversion of a day number, all 0 when refused.
+#[derive(Clone, Copy, Debug, PartialEq, Eq)]
+pub struct DateAnswer {
+    pub refusal: u32,
+    pub year: u32,
+    pub month: u32,
+    pub day: u32,
+}
+
+/// The first and the last day of a term, 0 and 0 when refused.
+#[derive(Clone, Copy, Debug, PartialEq, Eq)]
+pub struct TermAnswer {
+    pub refusal: u32,
+    pub first: u32,
+    pub last: u32,
 }
 
 /// Answer of an import.

@@ -3,7 +3,7 @@
 use crate::check::{self, ensure, Checked};
 use crate::types::*;
 
-/// Block length B, number of used slots M, and the three slices. Every value
+/// Block length B, number of used slots M, and the four slices. Every value
 /// is possible; the calls check it.
 #[derive(Clone, Copy, Debug)]
 pub struct UnlaidSet<'a> {
@@ -12,13 +12,14 @@ pub struct UnlaidSet<'a> {
     pub growers: &'a [u32],
     pub weights: &'a [u32],
     pub yields: &'a [u32],
+    pub days: &'a [u32],
 }
 
 impl<'a> UnlaidSet<'a> {
     /// Checks 2, 3, 4 and 5.
     pub fn check_order(&self) -> Checked<()> {
         check::block_length(self.b)?;
-        check::slices(self.growers, self.weights, self.yields)?;
+        check::slices(self.growers, self.weights, self.yields, self.days)?;
         let most = self.growers.len().min(BLOCK_LIMIT * self.b as usize);
         ensure((1..=most).contains(&self.m), check::RECORD_COUNT)?;
         let rising = self.growers[..self.m].windows(2).all(|w| w[0] <= w[1]);
@@ -28,6 +29,11 @@ impl<'a> UnlaidSet<'a> {
     /// Check 8 of the first M slots. M is known to be in range.
     pub fn check_values(&self) -> Checked<()> {
         check::values(&self.weights[..self.m], &self.yields[..self.m])
+    }
+
+    /// Check 19 of the first M slots. M is known to be in range.
+    pub fn check_days(&self) -> Checked<()> {
+        check::days(&self.days[..self.m])
     }
 
     /// N, the number of blocks.
@@ -55,12 +61,13 @@ impl<'a> UnlaidSet<'a> {
         (0..n).find(|&i| self.last_grower(i) >= g).unwrap_or(n - 1)
     }
 
-    /// Whether the set has a record equal to `d` in all three values.
+    /// Whether the set has a record equal to `d` in all four values.
     pub fn contains(&self, d: &Delivery) -> bool {
         (0..self.m).any(|s| {
             self.growers[s] == d.grower
                 && self.weights[s] == d.weight
                 && self.yields[s] == d.oil_yield
+                && self.days[s] == d.day
         })
     }
 

@@ -14,10 +14,10 @@ use Rattle.column.proofs.delete.Statement.{statement}
 use Rattle.column.proofs.delete.Tie as tie
 
 abbrev start : tie.After-locate → tie.Start
-start c = c .before .before .before .before .before .before .before .before .before
+start c = c .before .before .before .before .before .before .before .before .before .before .before
 
 abbrev lent : tie.After-locate → Column
-lent c = let a = start c .args in columnOf (a .directory .now) (a .growers .now) (a .weights .now) (a .yields .now)
+lent c = let a = start c .args in columnOf (a .directory .now) (a .growers .now) (a .weights .now) (a .yields .now) (a .days .now)
 
 -- past the checks: what the search found
 abbrev located : tie.Else1 → tie.After-locate
@@ -44,8 +44,8 @@ with-more-requires c κs =
 
 returns-2 : tie.Need-returns-2
 returns-2 c =
-    let t = c .before .before .before .before .before .before .before .before .before in
-    let m = t .before .before .before .before .before in
+    let t = c .before .before .before .before .before .before .before .before .before .before .before in
+    let m = t .before .before .before .before .before .before in
     let e = m .before .before .before in
     let l = located e in
     delete-done blockLimit (lent l) _ _ (l .locate .ensures) (is-found e) _ _ _ _ (c .without-totals2 .ensures) (t .take-out .ensures) (m .before .onward .ensures) (m .with-more .ensures)
@@ -60,12 +60,14 @@ delete-spec =
     (λ c. search needs)
     (λ c. search needs)
     (λ c. search needs)
+    (λ c. search needs)
     returns
     (λ c κs. there (c .before) .0 .here)
     (λ c. omega (arith, few c))
     with-more-requires
-    (λ c κs. there (c .before .before .before .before .before .before .before))
+    (λ c κs. there (c .before .before .before .before .before .before .before .before))
     (λ c κs. search needs)
+    (λ c. search needs)
     (λ c. search needs)
     (λ c. search needs)
     (λ c. search needs)

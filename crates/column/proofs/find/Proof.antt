@@ -2,7 +2,6 @@
 use mathlib.Core.Path.{_∙_}
 use borrow.Author.Needs.{needs}
 use Rattle.model.specs.Bounds.{blockLimit}
-use Rattle.model.specs.Calls.{range}
 use Rattle.model.specs.Lent.{columnOf}
 use Rattle.column.proofs.Answering.{find-is-range}
 use Rattle.column.proofs.find.Statement.{statement}
@@ -10,9 +9,9 @@ use Rattle.column.proofs.find.Tie as tie
 
 returns : tie.Need-returns
 returns c =
-    let b = c .before .before .before .before .before in
+    let b = c .before .before .before .before .before .before in
     let g = b .args in
-    let col = columnOf (g .directory .now) (g .growers .now) (g .weights .now) (g .yields .now) in
+    let col = columnOf (g .directory .now) (g .growers .now) (g .weights .now) (g .yields .now) (g .days .now) in
     c .range .ensures ∙ find-is-range blockLimit col (g .grower)
 
 pub find-spec : {M : Type 1} → statement M

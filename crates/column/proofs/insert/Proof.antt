@@ -16,17 +16,17 @@ use Rattle.column.proofs.insert.Statement.{statement}
 use Rattle.column.proofs.insert.Tie as tie
 
 abbrev start : tie.After-open → tie.Start
-start c = c .before .before .before .before .before .before .before .before .before
+start c = c .before .before .before .before .before .before .before .before .before .before .before
 
 abbrev lent : tie.After-open → Column
-lent c = let a = start c .args in columnOf (a .directory .now) (a .growers .now) (a .weights .now) (a .yields .now)
+lent c = let a = start c .args in columnOf (a .directory .now) (a .growers .now) (a .weights .now) (a .yields .now) (a .days .now)
 
 -- past the checks
 is-open : (c : tie.Else1) → let o = c .before in Open blockLimit (lent o) (start o .args .d) (o .«open» .result) (o .«open» .ensures)
 is-open c = insert-open blockLimit _ _ _ (c .before .«open» .ensures) (c .if1 .left)
 
 there : (c : tie.Else1) → let o = c .before .«open» .result in let k = lent (c .before) in
-    Ready blockLimit k (o .target) (o .start) × (o .used ≡ sumOf (lengthsOf blockLimit k)) × (o .used < length (k .growers))
+    Ready blockLimit k (o .target) (o .start) × (o .used ≡ sumOf (lengthsOf blockLimit k)) × (o .used < length (k .slices .growers))
 there c = open-ready blockLimit _ _ _ (c .before .«open» .ensures) (is-open c)
 
 returns : tie.Need-returns
@@ -37,8 +37,8 @@ add-each c = omega (arith, c .onward .ensures, has-onward blockLimit _ _ (there 
 
 returns-2 : tie.Need-returns-2
 returns-2 c =
-    let p = c .before .before .before .before .before .before .before .before .before in
-    let n = p .before .before .before .before .before in
+    let p = c .before .before .before .before .before .before .before .before .before .before .before in
+    let n = p .before .before .before .before .before .before in
     let e = n .before .before in
     insert-done blockLimit (lent (e .before)) _ _ (e .before .«open» .ensures) (is-open e) _ _ _ (p .put .ensures) (n .onward .ensures) (c .without-totals .ensures)
 
@@ -52,11 +52,13 @@ insert-spec =
     (λ c. search needs)
     (λ c. search needs)
     (λ c. search needs)
+    (λ c. search needs)
     returns
     (λ c κs. there (c .before) .0 .here)
     add-each
-    (λ c κs. there (c .before .before .before .before .before .before))
+    (λ c κs. there (c .before .before .before .before .before .before .before))
     (λ c κs. search needs)
+    (λ c. search needs)
     (λ c. search needs)
     (λ c. search needs)
     (λ c. search needs)

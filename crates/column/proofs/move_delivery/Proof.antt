@@ -14,10 +14,10 @@ use Rattle.column.proofs.move_delivery.Statement.{statement}
 use Rattle.column.proofs.move_delivery.Tie as tie
 
 abbrev start : tie.After-locate → tie.Start
-start c = c .before .before .before .before .before .before .before .before .before
+start c = c .before .before .before .before .before .before .before .before .before .before .before
 
 abbrev lent : tie.After-locate → Column
-lent c = let a = start c .args in columnOf (a .directory .now) (a .growers .now) (a .weights .now) (a .yields .now)
+lent c = let a = start c .args in columnOf (a .directory .now) (a .growers .now) (a .weights .now) (a .yields .now) (a .days .now)
 
 -- past the checks: what the search found
 abbrev located : tie.Else1 → tie.After-locate
@@ -56,15 +56,15 @@ with-more-requires c κs =
 
 shift-requires : tie.Need-shift-requires
 shift-requires c κs =
-    let p = c .before .before .before .before .before .before in
+    let p = c .before .before .before .before .before .before .before in
     let e = p .before .before in
     let r = found-ready blockLimit (lent (located e)) _ _ (located e .locate .ensures) (is-found e) in
     (r .0, r .1, inside p)
 
 returns-2 : tie.Need-returns-2
 returns-2 c =
-    let s = c .before .before .before .before .before .before .before .before .before in
-    let m = s .before .before .before .before .before in
+    let s = c .before .before .before .before .before .before .before .before .before .before .before in
+    let m = s .before .before .before .before .before .before in
     let p = m .before .before in
     let e = p .before .before in
     let l = located e in
@@ -81,6 +81,7 @@ move-delivery-spec =
     (λ c. search needs)
     (λ c. search needs)
     (λ c. search needs)
+    (λ c. search needs)
     returns
     (λ c κs. most-shaped blockLimit _ (shaped (c .before)))
     (λ c κs. search needs)
@@ -89,6 +90,7 @@ move-delivery-spec =
     with-more-requires
     shift-requires
     (λ c κs. search needs)
+    (λ c. search needs)
     (λ c. search needs)
     (λ c. search needs)
     (λ c. search needs)

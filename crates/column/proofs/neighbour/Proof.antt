@@ -18,10 +18,10 @@ use Rattle.column.proofs.neighbour.Statement.{statement}
 use Rattle.column.proofs.neighbour.Tie as tie
 
 abbrev start : tie.After-lent → tie.Start
-start c = c .before .before .before .before .before
+start c = c .before .before .before .before .before .before
 
 abbrev the-column : tie.After-lent → Column
-the-column c = let a = start c .args in columnOf (a .directory .now) (a .g .now) (a .w .now) (a .y .now)
+the-column c = let a = start c .args in columnOf (a .directory .now) (a .g .now) (a .w .now) (a .y .now) (a .n .now)
 
 -- past checks 2, 3 and 6
 shaped : (c : tie.Else1) → let l = c .before in Carried blockLimit (lentChecks blockLimit (the-column l)) (start l .args .directory .now) (start l .args .grower) (l .lent .result)

@@ -13,33 +13,35 @@ use Rattle.column.proofs.put.Statement.{statement}
 use Rattle.column.proofs.put.Tie as tie
 
 abbrev start : tie.After-lengths → tie.Start
-start c = c .before .before .before .before .before .before .before .before .before
+start c = c .before .before .before .before .before .before .before .before .before .before .before
 
 abbrev lent : tie.After-lengths → Column
-lent c = let a = start c .args in columnOf (a .directory .now) (a .g .now) (a .w .now) (a .y .now)
+lent c = let a = start c .args in columnOf (a .directory .now) (a .g .now) (a .w .now) (a .y .now) (a .n .now)
 
 insert-slots-requires : tie.Need-insert-slots-requires
 insert-slots-requires c κs = let p = start c .pre in rw (c .lengths .ensures) (has-inside blockLimit _ _ (p .0 .here), p .0 .start, p .1, p .2, p .0 .even)
 
 grow-requires : tie.Need-grow-requires
-grow-requires c κs = let p = start (c .before .before .before .before .before .before .before .before) .pre in p .0 .here
+grow-requires c κs = let p = start (c .before .before .before .before .before .before .before .before .before .before) .pre in p .0 .here
 
 returns : tie.Need-returns
 returns c =
-    let s = c .before .before .before .before .before .before .before .before .before .before in
+    let s = c .before .before .before .before .before .before .before .before .before .before .before .before in
     let k = lent (s .before) in
+    let o = k .slices in
     let a = start (s .before) .args in
     let ns = lengthsOf blockLimit k in
-    column-is (inserted ns (a .partition)) (a .d) (oneMore (a .partition) ns) k _ _ _ _ (c .before .before .grow .ensures)
-    (by-lengths (λ (ls : List ℕ). inserted ls (a .partition)) (a .d) (k .growers) (k .weights) (k .yields) _ _ _ _ ns (s .before .lengths .ensures) (s .insert-slots .ensures))
+    column-is (inserted ns (a .partition)) (a .d) (oneMore (a .partition) ns) k _ _ _ _ _ (c .before .before .grow .ensures)
+    (by-lengths (λ (ls : List ℕ). inserted ls (a .partition)) (a .d) (o .growers) (o .weights) (o .yields) (o .days) _ _ _ _ _ ns (s .before .lengths .ensures) (s .insert-slots .ensures))
 
 pub put-spec : {M : Type 1} → statement M
 put-spec =
     tie.close
     (tie.spec
-    (λ c κs. has-numbered blockLimit _ _ (c .before .before .before .before .before .before .before .before .pre .0 .here))
+    (λ c κs. has-numbered blockLimit _ _ (c .before .before .before .before .before .before .before .before .before .before .pre .0 .here))
     insert-slots-requires
     grow-requires
+    (λ c. search needs)
     (λ c. search needs)
     (λ c. search needs)
     (λ c. search needs)

@@ -12,13 +12,13 @@ use Rattle.column.proofs.shift.Statement.{statement}
 use Rattle.column.proofs.shift.Tie as tie
 
 abbrev start : tie.After-shift-slots → tie.Start
-start c = c .before .before .before .before .before .before .before .before .before
+start c = c .before .before .before .before .before .before .before .before .before .before .before
 
 abbrev moved-slots : tie.After-shrink → tie.After-shift-slots
-moved-slots c = c .before .before .before .before .before .before .before .before
+moved-slots c = c .before .before .before .before .before .before .before .before .before .before
 
 shrink-requires : tie.Need-shrink-requires
-shrink-requires c κs = let p = start (c .before .before .before .before .before .before .before) .pre in (p .0 .here, omega (arith, p .1))
+shrink-requires c κs = let p = start (c .before .before .before .before .before .before .before .before .before) .pre in (p .0 .here, omega (arith, p .1))
 
 grow-requires : tie.Need-grow-requires
 grow-requires c κs =
@@ -31,9 +31,9 @@ returns c =
     let k = c .before .before .before .before .before .before in
     let s = start (moved-slots k) in
     let a = s .args in
-    let col = columnOf (a .directory .now) (a .g .now) (a .w .now) (a .y .now) in
+    let col = columnOf (a .directory .now) (a .g .now) (a .w .now) (a .y .now) (a .n .now) in
     let ns = lengthsOf blockLimit col in
-    column-is (moved ns (a .from) (a .slot) (a .to)) (a .d) (oneMore (a .to) (oneFewer (a .from) ns)) col _ _ _ _
+    column-is (moved ns (a .from) (a .slot) (a .to)) (a .d) (oneMore (a .to) (oneFewer (a .from) ns)) col _ _ _ _ _
     (twice blockLimit (a .directory .now) (a .from) (a .to) (s .pre .0 .here) (omega (arith, s .pre .1)) _ _ (k .shrink .ensures) (c .before .before .grow .ensures))
     (moved-slots k .shift-slots .ensures)
 
@@ -44,6 +44,7 @@ shift-spec =
     (λ c κs. search needs)
     shrink-requires
     grow-requires
+    (λ c. search needs)
     (λ c. search needs)
     (λ c. search needs)
     (λ c. search needs)

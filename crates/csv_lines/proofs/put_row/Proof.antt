@@ -18,7 +18,7 @@ abbrev second : tie.After-put-line-end-arg → tie.After-put-plain-arg
 second c = c .before .before .before .before
 
 abbrev row : tie.Start → Delivery
-row s = delivery (s .args .g) (s .args .w) (s .args .y)
+row s = delivery (s .args .g) (s .args .w) (s .args .y) 0
 
 put-field-requires : tie.Need-put-field-requires
 put-field-requires c κs = let s = c .before .before in grower-room (row s) (s .args .text .now) (s .args .at) (s .pre)

@@ -3,18 +3,19 @@ use Prim.Native.Nat.{_-_}
 use native.Mathlib.Omega.{arith}
 use borrow.Author.Needs.{needs}
 use lib.ListN.{length}
+use Rattle.model.specs.Deliveries.{slicesOf}
 use Rattle.csv_lines.proofs.RowLaws.{RowsLeft, rows-start, row-room, rows-next, rows-end}
 use Rattle.csv_lines.proofs.put_rows.Statement.{statement}
 use Rattle.csv_lines.proofs.put_rows.Tie as tie
 
 abbrev Inv-loop : tie.InvT-loop
-Inv-loop text₀ at g w y i₀ e₀ text i e = RowsLeft text₀ at g w y text i e
+Inv-loop text₀ at g w y n i₀ e₀ text i e = RowsLeft text₀ at (slicesOf g w y n) text i e
 
 abbrev μ-loop : tie.MeasureT-loop
-μ-loop text₀ at g w y i₀ e₀ text i e = length g - i
+μ-loop text₀ at g w y n i₀ e₀ text i e = length g - i
 
 loop-holds : tie.Need-loop-holds Inv-loop μ-loop
-loop-holds c = let p = c .before .before .before .before .pre in rows-start _ _ _ _ _ (p .0) (p .1)
+loop-holds c = let p = c .before .before .before .before .before .pre in rows-start _ _ _ (p .0) (p .1)
 
 put-row-requires : tie.Need-put-row-requires Inv-loop μ-loop
 put-row-requires c κs = row-room (c .before .before .before .before .before .loop .inv) (c .before .before .before .before .loop-test .taken)

@@ -6,7 +6,7 @@ use Rattle.csv_lines.proofs.text_length.Tie as tie
 
 returns : tie.Need-returns
 returns c =
-    text-length (c .before .before .before .before .before .before .pre .0) (c .before .before .digits-total .ensures) (c .before .digits-total2 .ensures)
+    text-length (c .before .before .before .before .before .before .before .pre .0) (c .before .before .digits-total .ensures) (c .before .digits-total2 .ensures)
     (c .digits-total3 .ensures)
 
 pub text-length-spec : {M : Type 1} → statement M

@@ -10,7 +10,7 @@ use Rattle.directory.proofs.Shapes.{shape-refused, shape-judged}
 use Rattle.directory.proofs.lent.Statement.{statement}
 use Rattle.directory.proofs.lent.Tie as tie
 
-block-ok : (c : tie.Else1) → directoryBlockOk blockLimit (c .before .before .before .before .before .before .args .directory .now) ≡ true
+block-ok : (c : tie.Else1) → directoryBlockOk blockLimit (c .before .before .before .before .before .before .before .args .directory .now) ≡ true
 block-ok c = sym (c .before .directory-block-ok .ensures) ∙ not-false _ (c .if1 .left)
 
 returns : tie.Need-returns

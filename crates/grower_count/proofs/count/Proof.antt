@@ -6,25 +6,27 @@ use native.Mathlib.Omega.{arith}
 use borrow.Author.Needs.{needs}
 use lib.ListN.{length, getD}
 use Rattle.model.specs.Bounds.{mostSlots}
-use Rattle.grower_count.proofs.Counting.{left, Counting, counting-start, counting-fits, counting-end, last-slot, counting-less, counting-more, counting-last}
+use Rattle.grower_count.specs.Batches.{during}
+use Rattle.grower_count.proofs.Counting.{held, left, Counting, counting-start, counting-fits, counting-end, last-slot, counting-less, counting-more, counting-last}
 use Rattle.grower_count.proofs.count.Statement.{statement}
 use Rattle.grower_count.proofs.count.Tie as tie
 
 abbrev Inv-loop : tie.InvT-loop
-Inv-loop growers batch₀ work₀ seen₀ total₀ lo₀ n₀ batch work seen total lo n =
-    Counting growers batch total lo n × (length batch ≡ 16384) × (length work ≡ 16384) × (length seen ≡ 16384)
+Inv-loop growers days first last batch₀ work₀ seen₀ total₀ lo₀ n₀ batch work seen total lo n =
+    Counting growers (during (record { lo = 0; first = first; last = last }) days) batch total lo n × (length batch ≡ 16384) × (length work ≡ 16384) × (length seen ≡ 16384)
 
 abbrev μ-loop : tie.MeasureT-loop
-μ-loop growers batch₀ work₀ seen₀ total₀ lo₀ n₀ batch work seen total lo n = length (left growers lo)
+μ-loop growers days first last batch₀ work₀ seen₀ total₀ lo₀ n₀ batch work seen total lo n =
+    length (left (held growers (during (record { lo = 0; first = first; last = last }) days)) lo)
 
 abbrev start : tie.At-loop Inv-loop μ-loop → tie.Start Inv-loop μ-loop
-start l = l .before .before .before .before .before .before .before .before .before
+start l = l .before .before .before .before .before .before .before .before .before .before
 
 long : (l : tie.At-loop Inv-loop μ-loop) → l .loop .n ≤ length (l .loop .batch)
 long l = let v = l .loop .inv in omega (arith, v .0 .window .few, v .1)
 
 fits : (l : tie.At-loop Inv-loop μ-loop) → l .loop .total + l .loop .n ≤ mostSlots
-fits l = omega (arith, counting-fits (l .loop .inv .0) (long l), start l .pre)
+fits l = omega (arith, counting-fits (l .loop .inv .0) (long l), start l .pre .0)
 
 slot : (c : tie.In-loop Inv-loop μ-loop) → getD (c .before .loop .batch) 8191 0 < length (start (c .before) .args .growers .now)
 slot c = last-slot (c .before .loop .inv .0) (long (c .before)) (c .loop-test .taken)
@@ -35,23 +37,23 @@ loop-holds c = let e = c .before .before .before .window .ensures in (counting-s
 add-total : tie.Need-add-total Inv-loop μ-loop
 add-total c = omega (arith, fits (c .before))
 
-cast-last : tie.Need-cast-last Inv-loop μ-loop
-cast-last c = omega (arith, slot c, start (c .before) .pre)
+cast-g : tie.Need-cast-g Inv-loop μ-loop
+cast-g c = omega (arith, slot c, start (c .before) .pre .0)
 
-mul-last-2 : tie.Need-mul-last-2 Inv-loop μ-loop
-mul-last-2 c = omega (arith, slot c, start (c .before) .pre)
+mul-g-2 : tie.Need-mul-g-2 Inv-loop μ-loop
+mul-g-2 c = omega (arith, slot c, start (c .before) .pre .0)
 
-shared-slice-read-last : tie.Need-shared-slice-read-last Inv-loop μ-loop
-shared-slice-read-last c = slot (c .before)
+shared-slice-read-g : tie.Need-shared-slice-read-g Inv-loop μ-loop
+shared-slice-read-g c = slot (c .before)
 
 returns : tie.Need-returns Inv-loop μ-loop
 returns c =
     let t = c .before .before in
     let l = t .before in
-    counting-last (l .loop .inv .0) (long l) (t .loop-test .taken) (λ p. omega (arith, c .before .shared-slice-known2 .given p, c .if1 .taken))
+    counting-last (l .loop .inv .0) (long l) (t .loop-test .taken) (λ p. omega (arith, c .before .shared-slice-known3 .given p, c .if1 .taken))
 
 add-lo : tie.Need-add-lo Inv-loop μ-loop
-add-lo c = omega (arith, c .before .shared-slice-known2 .given (getD (c .before .before .before .loop .batch) 8191 0), c .if1 .left)
+add-lo c = omega (arith, c .before .shared-slice-known3 .given (getD (c .before .before .before .loop .batch) 8191 0), c .if1 .left)
 
 -- the turn, seen from its end
 abbrev turn : tie.After-seen4 Inv-loop μ-loop → tie.In-loop Inv-loop μ-loop
@@ -88,9 +90,9 @@ count-spec =
     (λ c. search needs)
     (λ c. search needs)
     (λ c. search needs)
-    cast-last
-    mul-last-2
-    shared-slice-read-last
+    cast-g
+    mul-g-2
+    shared-slice-read-g
     returns
     add-lo
     (λ c. search needs)

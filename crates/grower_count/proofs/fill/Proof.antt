@@ -6,20 +6,20 @@ use mathlib.Core.Logic.{⊎-elim}
 use native.Mathlib.Omega.{arith}
 use borrow.Author.Needs.{needs}
 use lib.ListN.{length, length-set}
-use Rattle.grower_count.specs.Batches.{FilledUp}
+use Rattle.grower_count.specs.Batches.{during, FilledUp}
 use Rattle.grower_count.proofs.Filling.{filling-start, filling-new, filling-old}
 use Rattle.grower_count.proofs.fill.Statement.{statement}
 use Rattle.grower_count.proofs.fill.Tie as tie
 
 abbrev Inv-loop : tie.InvT-loop
-Inv-loop growers lo from batch₀ held seen₀ n₀ i₀ batch seen n i =
-    FilledUp growers lo from batch₀ held batch n i × (from ≤ i) × (n + from ≤ held + i) × (length seen ≡ 16384)
+Inv-loop growers days q from batch₀ held seen₀ n₀ i₀ batch seen n i =
+    FilledUp growers (during q days) (q .lo) from batch₀ held batch n i × (from ≤ i) × (n + from ≤ held + i) × (length seen ≡ 16384)
 
 abbrev μ-loop : tie.MeasureT-loop
-μ-loop growers lo from batch₀ held seen₀ n₀ i₀ batch seen n i = length growers - i
+μ-loop growers days q from batch₀ held seen₀ n₀ i₀ batch seen n i = length growers - i
 
 loop-holds : tie.Need-loop-holds Inv-loop μ-loop
-loop-holds c = let p = c .before .before .before .pre in (filling-start _ _ _ _ _ (omega (arith, p .3)) (omega (arith, p .2)), omega arith, omega arith, p .0)
+loop-holds c = let p = c .before .before .before .before .pre in (filling-start _ _ _ _ _ _ (omega (arith, p .3)) (omega (arith, p .2)), omega arith, omega arith, p .0)
 
 cast-j : tie.Need-cast-j Inv-loop μ-loop
 cast-j c = omega (arith, c .slice-known3 .given (c .before .place-of .result))
@@ -32,13 +32,13 @@ loop-again c =
     let new = c .before .is-new .ensures in
     ⊎-elim
     (λ w. (
-      filling-new _ _ (v .0) h (omega (arith, v .0 .room, v .0 .same-length)) _ _ (sym new ∙ w .0 .taken) (w .1) (w .3),
+      filling-new _ _ _ (v .0) h (omega (arith, v .0 .room, v .0 .same-length)) _ _ (sym new ∙ w .0 .taken) (w .1) (w .3),
       omega arith,
       omega (arith, w .3),
       ap length (w .2) ∙ length-set (l .loop .seen) (c .before .before .before .place-of .result) (l .loop .i) ∙ v .3,
     ))
     (λ w. (
-      filling-old _ _ (v .0) h (omega (arith, v .0 .room, v .0 .same-length)) _ _ (sym new ∙ w .0 .left) (w .1) (w .3),
+      filling-old _ _ _ (v .0) h (omega (arith, v .0 .room, v .0 .same-length)) _ _ (sym new ∙ w .0 .left) (w .1) (w .3),
       omega arith,
       omega (arith, w .3),
       ap length (w .2) ∙ v .3,

@@ -6,17 +6,17 @@ use native.Mathlib.Omega.{arith}
 use borrow.Author.Needs.{needs}
 use lib.ListN.{length}
 use lib.Seq.{length-take-le, length-front}
-use Rattle.grower_count.specs.Batches.{Window}
+use Rattle.grower_count.specs.Batches.{during, Window}
 use Rattle.grower_count.proofs.Windows.{window-start, filled-there, window-next, window-all}
 use Rattle.grower_count.proofs.window.Statement.{statement}
 use Rattle.grower_count.proofs.window.Tie as tie
 
 abbrev Inv-loop : tie.InvT-loop
-Inv-loop growers lo batch₀ work₀ seen₀ n₀ i₀ batch work seen n i =
-    Window growers lo i batch n × (length batch ≡ 16384) × (length work ≡ 16384) × (length seen ≡ 16384) × (i ≤ length growers)
+Inv-loop growers days q batch₀ work₀ seen₀ n₀ i₀ batch work seen n i =
+    Window growers (during q days) (q .lo) i batch n × (length batch ≡ 16384) × (length work ≡ 16384) × (length seen ≡ 16384) × (i ≤ length growers)
 
 abbrev μ-loop : tie.MeasureT-loop
-μ-loop growers lo batch₀ work₀ seen₀ n₀ i₀ batch work seen n i = length growers - i
+μ-loop growers days q batch₀ work₀ seen₀ n₀ i₀ batch work seen n i = length growers - i
 
 -- the loop's head, seen from where the batch was filled
 abbrev top : tie.After-fill Inv-loop μ-loop → tie.At-loop Inv-loop μ-loop
@@ -27,14 +27,14 @@ abbrev filled : tie.After-slice-known5 Inv-loop μ-loop → tie.After-fill Inv-l
 filled c = c .before .before .before .before
 
 -- the slots of the batch, and those of the room to work in
-room : (c : tie.After-fill Inv-loop μ-loop) → c .fill .result .count ≤ length (c .fill .last .1 .1 .1 .0)
+room : (c : tie.After-fill Inv-loop μ-loop) → c .fill .result .count ≤ length (c .fill .last .1 .1 .1 .1 .0)
 room c = let e = c .fill .ensures .0 in omega (arith, e .room, e .same-length)
 
 work-room : (c : tie.After-fill Inv-loop μ-loop) → c .fill .result .count ≤ length (top c .loop .work)
 work-room c = let v = top c .loop .inv in omega (arith, c .fill .ensures .0 .room, v .1, v .2)
 
 loop-holds : tie.Need-loop-holds Inv-loop μ-loop
-loop-holds c = let p = c .before .before .before .before .pre in (window-start _, p .1, p .2, p .3, omega arith)
+loop-holds c = let p = c .before .before .before .before .before .pre in (window-start _, p .1, p .2, p .3, omega arith)
 
 fill-requires : tie.Need-fill-requires Inv-loop μ-loop
 fill-requires c κs = search needs
@@ -62,7 +62,7 @@ loop-again c =
     let g = f .fill .ensures in
     let l = s .keep-smallest .last .1 in (
       window-next (v .0) (g .0) _ (e .0),
-      length-front (f .fill .last .1 .1 .1 .0) (l .0) (f .fill .result .count) (e .0 .same-length) ∙ g .0 .same-length ∙ v .1,
+      length-front (f .fill .last .1 .1 .1 .1 .0) (l .0) (f .fill .result .count) (e .0 .same-length) ∙ g .0 .same-length ∙ v .1,
       length-front (top f .loop .work) (l .1 .0) (f .fill .result .count) (e .1) ∙ v .2,
       g .2,
       g .0 .inside,

@@ -8,11 +8,12 @@ use borrow.Author.Needs.{needs}
 use borrow.Author.Tests.{not-true, not-false}
 use Rattle.model.specs.Bounds.{mostNumber}
 use Rattle.model.specs.Lists.{every}
-use Rattle.model.specs.Deliveries.{inRange, rows}
+use Rattle.model.specs.Lent.{slicesAt}
+use Rattle.model.specs.Deliveries.{Slices, inRange, rows}
 use Rattle.model.specs.Growers.{nearestOf, growersOf}
 use Rattle.model.proofs.ListLaws.{keep-fewer}
 use Rattle.model.proofs.MovesKeep.{All}
-use Rattle.model.proofs.MovesRows.{rows-columns}
+use Rattle.model.proofs.Deliveries.{slices-for}
 use Rattle.slices.proofs.Scans.{inside}
 use Rattle.scan.proofs.Judging.{values-say, good-on}
 use Rattle.growers.specs.declared.Nearest.{Nearest}
@@ -22,30 +23,30 @@ use Rattle.growers.proofs.near_more.Statement.{statement}
 use Rattle.growers.proofs.near_more.Tie as tie
 
 abbrev start : tie.After-values-ok → tie.Start
-start c = c .before .before .before .before .before .before
+start c = c .before .before .before .before .before .before .before
 
 good : (c : tie.After-values-ok) → start c .args .s .good ≡ true
 good c = not-false (start c .args .s .good) (c .before .if1 .left)
 
 fits : (c : tie.After-values-ok) → All (λ (x : ℕ). x ≤ mostNumber) (start c .args .g .now)
-fits c = all-fit (start c .args .g .now) (λ i. omega (arith, c .before .before .before .before .before .shared-slice-known .given i))
+fits c = all-fit (start c .args .g .now) (λ i. omega (arith, c .before .before .before .before .before .before .shared-slice-known .given i))
 
 g-fits : (c : tie.After-values-ok) → start c .args .grower ≤ mostNumber
 g-fits c = omega arith
 
 -- whether the new records are in range
-in-range : (c : tie.After-values-ok) (b : Bool) → c .values-ok .result ≡ b → let a = start c .args in every inRange (rows (a .g .now) (a .w .now) (a .y .now)) ≡ b
-in-range c = let a = start c .args in values-say (a .g .now) (a .w .now) (a .y .now) (start c .pre .1) (c .values-ok .result) (c .values-ok .ensures)
+in-range : (c : tie.After-values-ok) (b : Bool) → c .values-ok .result ≡ b → let a = start c .args in every inRange (rows (slicesAt (a .g) (a .w) (a .y) (a .n))) ≡ b
+in-range c = let a = start c .args in values-say (slicesAt (a .g) (a .w) (a .y) (a .n)) (start c .pre .1) (c .values-ok .result) (c .values-ok .ensures)
 
 -- their growers
-growers : (c : tie.After-values-ok) → let a = start c .args in growersOf (rows (a .g .now) (a .w .now) (a .y .now)) ≡ a .g .now
+growers : (c : tie.After-values-ok) → let a = start c .args in growersOf (rows (slicesAt (a .g) (a .w) (a .y) (a .n))) ≡ a .g .now
 growers c =
     let a = start c .args in
-    sym (rows-columns (a .g .now) (a .w .now) (a .y .now) (start c .pre .1 .weights) (start c .pre .1 .yields) .growers)
+    ap (λ (t : Slices). t .growers) (slices-for (slicesAt (a .g) (a .w) (a .y) (a .n)) (start c .pre .1))
 
 returns : tie.Need-returns
 unfolding nearMore
-returns c = c .bad-nearest .ensures ∙ rw (not-true (c .before .before .before .before .before .before .args .s .good) (c .before .if1 .taken))
+returns c = c .bad-nearest .ensures ∙ rw (not-true (c .before .before .before .before .before .before .before .args .s .good) (c .before .if1 .taken))
 
 returns-2 : tie.Need-returns-2
 unfolding nearMore
@@ -56,7 +57,7 @@ returns-2 c =
 -- what is in range is joined to a good search
 good-answer : (c : tie.After-last-wanted) (r : Nearest) → let a = start (c .before .before) .args in
     let w = directionOf (a .up) in
-    r ≡ goodNearest (joinedCount w (countIn (a .s)) (nearestOf w (a .grower) (a .g .now))) → r ≡ nearMore w (a .grower) (a .s) (rows (a .g .now) (a .w .now) (a .y .now))
+    r ≡ goodNearest (joinedCount w (countIn (a .s)) (nearestOf w (a .grower) (a .g .now))) → r ≡ nearMore w (a .grower) (a .s) (rows (slicesAt (a .g) (a .w) (a .y) (a .n)))
 unfolding nearMore
 good-answer c r e =
     let v = c .before .before in

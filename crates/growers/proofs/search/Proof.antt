@@ -1,37 +1,43 @@
 -- `growers::search`: where the loop stands at the j-th partition of the path, the rest of the path, after the blocks so far, answers what the whole path
 -- answers (`Searching`). Each partition lies in the slices, since the lengths sum to no more (`stops`). An empty one answers nothing (`searching-skip`).
 -- Assumes nothing.
-use Prim.Native.Nat.{_+_, _-_, _≤_, _<_}
+use Prim.Native.Nat.{ℕ, _+_, _-_, _≤_, _<_}
 use mathlib.Core.Path.{_≡_, _∙_}
+use mathlib.Core.Bool.{_&&_}
+use mathlib.Core.List.{List}
 use native.Mathlib.Omega.{arith}
 use borrow.Author.Needs.{needs}
 use borrow.Author.Tests.{not-true, not-false}
-use lib.ListN.{length, getD, length-take, length-drop}
+use lib.ListN.{length, getD, take, drop, length-take, length-drop}
 use Rattle.model.specs.Bounds.{mostSlots}
-use Rattle.model.specs.Lists.{sumOf}
-use Rattle.model.specs.Deliveries.{rows}
+use Rattle.model.specs.Lists.{sumOf, every}
+use Rattle.model.specs.Lent.{slicesAt}
+use Rattle.model.specs.Deliveries.{Slices, slicesOf, eachSlice, rows, Even, dayOk}
 use Rattle.model.specs.Partitions.{startOf}
 use Rattle.model.proofs.AccessLaws.{blocks-most}
 use Rattle.model.proofs.Parts.{stop-le}
 use Rattle.model.proofs.Deliveries.{length-rows}
+use Rattle.slices.proofs.Sums.{even-part}
+use Rattle.scan.proofs.Judging.{days-say}
 use Rattle.growers.proofs.Searching.{stepsOf, steps-most, steps-back, Met, met, Searching, searching-start, searching-end, searching-skip, searching-bad, searching-hit, searching-next}
 use Rattle.growers.proofs.search.Statement.{statement}
 use Rattle.growers.proofs.search.Tie as tie
 
 abbrev Inv-loop : tie.InvT-loop
-Inv-loop g w y lens from start block grower up steps edge₀ j₀ blocks₀ edge j blocks = Searching block up grower lens g w y from edge j blocks
+Inv-loop g w y n lens from start block grower up steps edge₀ j₀ blocks₀ dated₀ edge j blocks dated
+    = Searching block up grower lens (slicesOf g w y n) from edge j blocks dated
 
 abbrev μ-loop : tie.MeasureT-loop
-μ-loop g w y lens from start block grower up steps edge₀ j₀ blocks₀ edge j blocks = steps - j
+μ-loop g w y n lens from start block grower up steps edge₀ j₀ blocks₀ dated₀ edge j blocks dated = steps - j
 
 abbrev start : tie.At-loop Inv-loop μ-loop → tie.Start Inv-loop μ-loop
-start c = c .before .before .before .before .before .before .before .before
+start c = c .before .before .before .before .before .before .before .before .before
 
-room : (c : tie.At-loop Inv-loop μ-loop) → let a = start c .args in sumOf (a .lens .now) ≤ length (rows (a .g .now) (a .w .now) (a .y .now))
+room : (c : tie.At-loop Inv-loop μ-loop) → let a = start c .args in sumOf (a .lens .now) ≤ length (rows (slicesAt (a .g) (a .w) (a .y) (a .n)))
 room c =
     let a = start c .args in
     let p = start c .pre in
-    omega (arith, length-rows (a .g .now) (a .w .now) (a .y .now) (p .1 .1 .weights) (p .1 .1 .yields), p .0 .2)
+    omega (arith, length-rows (slicesAt (a .g) (a .w) (a .y) (a .n)) (p .1 .1), p .0 .2)
 
 -- one more step to go
 on-path : (c : tie.In-loop Inv-loop μ-loop) → let a = start (c .before) .args in c .before .loop .j < stepsOf (a .up) (a .lens .now) (a .from)
@@ -61,13 +67,13 @@ small c = omega (arith, stops c, start (head c) .pre .1 .0)
 
 add-either-2 : tie.Need-add-either-2 Inv-loop μ-loop
 add-either-2 c =
-    let s = c .before .before .before .before .before .before in
+    let s = c .before .before .before .before .before .before .before in
     omega (arith, s .pre .0 .4, stop-le (s .args .lens .now) (s .args .from) (s .pre .0 .0), s .pre .0 .2)
 
 loop-holds : tie.Need-loop-holds Inv-loop μ-loop
 loop-holds c =
-    let s = c .before .before .before .before .before .before .before in
-    searching-start _ _ _ _ _ _ _ _ _ _ (s .pre .0 .0) (s .pre .0 .4) (c .either2 .ensures)
+    let s = c .before .before .before .before .before .before .before .before in
+    searching-start _ _ _ _ _ _ _ _ (s .pre .0 .0) (s .pre .0 .4) (c .either2 .ensures)
 
 partition-after-requires : tie.Need-partition-after-requires Inv-loop μ-loop
 partition-after-requires c κs =
@@ -76,28 +82,49 @@ partition-after-requires c κs =
     let h = on-path c in
     (omega arith, omega (arith, steps-most (a .up) (a .lens .now) (a .from) (s .pre .0 .0)), steps-back (a .up) (a .lens .now) (a .from) _ h)
 
+-- the slices' parts of the partition
+abbrev part-of : tie.After-begins Inv-loop μ-loop → Slices
+part-of c =
+    let a = start (head c) .args in
+    let from = c .begins .result in
+    eachSlice (λ (l : List ℕ). take (from + getD (a .lens .now) (here c .partition-after .result) 0 - from) (drop from l)) (slicesAt (a .g) (a .w) (a .y) (a .n))
+
+even : (c : tie.After-begins Inv-loop μ-loop) → Even (part-of c)
+even c =
+    let a = start (head c) .args in
+    let from = c .begins .result in
+    even-part (slicesAt (a .g) (a .w) (a .y) (a .n)) (from + getD (a .lens .now) (here c .partition-after .result) 0 - from) from (start (head c) .pre .1 .1)
+
+-- whether the days so far are in range
+abbrev entered : tie.After-both Inv-loop μ-loop → tie.After-begins Inv-loop μ-loop
+entered c = c .before .before .before .before .before .before .before .before .before .before
+
+days : (c : tie.After-both Inv-loop μ-loop) → let b = entered c in c .both .result ≡ head b .loop .dated && every dayOk (rows (part-of b))
+days c =
+    let b = entered c in
+    days-say (part-of b) (even b) (head b .loop .dated) (c .before .days-ok .result) (c .both .result) (c .both .ensures) (c .before .days-ok .ensures)
+
 near-all-requires : tie.Need-near-all-requires Inv-loop μ-loop
 near-all-requires c κs =
-    let p = start (head (c .before .before .before)) .pre .1 in (
-      simp (length-take, length-drop) (omega arith),
-      record { weights = simp (length-take, length-drop) (omega arith); yields = simp (length-take, length-drop) (omega arith) },
-    )
+    let b = c .before .before .before .before in
+    let p = start (head b) .pre .1 in
+    (simp (length-take, length-drop) (omega arith), even b)
 
 returns : tie.Need-returns Inv-loop μ-loop
 returns c =
     let r = c .before .before .before in
-    let b = r .before .before .before .before in
+    let b = r .before .before .before .before .before in
     let p = head b in
     c .refused .ensures ∙ searching-bad (p .loop .inv) (step (here b)) (begun b) (room p) (r .near-all .ensures) (not-true _ (c .before .if2 .taken))
 
 blocks-of-requires : tie.Need-blocks-of-requires Inv-loop μ-loop
 blocks-of-requires c κs =
-    let b = c .before .before .before .before .before .before in
+    let b = c .before .before .before .before .before .before .before .before .before .before in
     (start (head b) .pre .0 .3, omega (arith, small b))
 
 add-blocks : tie.Need-add-blocks Inv-loop μ-loop
 add-blocks c =
-    let b = c .before .before .before .before .before .before .before in
+    let b = c .before .before .before .before .before .before .before .before .before .before .before in
     let i = here b in
     let p = head b in
     let a = start p .args in
@@ -108,21 +135,21 @@ add-blocks c =
 returns-2 : tie.Need-returns-2 Inv-loop μ-loop
 returns-2 c =
     let k = c .before .before .before in
-    let r = k .before .before .before in
-    let b = r .before .before .before .before in
+    let r = k .before .before .before .before .before .before in
+    let b = r .before .before .before .before .before in
     let p = head b in
     c .found .ensures
-    ∙ searching-hit (p .loop .inv) (step (here b)) (begun b) (room p) (r .near-all .ensures) (k .blocks-of .ensures) (not-false _ (k .before .if2 .left))
-    (omega (arith, c .before .if3 .taken))
+    ∙ searching-hit (p .loop .inv) (step (here b)) (begun b) (room p) (r .near-all .ensures) (days (k .before)) (k .blocks-of .ensures)
+    (not-false _ (k .before .before .before .before .if2 .left)) (omega (arith, c .before .if3 .taken))
 
 loop-again : tie.Need-loop-again Inv-loop μ-loop
 loop-again c =
     let k = c .before .before .before in
-    let r = k .before .before .before in
-    let b = r .before .before .before .before in
+    let r = k .before .before .before .before .before .before in
+    let b = r .before .before .before .before .before in
     let p = head b in
-    searching-next (p .loop .inv) (step (here b)) (begun b) (room p) (r .near-all .ensures) (k .blocks-of .ensures) (not-false _ (k .before .if2 .left))
-    (omega (arith, c .before .if3 .left)) (c .either3 .ensures) (start p .pre .0 .3) (small b)
+    searching-next (p .loop .inv) (step (here b)) (begun b) (room p) (r .near-all .ensures) (days (k .before)) (k .blocks-of .ensures)
+    (not-false _ (k .before .before .before .before .if2 .left)) (omega (arith, c .before .if3 .left)) (c .either3 .ensures) (start p .pre .0 .3) (small b)
 
 loop-again-2 : tie.Need-loop-again-2 Inv-loop μ-loop
 loop-again-2 c =
@@ -146,14 +173,14 @@ search-spec =
     (λ c κs. search needs)
     (λ c. search needs)
     (λ c. omega arith)
-    (λ c. omega (arith, c .shared-slice-known5 .given (c .before .before .before .before .before .before .args .from)))
+    (λ c. omega (arith, c .shared-slice-known6 .given (c .before .before .before .before .before .before .before .args .from)))
     add-either-2
     (λ c κs. search needs)
     loop-holds
     partition-after-requires
     (λ c. omega (arith, step c .there))
     (λ c. omega (arith, step (c .before) .there))
-    (λ c. omega (arith, c .shared-slice-known6 .given (c .before .partition-after .result)))
+    (λ c. omega (arith, c .shared-slice-known7 .given (c .before .partition-after .result)))
     (λ c. omega arith)
     (λ c κs. step (c .before .before) .fits)
     -- the end of the partition, and its part of each slice
@@ -170,9 +197,20 @@ search-spec =
     (λ c. omega (arith, stops (c .before .before)))
     (λ c. omega (arith, stops (c .before .before)))
     (λ c. omega (arith, stops (c .before .before)))
+    (λ c. omega (arith, stops (c .before .before .before)))
+    (λ c. omega (arith, stops (c .before .before .before)))
+    (λ c. omega (arith, stops (c .before .before .before)))
+    (λ c. omega (arith, stops (c .before .before .before)))
     near-all-requires
     (λ c κs. search needs)
     returns
+    -- the days
+    (λ c. omega (arith, stops (c .before .before .before .before .before .before .before)))
+    (λ c. omega (arith, stops (c .before .before .before .before .before .before .before)))
+    (λ c. omega (arith, stops (c .before .before .before .before .before .before .before)))
+    (λ c. let b = c .before .before .before .before .before .before .before in omega (arith, stops b, start (head b) .pre .1 .1 .days))
+    (λ c κs. search needs)
+    (λ c κs. search needs)
     blocks-of-requires
     add-blocks
     (λ c κs. search needs)

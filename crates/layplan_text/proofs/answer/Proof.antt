@@ -9,38 +9,38 @@ use Rattle.layplan_text.proofs.answer.Tie as tie
 -- The block length, M and Q.
 
 abbrev from : tie.After-spelled-at3 → tie.Start
-from c = c .before .before .before .before .before .before .before
+from c = c .before .before .before .before .before .before .before .before
 
 sizes : (c : tie.After-spelled-at3) → Sizes (from c .args .text .now) (c .before .before .spelled-at .result) (c .before .spelled-at2 .result) (c .spelled-at3 .result)
 sizes c = record { block = c .before .before .spelled-at .ensures; used = c .before .spelled-at2 .ensures; count = c .spelled-at3 .ensures }
 
 spelled-at-requires : tie.Need-spelled-at-requires
-spelled-at-requires c κs = head _ (good _ (c .before .before .before .before .pre) .first) .block
+spelled-at-requires c κs = head _ (good _ (c .before .before .before .before .before .pre) .first) .block
 
 spelled-at-requires-2 : tie.Need-spelled-at-requires-2
-spelled-at-requires-2 c κs = head _ (good _ (c .before .before .before .before .before .pre) .first) .used
+spelled-at-requires-2 c κs = head _ (good _ (c .before .before .before .before .before .before .pre) .first) .used
 
 spelled-at-requires-3 : tie.Need-spelled-at-requires-3
-spelled-at-requires-3 c κs = head _ (good _ (c .before .before .before .before .before .before .pre) .first) .count
+spelled-at-requires-3 c κs = head _ (good _ (c .before .before .before .before .before .before .before .pre) .first) .count
 
 record-lines-requires : tie.Need-record-lines-requires
 record-lines-requires c κs =
-    let s = c .before .before .before .before .before .before .before .before in
+    let s = from (c .before) in
     let n = sizes (c .before) in
     (calls-start n (s .pre), calls-few n (s .pre), calls-good n (s .pre))
 
 returns : tie.Need-returns
 returns c =
     let n = sizes (c .before .before .before .before .before) in
-    answer-refused _ _ _ n _ _ (c .before .before .before .record-lines .ensures) _ (λ z. omega (arith, z, c .before .if1 .taken)) (c .refused .ensures)
+    answer-refused _ n _ _ (c .before .before .before .record-lines .ensures) _ (λ z. omega (arith, z, c .before .if1 .taken)) (c .refused .ensures)
 
 plan-requires : tie.Need-plan-requires
-plan-requires c κs = good _ (c .before .before .before .before .before .before .before .before .before .before .before .before .pre) .first
+plan-requires c κs = good _ (from (c .before .before .before .before .before) .pre) .first
 
 returns-2 : tie.Need-returns-2
 returns-2 c =
     let n = sizes (c .before .before .before .before .before .before) in
-    answer-planned _ _ _ n _ _ (c .before .before .before .before .record-lines .ensures) _ (omega (arith, c .before .before .if1 .left)) (c .plan .ensures)
+    answer-planned _ n _ _ (c .before .before .before .before .record-lines .ensures) _ (omega (arith, c .before .before .if1 .left)) (c .plan .ensures)
 
 pub answer-spec : {M : Type 1} → statement M
 answer-spec =

@@ -1,9 +1,10 @@
--- `layplan_text::layplan_text` meets its contract: a text that is no input is refused by 14; of one that is, each slice takes its column and one free slot. Assumes nothing.
-use Prim.Native.Nat.{_+_, _<_}
+-- `layplan_text::layplan_text` meets its contract: a text that is no input is refused by 14; of one that is, each slice takes its column and one free slot, and every day is 0. Assumes nothing.
+use Prim.Native.Nat.{ℕ, _+_, _<_}
 use mathlib.Core.Path.{_≡_, sym}
 use mathlib.Core.Bool.{true}
 use native.Mathlib.Omega.{arith}
 use borrow.Author.Needs.{needs}
+use lib.ListN.{length-replicate}
 use lib.Seq.{length-take-le}
 use Rattle.model.specs.Bounds.{mostDeliveries}
 use Rattle.model.proofs.Tests.{of-true}
@@ -73,12 +74,18 @@ slice-aggregate-answer-3 : tie.Need-slice-aggregate-answer-3
 slice-aggregate-answer-3 c =
     sym (length-take-le _ _ (omega (arith, stored-room _ 113 _ (mostDeliveries + 1) (few (c .before .before .before)) _ (yields (c .before .before .before) .store3 .ensures))))
 
+array-share-prefix-days : tie.Need-array-share-prefix-days
+array-share-prefix-days c = omega (arith, few (c .before .before .before))
+
+slice-aggregate-answer-4 : tie.Need-slice-aggregate-answer-4
+slice-aggregate-answer-4 c = sym (length-take-le _ _ (omega (arith, few (c .before .before .before .before), length-replicate {A = ℕ} (mostDeliveries + 1) 0)))
+
 answer-requires : tie.Need-answer-requires
-answer-requires c κs = of-true _ (week (spelled (c .before .before .before) .before))
+answer-requires c κs = of-true _ (week (spelled (c .before .before .before .before) .before))
 
 returns-2 : tie.Need-returns-2
 returns-2 c =
-    let y = c .before .before .before .before in
+    let y = c .before .before .before .before .before in
     let m = spelled y in
     program-answers _ _ (week (m .before)) (m .spelled-at .ensures) _ _ _ (growers y .store .ensures) (weights y .store2 .ensures) (yields y .store3 .ensures) _ (c .answer .ensures)
 
@@ -89,4 +96,4 @@ layplan-text-spec =
     (λ c κs. search needs) (λ c κs. search needs) returns spelled-at-requires (λ c. search needs) (λ c. search needs) store-requires
     (λ c. search needs) store-requires-2 (λ c. search needs) store-requires-3 (λ c. search needs) array-share-prefix-growers
     slice-aggregate-answer array-share-prefix-weights slice-aggregate-answer-2 array-share-prefix-yields slice-aggregate-answer-3
-    answer-requires returns-2)
+    array-share-prefix-days slice-aggregate-answer-4 answer-requires returns-2)

@@ -8,7 +8,7 @@ use Rattle.layplan_text.proofs.record_at.Tie as tie
 -- The first four numbers.
 
 abbrev from : tie.After-spelled-at4 → tie.Start
-from c = c .before .before .before .before .before .before .before .before .before
+from c = c .before .before .before .before .before .before .before .before .before .before
 
 four : (c : tie.After-spelled-at4)
     → Four (from c .args .text .now) (from c .args .at)
@@ -16,16 +16,16 @@ four : (c : tie.After-spelled-at4)
 four c = record { kind = c .before .before .before .spelled-at .ensures; first = c .before .before .spelled-at2 .ensures; second = c .before .spelled-at3 .ensures; third = c .spelled-at4 .ensures }
 
 spelled-at-requires : tie.Need-spelled-at-requires
-spelled-at-requires c κs = five-fields _ _ (c .before .before .before .before .before .pre .1) .kind
+spelled-at-requires c κs = five-fields _ _ (c .before .before .before .before .before .before .pre .1) .kind
 
 spelled-at-requires-2 : tie.Need-spelled-at-requires-2
-spelled-at-requires-2 c κs = five-fields _ _ (c .before .before .before .before .before .before .pre .1) .first
+spelled-at-requires-2 c κs = five-fields _ _ (c .before .before .before .before .before .before .before .pre .1) .first
 
 spelled-at-requires-3 : tie.Need-spelled-at-requires-3
-spelled-at-requires-3 c κs = five-fields _ _ (c .before .before .before .before .before .before .before .pre .1) .second
+spelled-at-requires-3 c κs = five-fields _ _ (c .before .before .before .before .before .before .before .before .pre .1) .second
 
 spelled-at-requires-4 : tie.Need-spelled-at-requires-4
-spelled-at-requires-4 c κs = five-fields _ _ (c .before .before .before .before .before .before .before .before .pre .1) .third
+spelled-at-requires-4 c κs = five-fields _ _ (c .before .before .before .before .before .before .before .before .before .pre .1) .third
 
 returns : tie.Need-returns
 returns c = let b = c .before .before .before .before in found-at blockLimit (four (b .before)) _ _ _ (b .if1 .taken) (c .before .before .record-find .ensures)

@@ -9,18 +9,18 @@ use Rattle.layplan_text.proofs.record_lines.Statement.{statement}
 use Rattle.layplan_text.proofs.record_lines.Tie as tie
 
 abbrev Inv-loop : tie.InvT-loop
-Inv-loop text at q histograms₀ block used growers weights yields i₀ e₀ histograms i e = RecordsLeft text at q (setOf block used growers weights yields) histograms₀ histograms i e
+Inv-loop text at q histograms₀ block used growers weights yields days i₀ e₀ histograms i e = RecordsLeft text at q (setOf block used growers weights yields days) histograms₀ histograms i e
 
 abbrev μ-loop : tie.MeasureT-loop
-μ-loop text at q histograms₀ block used growers weights yields i₀ e₀ histograms i e = q - i
+μ-loop text at q histograms₀ block used growers weights yields days i₀ e₀ histograms i e = q - i
 
 loop-holds : tie.Need-loop-holds Inv-loop μ-loop
-loop-holds c = records-start _ _ _ _ _ (c .before .before .before .before .before .pre .2)
+loop-holds c = records-start _ _ _ _ _ (c .before .before .before .before .before .before .pre .2)
 
 record-at-requires : tie.Need-record-at-requires Inv-loop μ-loop
 record-at-requires c κs =
     let l = c .before .before in
-    let s = l .before .before .before .before .before .before in
+    let s = l .before .before .before .before .before .before .before in
     (omega (arith, l .loop .inv .at-line, s .pre .0, s .pre .1), next-line (c .before .loop-test .taken) (l .loop .inv))
 
 returns : tie.Need-returns Inv-loop μ-loop
@@ -31,7 +31,7 @@ returns c =
 add-e : tie.Need-add-e Inv-loop μ-loop
 add-e c =
     let l = c .before .before .before .before .before .before in
-    let s = l .before .before .before .before .before .before in
+    let s = l .before .before .before .before .before .before .before in
     omega (arith, l .loop .inv .at-line, s .pre .0, s .pre .1)
 
 loop-again : tie.Need-loop-again Inv-loop μ-loop

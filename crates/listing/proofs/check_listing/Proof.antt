@@ -18,10 +18,10 @@ use Rattle.listing.proofs.check_listing.Tie as tie
 -- Places: the start; past the checks of what was given; a small set; its layouts counted.
 
 abbrev the-set : tie.Start → Set
-the-set s = let a = s .args in setOf (a .block) (a .used) (a .growers .now) (a .weights .now) (a .yields .now)
+the-set s = let a = s .args in setOf (a .block) (a .used) (a .growers .now) (a .weights .now) (a .yields .now) (a .days .now)
 
 abbrev start : tie.Else1 → tie.Start
-start c = c .before .before .before .before .before .before
+start c = c .before .before .before .before .before .before .before
 
 passed : (c : tie.Else1) → (let s = start c in firstFailed (givenChecks blockLimit (s .args .card) (s .args .limits) (the-set s) (s .args .histograms .now)) ≡ 0)
 passed c = sym (c .before .plan-refusal .ensures) ∙ c .if1 .left

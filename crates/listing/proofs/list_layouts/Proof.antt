@@ -22,10 +22,10 @@ use Rattle.listing.proofs.list_layouts.Tie as tie
 -- Places: the start; past the checks; the blocks counted; where an end may stand marked.
 
 abbrev the-set : tie.Start → Set
-the-set s = let a = s .args in setOf (a .block) (a .used) (a .growers .now) (a .weights .now) (a .yields .now)
+the-set s = let a = s .args in setOf (a .block) (a .used) (a .growers .now) (a .weights .now) (a .yields .now) (a .days .now)
 
 abbrev start : tie.Else1 → tie.Start
-start c = c .before .before .before .before .before .before .before .before
+start c = c .before .before .before .before .before .before .before .before .before
 
 can : (c : tie.Else1) → (let s = start c in
     CanList blockLimit (s .args .card) (s .args .limits) (the-set s) (s .args .histograms .now) (s .args .text .now) _ (c .before .before .check-listing .ensures))

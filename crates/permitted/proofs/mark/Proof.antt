@@ -35,7 +35,7 @@ loop-less c = omega arith
 loop-again : tie.Need-loop-again Inv-loop μ-loop
 loop-again c =
     let loop = c .before .before .loop in
-    (omega arith, marked-more _ _ _ _ _ _ _ (loop .inv .1) (omega arith) (c .separates-none .ensures [] []))
+    (omega arith, marked-more _ _ _ _ _ _ _ (loop .inv .1) (omega arith) (c .separates-none .ensures [] [] []))
 
 same-length : tie.Need-same-length Inv-loop μ-loop
 same-length c = c .before .loop .inv .1 .long

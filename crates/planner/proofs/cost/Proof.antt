@@ -18,10 +18,10 @@ use Rattle.planner.proofs.cost.Statement.{statement}
 use Rattle.planner.proofs.cost.Tie as tie
 
 abbrev the-set : tie.Start → Set
-the-set c = let a = c .args in setOf (a .block) (a .used) (a .growers .now) (a .weights .now) (a .yields .now)
+the-set c = let a = c .args in setOf (a .block) (a .used) (a .growers .now) (a .weights .now) (a .yields .now) (a .days .now)
 
 abbrev at-start : tie.Else1 → tie.Start
-at-start c = c .before .before .before .before .before .before .before
+at-start c = c .before .before .before .before .before .before .before .before
 
 -- past the checks
 passed : (c : tie.Else1) → (let s = at-start c in firstFailed (costChecks blockLimit (s .args .card) (the-set s) (s .args .ends .now) (s .args .histograms .now)) ≡ 0)

@@ -1,4 +1,4 @@
--- `planner::cost_refusal` meets its contract: past check 1, `layout_refusal` decides 2 to 8, and past them 9 is left to answer. Assumes nothing.
+-- `planner::cost_refusal` meets its contract: past check 1, `layout_refusal` decides 2 to 8 and 19, and past them 9 is left to answer. Assumes nothing.
 use mathlib.Core.Path.{_≡_, refl, sym, _∙_}
 use mathlib.Core.List.{List, [], _∷_}
 use borrow.Author.Needs.{needs}
@@ -15,14 +15,14 @@ use Rattle.planner.proofs.cost_refusal.Tie as tie
 
 abbrev checks : tie.Else1 → List Check
 checks c =
-    let a = c .before .before .before .before .before .before .before .args in
-    costChecks blockLimit (a .card) (setOf (a .block) (a .used) (a .growers .now) (a .weights .now) (a .yields .now)) (a .ends .now) (a .histograms .now)
+    let a = c .before .before .before .before .before .before .before .before .args in
+    costChecks blockLimit (a .card) (setOf (a .block) (a .used) (a .growers .now) (a .weights .now) (a .yields .now) (a .days .now)) (a .ends .now) (a .histograms .now)
 
 past-prices : (c : tie.Else1) → firstFailed (drop 1 (checks c)) ≡ firstFailed (checks c)
 unfolding costChecks
 past-prices c = passes 1 _ _ _ (sym (c .before .prices-ok .ensures) ∙ not-false _ (c .if1 .left)) refl
 
-past-layout : (c : tie.Else2) → (let cs = checks (c .before .before) in firstFailed (drop 7 cs) ≡ firstFailed cs)
+past-layout : (c : tie.Else2) → (let cs = checks (c .before .before) in firstFailed (drop 8 cs) ≡ firstFailed cs)
 unfolding applyChecks costChecks
 past-layout c = sym (apply-passed blockLimit _ _ _ (sym (c .before .layout-refusal .ensures) ∙ c .if2 .left)) ∙ past-prices (c .before .before)
 

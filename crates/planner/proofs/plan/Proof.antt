@@ -15,10 +15,10 @@ use Rattle.planner.proofs.plan.Statement.{statement}
 use Rattle.planner.proofs.plan.Tie as tie
 
 abbrev the-set : tie.Start → Set
-the-set c = let a = c .args in setOf (a .block) (a .used) (a .growers .now) (a .weights .now) (a .yields .now)
+the-set c = let a = c .args in setOf (a .block) (a .used) (a .growers .now) (a .weights .now) (a .yields .now) (a .days .now)
 
 abbrev at-start : tie.Else1 → tie.Start
-at-start c = c .before .before .before .before .before .before .before
+at-start c = c .before .before .before .before .before .before .before .before
 
 -- past the checks of what was given
 passed : (c : tie.Else1) → (let s = at-start c in firstFailed (givenChecks blockLimit (s .args .card) (s .args .limits) (the-set s) (s .args .histograms .now)) ≡ 0)

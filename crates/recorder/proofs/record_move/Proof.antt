@@ -1,4 +1,4 @@
--- `recorder::record_move` meets its contract. `counted_refusal` puts the checks ahead of 10; past them both growers' blocks are below the limit, and `raise_two` puts 10 at their
+-- `recorder::record_move` meets its contract. `delivery_refusal` puts the checks ahead of 10; past them both growers' blocks are below the limit, and `raise_two` puts 10 at their
 -- slots of udf and utf or of udb and utb, as the growers compare; `raise_one` at the old block's of pq where the set has no such delivery. Assumes nothing.
 use mathlib.Core.Path.{_≡_, refl, _∙_}
 use native.Mathlib.Omega.{arith}
@@ -8,18 +8,22 @@ use Rattle.model.specs.Histograms.{histogramsSize}
 use borrow.Author.Tests.{not-true, not-false}
 use borrow.Author.Needs.{needs}
 use Rattle.model.specs.Bounds.{blockLimit}
-use Rattle.model.specs.Calls.{move, ordered, offeredOk}
+use Rattle.model.specs.Blocks.{Set}
+use Rattle.model.specs.Calls.{move, ordered, offeredOk, offeredDaysOk}
 use Rattle.model.specs.Lent.{setOf}
 use Rattle.recorder.proofs.Recording.{Decided, decided, move-missing, move-forward, move-backward}
 use Rattle.recorder.proofs.record_move.Statement.{statement}
 use Rattle.recorder.proofs.record_move.Tie as tie
 
+abbrev the-set : tie.Start → Set
+the-set s = let a = s .args in setOf (a .block) (a .used) (a .growers .now) (a .weights .now) (a .yields .now) (a .days .now)
+
 -- what the checks ahead of 10 decide
-decision : (c : tie.After-counted-refusal)
-    → (let a = c .before .before .before .before .before .before .before .args in
-    Decided blockLimit (setOf (a .block) (a .used) (a .growers .now) (a .weights .now) (a .yields .now)) (a .histograms .now) (move (a .d) (a .new-grower)) (c .counted-refusal .result))
-unfolding ordered offeredOk
-decision c = decided blockLimit _ _ _ _ _ _ refl (c .before .before .in-range .ensures) (c .counted-refusal .ensures)
+decision : (c : tie.After-delivery-refusal)
+    → (let s = c .before .before .before .before .before .before .before in
+    Decided blockLimit (the-set s) (s .args .histograms .now) (move (s .args .d) (s .args .new-grower)) (c .delivery-refusal .result))
+unfolding ordered offeredOk offeredDaysOk
+decision c = decided blockLimit _ _ _ _ _ _ _ refl refl refl (c .delivery-refusal .ensures)
 
 -- past them, the two blocks are below the limit, and the histograms are as long as they should be
 blocks : (c : tie.After-block-of2)
@@ -30,7 +34,7 @@ blocks c =
     let b = c .before .before .before in
     let e = b .before in
     let p = decision (e .before) .passed (e .if1 .left) in
-    (p .below _ _ (b .block-of .ensures _ _), p .below _ _ (c .block-of2 .ensures _ _), p .long)
+    (p .below _ _ (b .block-of .ensures _ _ _), p .below _ _ (c .block-of2 .ensures _ _ _), p .long)
 
 returns : tie.Need-returns
 returns c = decision (c .before) .refused (c .if1 .taken)
@@ -49,7 +53,7 @@ raise-one-requires c κs =
     let b = c .before .before .before in
     let e = b .before in
     let p = decision (e .before) .passed (e .if1 .left) in
-    (omega arith, p .below _ _ (b .block-of .ensures _ _), p .long)
+    (omega arith, p .below _ _ (b .block-of .ensures _ _ _), p .long)
 
 returns-2 : tie.Need-returns-2
 returns-2 c =
@@ -57,7 +61,7 @@ returns-2 c =
     let h = t .before in
     let b = h .before in
     let e = b .before in
-    let k = move-missing blockLimit _ _ _ (b .block-of .ensures _ _) _ (h .has-delivery .ensures) _ (not-true _ (t .if2 .taken)) in
+    let k = move-missing blockLimit _ _ _ (b .block-of .ensures _ _ _) _ (h .has-delivery .ensures) _ (not-true _ (t .if2 .taken)) in
     c .before .before .raise-one .ensures ∙ decision (e .before) .passed (e .if1 .left) .answers _ k
 
 block-of-requires-2 : tie.Need-block-of-requires-2
@@ -73,7 +77,7 @@ returns-3 c =
     let h = o .before .before in
     let b = h .before in
     let e = b .before in
-    let k = move-forward blockLimit _ _ _ (b .block-of .ensures _ _) _ (h .has-delivery .ensures) _ _ (o .block-of2 .ensures _ _)
+    let k = move-forward blockLimit _ _ _ (b .block-of .ensures _ _ _) _ (h .has-delivery .ensures) _ _ (o .block-of2 .ensures _ _ _)
     (not-false _ (o .before .if2 .left)) (t .if3 .taken) in
     c .before .before .raise-two .ensures ∙ decision (e .before) .passed (e .if1 .left) .answers _ k
 
@@ -87,7 +91,7 @@ returns-4 c =
     let h = o .before .before in
     let b = h .before in
     let e = b .before in
-    let k = move-backward blockLimit _ _ _ (b .block-of .ensures _ _) _ (h .has-delivery .ensures) _ _ (o .block-of2 .ensures _ _)
+    let k = move-backward blockLimit _ _ _ (b .block-of .ensures _ _ _) _ (h .has-delivery .ensures) _ _ (o .block-of2 .ensures _ _ _)
     (not-false _ (o .before .if2 .left)) (t .if3 .left) in
     c .before .before .raise-two2 .ensures ∙ decision (e .before) .passed (e .if1 .left) .answers _ k
 
@@ -95,7 +99,6 @@ pub record-move-spec : {M : Type 1} → statement M
 record-move-spec =
     tie.close
     (tie.spec
-    (λ c κs. search needs)
     (λ c κs. search needs)
     (λ c. search needs)
     returns

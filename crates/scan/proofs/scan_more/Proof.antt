@@ -1,8 +1,8 @@
 -- `scan::scan_more`: bad after a bad scan and after a bad sum of the partition; else its totals and its blocks are added, both small enough. Assumes nothing.
-use mathlib.Core.Path.{_≡_, sym, ap, ap₂, subst, _∙_}
-use mathlib.Core.Bool.{Bool, true, false}
+use mathlib.Core.Path.{_≡_, sym, ap, subst, _∙_}
+use mathlib.Core.Bool.{Bool, true, false, _&&_}
 use mathlib.Core.List.{List}
-use Prim.Native.Nat.{ℕ, _+_}
+use Prim.Native.Nat.{_+_}
 use native.Mathlib.Omega.{arith}
 use borrow.Author.Needs.{needs}
 use borrow.Author.Tests.{not-true, not-false}
@@ -11,7 +11,9 @@ use Rattle.model.specs.declared.Delivery.{Delivery}
 use Rattle.model.specs.declared.Totals.{Totals}
 use Rattle.model.specs.Bounds.{mostSlots}
 use Rattle.model.specs.Lists.{every}
-use Rattle.model.specs.Deliveries.{LightTotals, inRange, plusTotals, totalsBetween, rows}
+use Rattle.model.specs.Deliveries.{LightTotals, inRange, dayOk, plusTotals, totalsDuring, rows}
+use Rattle.model.specs.Calendar.{span}
+use Rattle.model.specs.Lent.{slicesAt}
 use Rattle.model.specs.Accesses.{blocksOf}
 use Rattle.model.proofs.AccessLaws.{blocks-most}
 use Rattle.model.proofs.Deliveries.{length-rows}
@@ -22,27 +24,30 @@ use Rattle.scan.proofs.Summing.{sums, sum-light}
 use Rattle.scan.proofs.scan_more.Statement.{statement}
 use Rattle.scan.proofs.scan_more.Tie as tie
 
-abbrev start : tie.After-sum-all → tie.Start
-start c = c .before .before .before .before .before .before
+abbrev start : tie.After-sum-part → tie.Start
+start c = c .before .before .before .before .before .before .before
 
-abbrev records : tie.After-sum-all → List Delivery
-records c = let a = start c .args in rows (a .g .now) (a .w .now) (a .y .now)
+abbrev records : tie.After-sum-part → List Delivery
+records c = let a = start c .args in rows (slicesAt (a .g) (a .w) (a .y) (a .n))
 
-size : (c : tie.After-sum-all) → length (records c) ≡ length (start c .args .g .now)
-size c = let a = start c .args in length-rows (a .g .now) (a .w .now) (a .y .now) (start c .pre .1 .weights) (start c .pre .1 .yields)
+size : (c : tie.After-sum-part) → length (records c) ≡ length (start c .args .g .now)
+size c = let a = start c .args in length-rows (slicesAt (a .g) (a .w) (a .y) (a .n)) (start c .pre .1)
+
+abbrev totals : tie.After-sum-part → Totals
+totals c = let a = start c .args in totalsDuring (a .lo) (a .hi) (span (a .first) (a .last)) (records c)
 
 -- what the sum of the partition's records says
-in-range : (c : tie.After-sum-all) (b : Bool) → c .sum-all .result .good ≡ b → every inRange (records c) ≡ b
+in-range : (c : tie.After-sum-part) (b : Bool) → c .sum-part .result .good ≡ b → every inRange (records c) ≡ b
 unfolding sumAll
-in-range c = let a = start c .args in judged-says sums (every inRange (records c)) (totalsBetween (a .lo) (a .hi) (records c)) (c .sum-all .result) (c .sum-all .ensures)
+in-range c = judged-says sums (every inRange (records c)) (every dayOk (records c), totals c) (c .sum-part .result) (c .sum-part .ensures)
 
-totals-are : (c : tie.After-sum-all) → c .sum-all .result .good ≡ true → c .sum-all .result .totals ≡ totalsBetween (start c .args .lo) (start c .args .hi) (records c)
+summed : (c : tie.After-sum-part) → c .sum-part .result .good ≡ true → _≡_ {A = Bool × Totals} (c .sum-part .result .dated, c .sum-part .result .totals) (every dayOk (records c), totals c)
 unfolding sumAll
-totals-are c = let a = start c .args in judged-value sums (every inRange (records c)) (totalsBetween (a .lo) (a .hi) (records c)) (c .sum-all .result) (c .sum-all .ensures)
+summed c = judged-value sums (every inRange (records c)) (every dayOk (records c), totals c) (c .sum-part .result) (c .sum-part .ensures)
 
 returns : tie.Need-returns
 unfolding scanMore
-returns c = c .bad-scan .ensures ∙ rw (not-true (c .before .before .before .before .before .before .args .s .good) (c .before .if1 .taken))
+returns c = c .bad-scan .ensures ∙ rw (not-true (c .before .before .before .before .before .before .before .args .s .good) (c .before .if1 .taken))
 
 returns-2 : tie.Need-returns-2
 unfolding scanMore
@@ -54,7 +59,8 @@ plus-requires : tie.Need-plus-requires
 plus-requires c κs =
     let m = c .before .before in
     let a = start m .args in
-    (start m .pre .3 .light, subst (λ (x : Sum). LightTotals mostSlots (x .totals)) (sym (m .sum-all .ensures)) (sum-light (a .lo) (a .hi) (records m) (omega (arith, size m))))
+    let small = sum-light (a .lo) (a .hi) (span (a .first) (a .last)) (records m) (omega (arith, size m)) in
+    (start m .pre .3 .light, subst (λ (x : Sum). LightTotals mostSlots (x .totals)) (sym (m .sum-part .ensures)) small)
 
 add-blocks : tie.Need-add-blocks
 add-blocks c =
@@ -64,13 +70,15 @@ add-blocks c =
 returns-3 : tie.Need-returns-3
 unfolding scanMore
 returns-3 c =
-    let m = c .before .before .before .before .before in
+    let m = c .before .before .before .before .before .before in
     let a = start m .args in
-    let good = not-false _ (c .before .before .before .if2 .left) in
-    let t = c .before .before .plus .ensures ∙ ap (plusTotals (a .s .totals)) (totals-are m good) in
-    let k = c .before .blocks-of .ensures ∙ ap (blocksOf (a .block)) (sym (size m)) in
+    let good = not-false _ (c .before .before .before .before .if2 .left) in
+    let v = summed m good in
+    let t = c .before .before .before .plus .ensures ∙ ap (λ (x : Bool × Totals). plusTotals (a .s .totals) (x .1)) v in
+    let k = c .before .before .blocks-of .ensures ∙ ap (blocksOf (a .block)) (sym (size m)) in
+    let e = c .both .ensures ∙ ap (λ (x : Bool × Totals). a .s .dated && x .0) v in
     good-on badScan (not-false (a .s .good) (m .before .if1 .left)) (in-range m true good)
-    (ap₂ (λ (x : Totals) (n : ℕ). record { good = true; totals = x; blocks = a .s .blocks + n }) t k)
+    (λ i. record { good = true; dated = e i; totals = t i; blocks = a .s .blocks + k i })
 
 pub scan-more-spec : {M : Type 1} → statement M
 scan-more-spec =
@@ -84,4 +92,5 @@ scan-more-spec =
     plus-requires
     (λ c κs. search needs)
     add-blocks
+    (λ c κs. search needs)
     returns-3)

@@ -3,6 +3,8 @@ use Prim.Native.Nat.{_+_, _-_}
 use mathlib.Core.Path.{_≡_}
 use native.Mathlib.Omega.{arith}
 use lib.ListN.{length, length-take, length-drop}
+use Rattle.model.specs.Lent.{slicesAt}
+use Rattle.model.specs.Deliveries.{slicesOf}
 use Rattle.slices.proofs.Sums.{even-part}
 use Rattle.slices.proofs.Strides.{Strides, strides-end}
 use Rattle.scan.specs.Scans.{seekAll}
@@ -11,44 +13,44 @@ use Rattle.scan.proofs.seek_all.Statement.{statement}
 use Rattle.scan.proofs.seek_all.Tie as tie
 
 abbrev Inv-loop : tie.InvT-loop
-Inv-loop g w y d s₀ i₀ s i = Strides (seekAll d) g w y s i
+Inv-loop g w y n d s₀ i₀ s i = Strides (seekAll d) (slicesOf g w y n) s i
 
 abbrev μ-loop : tie.MeasureT-loop
-μ-loop g w y d s₀ i₀ s i = length g - i
+μ-loop g w y n d s₀ i₀ s i = length g - i
 
 abbrev start : tie.At-loop Inv-loop μ-loop → tie.Start Inv-loop μ-loop
-start c = c .before .before .before .before
+start c = c .before .before .before .before .before
 
 seek-more-requires : tie.Need-seek-more-requires Inv-loop μ-loop
 seek-more-requires c κs =
-    let l = c .before .before .before .before in
+    let l = c .before .before .before .before .before in
     let a = start l .args in
     let i = l .loop .i in
-    (simp (length-take, length-drop) (omega arith), even-part (a .g .now) (a .w .now) (a .y .now) (i + 64 - i) i (start l .pre .1), omega arith)
+    (simp (length-take, length-drop) (omega arith), even-part (slicesAt (a .g) (a .w) (a .y) (a .n)) (i + 64 - i) i (start l .pre .1), omega arith)
 
 loop-again : tie.Need-loop-again Inv-loop μ-loop
 loop-again c =
-    let l = c .before .before .before .before .before in
+    let l = c .before .before .before .before .before .before in
     let a = start l .args in
     let i = l .loop .i in
     let e : i + 64 - i ≡ 64 = omega arith in
-    seeking-next (a .d) (a .g .now) (a .w .now) (a .y .now) (start l .pre .1) (l .loop .s) i (l .loop .inv) 64 _ (omega arith) (rw e at (c .seek-more .ensures))
+    seeking-next (a .d) (slicesAt (a .g) (a .w) (a .y) (a .n)) (start l .pre .1) (l .loop .s) i (l .loop .inv) 64 _ (omega arith) (rw e at (c .seek-more .ensures))
 
 seek-more-requires-2 : tie.Need-seek-more-requires-2 Inv-loop μ-loop
 seek-more-requires-2 c κs =
-    let l = c .before .before .before .before in
-    let a = start l .args in
-    let i = l .loop .i in
-    (simp (length-take, length-drop) (omega arith), even-part (a .g .now) (a .w .now) (a .y .now) (length (a .g .now) - i) i (start l .pre .1), omega arith)
-
-returns : tie.Need-returns Inv-loop μ-loop
-returns c =
     let l = c .before .before .before .before .before in
     let a = start l .args in
     let i = l .loop .i in
+    (simp (length-take, length-drop) (omega arith), even-part (slicesAt (a .g) (a .w) (a .y) (a .n)) (length (a .g .now) - i) i (start l .pre .1), omega arith)
+
+returns : tie.Need-returns Inv-loop μ-loop
+returns c =
+    let l = c .before .before .before .before .before .before in
+    let a = start l .args in
+    let i = l .loop .i in
     let n = length (a .g .now) - i in
-    let k = seeking-next (a .d) (a .g .now) (a .w .now) (a .y .now) (start l .pre .1) (l .loop .s) i (l .loop .inv) n _ (omega arith) (c .seek-more2 .ensures) in
-    strides-end (seekAll (a .d)) (a .g .now) (a .w .now) (a .y .now) (start l .pre .1) _ (i + n) k (omega arith)
+    let k = seeking-next (a .d) (slicesAt (a .g) (a .w) (a .y) (a .n)) (start l .pre .1) (l .loop .s) i (l .loop .inv) n _ (omega arith) (c .seek-more2 .ensures) in
+    strides-end (seekAll (a .d)) (slicesAt (a .g) (a .w) (a .y) (a .n)) (start l .pre .1) _ (i + n) k (omega arith)
 
 pub seek-all-spec : {M : Type 1} → statement M
 seek-all-spec =
@@ -56,10 +58,14 @@ seek-all-spec =
     (tie.spec
     Inv-loop
     μ-loop
-    (λ c. seek-start _ _ _ _)
+    (λ c. seek-start _ _)
     (λ c. omega arith)
     (λ c. omega arith)
-    -- the three parts of a stride
+    -- the four parts of a stride
+    (λ c. omega arith)
+    (λ c. omega arith)
+    (λ c. omega arith)
+    (λ c. omega arith)
     (λ c. omega arith)
     (λ c. omega arith)
     (λ c. omega arith)
@@ -75,7 +81,11 @@ seek-all-spec =
     seek-more-requires
     (λ c. omega arith)
     loop-again
-    -- the three parts of the rest
+    -- the four parts of the rest
+    (λ c. omega arith)
+    (λ c. omega arith)
+    (λ c. omega arith)
+    (λ c. omega arith)
     (λ c. omega arith)
     (λ c. omega arith)
     (λ c. omega arith)

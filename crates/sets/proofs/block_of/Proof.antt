@@ -25,7 +25,7 @@ loop-holds c = record { at = omega arith; is-last = omega (arith, c .block-count
 returns : tie.Need-returns Inv-loop μ-loop
 returns c =
     let t = c .before .before in
-    λ ws ys. seek-found _ _ _ _ _ _ (t .before .loop .inv) ws ys (t .loop-test .taken) (rw (sym (c .before .last-grower .ensures [] [])) (c .if1 .taken))
+    λ ws ys ns. seek-found _ _ _ _ _ _ (t .before .loop .inv) ws ys ns (t .loop-test .taken) (rw (sym (c .before .last-grower .ensures [] [] [])) (c .if1 .taken))
 
 loop-less : tie.Need-loop-less Inv-loop μ-loop
 loop-less c = omega arith
@@ -33,10 +33,10 @@ loop-less c = omega arith
 loop-again : tie.Need-loop-again Inv-loop μ-loop
 loop-again c =
     let t = c .before .before in
-    seek-next _ _ _ _ _ _ (t .before .loop .inv) (t .loop-test .taken) (rw (sym (c .before .last-grower .ensures [] [])) (c .if1 .left))
+    seek-next _ _ _ _ _ _ (t .before .loop .inv) (t .loop-test .taken) (rw (sym (c .before .last-grower .ensures [] [] [])) (c .if1 .left))
 
 returns-2 : tie.Need-returns-2 Inv-loop μ-loop
-returns-2 c = λ ws ys. seek-end _ _ _ _ _ _ (c .before .loop .inv) ws ys (c .loop-test .left)
+returns-2 c = λ ws ys ns. seek-end _ _ _ _ _ _ (c .before .loop .inv) ws ys ns (c .loop-test .left)
 
 pub block-of-spec : {M : Type 1} → statement M
 block-of-spec =

@@ -9,16 +9,16 @@ use Rattle.sets.proofs.last_grower.Statement.{statement}
 use Rattle.sets.proofs.last_grower.Tie as tie
 
 sub-x : tie.Need-sub-x
-sub-x c = omega (arith, c .block-stop .ensures [] [] [])
+sub-x c = omega (arith, c .block-stop .ensures [] [] [] [])
 
 shared-slice-read-result : tie.Need-shared-slice-read-result
-shared-slice-read-result c = omega (arith, c .before .block-stop .ensures [] [] [])
+shared-slice-read-result c = omega (arith, c .before .block-stop .ensures [] [] [] [])
 
 returns : tie.Need-returns
 returns c =
-    λ ws ys.
+    λ ws ys ns.
     let g = c .before .before .before .args in
-    ap (λ (n : ℕ). getD (g .g .now) (n - 1) 0) (c .before .block-stop .ensures (g .g .now) ws ys)
+    ap (λ (n : ℕ). getD (g .g .now) (n - 1) 0) (c .before .block-stop .ensures (g .g .now) ws ys ns)
 
 pub last-grower-spec : {M : Type 1} → statement M
 last-grower-spec =

@@ -15,10 +15,10 @@ rises : (c : tie.Else2) → rising (c .before .before .before .before .before .a
 rises c = sym (c .before .strictly-rising .ensures) ∙ not-false _ (c .if2 .left)
 
 returns : tie.Need-returns
-returns c = λ ws ys. layout-empty _ _ (c .if1 .taken)
+returns c = λ ws ys ns. layout-empty _ _ (c .if1 .taken)
 
 returns-2 : tie.Need-returns-2
-returns-2 c = λ ws ys. layout-falls _ _ (c .before .before .if1 .left) (sym (c .before .strictly-rising .ensures) ∙ not-true _ (c .if2 .taken))
+returns-2 c = λ ws ys ns. layout-falls _ _ (c .before .before .if1 .left) (sym (c .before .strictly-rising .ensures) ∙ not-true _ (c .if2 .taken))
 
 cast-if3 : tie.Need-cast-if3
 cast-if3 c = omega (arith, c .shared-slice-known3 .given (length (c .before .before .before .before .before .before .args .ends .now) - 1))
@@ -29,12 +29,12 @@ add-if3 c = omega (arith, c .shared-slice-known3 .given (length (c .before .befo
 returns-3 : tie.Need-returns-3
 returns-3 c =
     let e = c .before .before .before in
-    λ ws ys. layout-short _ _ (e .before .before .if1 .left) (rises e) (λ z. c .if3 .taken (z ∙ sym (c .before .block-count .ensures)))
+    λ ws ys ns. layout-short _ _ (e .before .before .if1 .left) (rises e) (λ z. c .if3 .taken (z ∙ sym (c .before .block-count .ensures)))
 
 returns-4 : tie.Need-returns-4
 returns-4 c =
     let e = c .before .before .before .before in
-    λ ws ys. c .all-separate-none .ensures ws ys ∙ layout-parts _ _ (e .before .before .if1 .left) (rises e) (c .before .if3 .left ∙ c .before .before .block-count .ensures)
+    λ ws ys ns. c .all-separate-none .ensures ws ys ns ∙ layout-parts _ _ (e .before .before .if1 .left) (rises e) (c .before .if3 .left ∙ c .before .before .block-count .ensures)
 
 pub layout-ok-spec : {M : Type 1} → statement M
 layout-ok-spec =

@@ -6,12 +6,12 @@ use Rattle.sets.proofs.separates_none.Statement.{statement}
 use Rattle.sets.proofs.separates_none.Tie as tie
 
 returns : tie.Need-returns
-returns c = λ ws ys. ends-all (setOf _ _ (c .before .before .before .args .g .now) ws ys) _ _ (c .before .block-start .ensures) (c .if1 .taken)
+returns c = λ ws ys ns. ends-all (setOf _ _ (c .before .before .before .args .g .now) ws ys ns) _ _ (c .before .block-start .ensures) (c .if1 .taken)
 
 returns-2 : tie.Need-returns-2
 returns-2 c =
     let s = c .before .before .before in
-    λ ws ys. ends-between (setOf _ _ (s .before .before .args .g .now) ws ys) _ _ (s .block-start .ensures) (c .before .before .if1 .left)
+    λ ws ys ns. ends-between (setOf _ _ (s .before .before .args .g .now) ws ys ns) _ _ (s .block-start .ensures) (c .before .before .if1 .left)
 
 pub separates-none-spec : {M : Type 1} → statement M
 separates-none-spec =

@@ -18,9 +18,9 @@ use Rattle.sets.proofs.set_refusal.Statement.{statement}
 use Rattle.sets.proofs.set_refusal.Tie as tie
 
 abbrev checks : tie.Else1 → List Check
-checks c = let a = c .before .before .before .before .before .args in setChecks blockLimit (setOf (a .block) (a .used) (a .g .now) (a .w .now) (a .y .now))
+checks c = let a = c .before .before .before .before .before .before .args in setChecks blockLimit (setOf (a .block) (a .used) (a .g .now) (a .w .now) (a .y .now) (a .n .now))
 
-block-ok : (c : tie.Else1) → blockLengthOk (c .before .before .before .before .before .args .block) ≡ true
+block-ok : (c : tie.Else1) → blockLengthOk (c .before .before .before .before .before .before .args .block) ≡ true
 block-ok c = sym (c .before .block-length-ok .ensures) ∙ not-false _ (c .if1 .left)
 
 past-block : (c : tie.Else1) → firstFailed (drop 1 (checks c)) ≡ firstFailed (checks c)

@@ -1,4 +1,4 @@
--- `sets::set_values_ok` meets its contract: three prefixes of one length, whose rows `values-law` tests by weight and yield. Assumes nothing.
+-- `sets::set_values_ok` meets its contract: prefixes of one length, whose rows `values-law` tests by weight and yield. Assumes nothing.
 use mathlib.Core.Path.{sym, _∙_}
 use native.Mathlib.Omega.{arith}
 use borrow.Author.Needs.{needs}
@@ -14,7 +14,7 @@ slice-aggregate-values-ok-2 : tie.Need-slice-aggregate-values-ok-2
 slice-aggregate-values-ok-2 c = sym (length-take-le _ _ (omega arith))
 
 returns : tie.Need-returns
-returns c = let p = c .before .before .before .before .before .before .pre in λ n. c .values-ok .ensures ∙ values-law n _ _ _ _ (p .0) (p .1)
+returns c = let p = c .before .before .before .before .before .before .before .pre in λ b. c .values-ok .ensures ∙ values-law _ (p .1)
 
 pub set-values-ok-spec : {M : Type 1} → statement M
 set-values-ok-spec =

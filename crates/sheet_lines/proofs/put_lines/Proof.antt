@@ -5,21 +5,22 @@ use native.Mathlib.Omega.{arith}
 use borrow.Author.Needs.{needs}
 use lib.ListN.{length, getD}
 use Rattle.model.specs.Bounds.{mostSlots}
+use Rattle.model.specs.Deliveries.{slicesOf}
 use Rattle.slot_order.proofs.Counting.{slot-in}
-use Rattle.sheet_lines.proofs.GroupLines.{LinesLeft, order-size, order-slots, lines-start, sums-light, run-some, line-room, run-light, lines-next, lines-bytes, lines-text, lines-totals}
+use Rattle.sheet_lines.proofs.GroupLines.{LinesLeft, lines-start, sums-light, run-some, line-room, run-light, lines-next, lines-bytes, lines-text, lines-totals}
 use Rattle.sheet_lines.proofs.put_lines.Statement.{statement}
 use Rattle.sheet_lines.proofs.put_lines.Tie as tie
 
 abbrev Inv-loop : tie.InvT-loop
-Inv-loop text₀ order g w y totals₀ at₀ i₀ text totals at i = LinesLeft text₀ order g w y text totals at i
+Inv-loop text₀ order g w y n totals₀ at₀ i₀ text totals at i = LinesLeft text₀ order (slicesOf g w y n) text totals at i
 
 abbrev μ-loop : tie.MeasureT-loop
-μ-loop text₀ order g w y totals₀ at₀ i₀ text totals at i = length order - i
+μ-loop text₀ order g w y n totals₀ at₀ i₀ text totals at i = length order - i
 
 -- Places: a turn of the loop, from its start and once its run is found.
 
 abbrev start : tie.In-loop Inv-loop μ-loop → tie.Start Inv-loop μ-loop
-start c = c .before .before .before .before .before .before .before .before
+start c = c .before .before .before .before .before .before .before .before .before
 
 abbrev top : tie.After-put-line-arg Inv-loop μ-loop → tie.In-loop Inv-loop μ-loop
 top c = c .before .before .before
@@ -31,19 +32,18 @@ slot-there : (c : tie.In-loop Inv-loop μ-loop) → getD (start c .args .order .
 slot-there c =
     let s = start c in
     let g = s .args .g .now in
-    slot-in g (s .args .order .now) (c .before .loop .i) (order-slots g (s .pre .1)) (c .loop-test .taken)
+    slot-in g (s .args .order .now) (c .before .loop .i) (s .pre .1 .there) (c .loop-test .taken)
 
 slot-few : (c : tie.In-loop Inv-loop μ-loop) → getD (start c .args .order .now) (c .before .loop .i) 0 < mostSlots
 slot-few c = omega (arith, slot-there c, start c .pre .0 .few)
 
 loop-holds : tie.Need-loop-holds Inv-loop μ-loop
-loop-holds c = let s = c .before .before .before .before .before .before in lines-start (s .pre .0) (s .pre .1) (c .none .ensures) (s .pre .2)
+loop-holds c = let s = c .before .before .before .before .before .before .before in lines-start (s .pre .0) (s .pre .1) (c .none .ensures) (s .pre .2)
 
 run-at-requires : tie.Need-run-at-requires Inv-loop μ-loop
 run-at-requires c κs =
     let s = start c in
-    let g = s .args .g .now in
-    (s .pre .0, omega (arith, order-size g (s .pre .1), s .pre .0 .few), order-slots g (s .pre .1), c .loop-test .taken)
+    (s .pre .0, s .pre .1 .few, s .pre .1 .there, c .loop-test .taken)
 
 shared-slice-read-put-line-2 : tie.Need-shared-slice-read-put-line-2 Inv-loop μ-loop
 shared-slice-read-put-line-2 c = slot-there (top (c .before .before))

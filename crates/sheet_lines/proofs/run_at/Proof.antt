@@ -5,6 +5,8 @@ use native.Mathlib.Omega.{arith}
 use borrow.Author.Needs.{needs}
 use lib.ListN.{length, getD}
 use Rattle.model.specs.Bounds.{mostSlots}
+use Rattle.model.specs.Deliveries.{slicesOf}
+use Rattle.model.specs.Lent.{slicesAt}
 use Rattle.slot_order.proofs.Counting.{slot-in}
 use Rattle.slices.proofs.Scans.{Modest, modest}
 use Rattle.sheet_lines.proofs.RunLaws.{RunLeft, run-start, run-next, run-stops, run-ends}
@@ -12,10 +14,10 @@ use Rattle.sheet_lines.proofs.run_at.Statement.{statement}
 use Rattle.sheet_lines.proofs.run_at.Tie as tie
 
 abbrev Inv-loop : tie.InvT-loop
-Inv-loop order g w y from grower weight₀ oil₀ i₀ weight oil i = RunLeft g w y order from weight oil i
+Inv-loop order g w y n from grower weight₀ oil₀ i₀ weight oil i = RunLeft (slicesOf g w y n) order from weight oil i
 
 abbrev μ-loop : tie.MeasureT-loop
-μ-loop order g w y from grower weight₀ oil₀ i₀ weight oil i = length order - i
+μ-loop order g w y n from grower weight₀ oil₀ i₀ weight oil i = length order - i
 
 -- Places: a turn of the loop, from its start and from its end; and the slot of this turn.
 
@@ -34,8 +36,8 @@ slot-there c = let s = start c in slot-in (s .args .g .now) (s .args .order .now
 slot-few : (c : tie.In-loop Inv-loop μ-loop) → slot c < mostSlots
 slot-few c = omega (arith, slot-there c, start c .pre .0 .few)
 
-small : (c : tie.In-loop Inv-loop μ-loop) → Modest (start c .args .w .now) (start c .args .y .now) (slot c)
-small c = modest _ _ _ (slot c) (start c .pre .0)
+small : (c : tie.In-loop Inv-loop μ-loop) → let a = start c .args in Modest (slicesAt (a .g) (a .w) (a .y) (a .n)) (slot c)
+small c = modest _ (slot c) (start c .pre .0)
 
 shared-slice-read-grower : tie.Need-shared-slice-read-grower Inv-loop μ-loop
 shared-slice-read-grower c = c .before .pre .3
@@ -50,7 +52,7 @@ shared-slice-read-grower-2 : tie.Need-shared-slice-read-grower-2 Inv-loop μ-loo
 shared-slice-read-grower-2 c = let s = c .before .before in slot-in (s .args .g .now) (s .args .order .now) (s .args .from) (s .pre .2) (s .pre .3)
 
 loop-holds : tie.Need-loop-holds Inv-loop μ-loop
-loop-holds c = run-start _ _ _ _ _ (c .before .before .pre .3)
+loop-holds c = run-start _ _ _ (c .before .before .pre .3)
 
 cast-s : tie.Need-cast-s Inv-loop μ-loop
 cast-s c = omega (arith, slot-few (c .before))

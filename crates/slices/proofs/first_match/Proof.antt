@@ -3,7 +3,8 @@ use Prim.Native.Nat.{_+_, _-_}
 use mathlib.Core.Path.{_≡_}
 use native.Mathlib.Omega.{arith}
 use lib.ListN.{length, length-take, length-drop}
-use Rattle.model.specs.Deliveries.{firstMatch}
+use Rattle.model.specs.Lent.{slicesAt}
+use Rattle.model.specs.Deliveries.{slicesOf, firstMatch}
 use Rattle.slices.proofs.Sums.{even-part}
 use Rattle.slices.proofs.Strides.{Strides}
 use Rattle.slices.proofs.Matching.{passing-start, passing-found, passing-next, passing-most, passing-end}
@@ -11,58 +12,58 @@ use Rattle.slices.proofs.first_match.Statement.{statement}
 use Rattle.slices.proofs.first_match.Tie as tie
 
 abbrev Inv-loop : tie.InvT-loop
-Inv-loop g w y d i₀ i = Strides (firstMatch d) g w y i i
+Inv-loop g w y n d i₀ i = Strides (firstMatch d) (slicesOf g w y n) i i
 
 abbrev μ-loop : tie.MeasureT-loop
-μ-loop g w y d i₀ i = length g - i
+μ-loop g w y n d i₀ i = length g - i
 
 abbrev start : tie.At-loop Inv-loop μ-loop → tie.Start Inv-loop μ-loop
-start c = c .before .before .before .before
+start c = c .before .before .before .before .before
 
 first-in-stride-requires : tie.Need-first-in-stride-requires Inv-loop μ-loop
 first-in-stride-requires c κs =
-    let l = c .before .before .before .before in
+    let l = c .before .before .before .before .before in
     let a = start l .args in
     let i = l .loop .i in
-    (simp (length-take, length-drop) (omega arith), even-part (a .g .now) (a .w .now) (a .y .now) (i + 64 - i) i (start l .pre))
+    (simp (length-take, length-drop) (omega arith), even-part (slicesAt (a .g) (a .w) (a .y) (a .n)) (i + 64 - i) i (start l .pre))
 
 returns : tie.Need-returns Inv-loop μ-loop
 returns c =
-    let l = c .before .before .before .before .before .before in
+    let l = c .before .before .before .before .before .before .before in
     let a = start l .args in
     let i = l .loop .i in
-    passing-found (a .d) (a .g .now) (a .w .now) (a .y .now) (start l .pre) i (l .loop .inv) (i + 64 - i) _ (omega arith) (c .before .first-in-stride .ensures) (omega arith)
+    passing-found (a .d) (slicesAt (a .g) (a .w) (a .y) (a .n)) (start l .pre) i (l .loop .inv) (i + 64 - i) _ (omega arith) (c .before .first-in-stride .ensures) (omega arith)
 
 loop-again : tie.Need-loop-again Inv-loop μ-loop
 loop-again c =
-    let l = c .before .before .before .before .before .before in
+    let l = c .before .before .before .before .before .before .before in
     let a = start l .args in
     let i = l .loop .i in
     let e : i + 64 - i ≡ 64 = omega arith in
-    passing-next (a .d) (a .g .now) (a .w .now) (a .y .now) (start l .pre) i (l .loop .inv) 64 _ (omega arith) (rw e at (c .before .first-in-stride .ensures)) (c .if1 .left)
+    passing-next (a .d) (slicesAt (a .g) (a .w) (a .y) (a .n)) (start l .pre) i (l .loop .inv) 64 _ (omega arith) (rw e at (c .before .first-in-stride .ensures)) (c .if1 .left)
 
 first-tested-requires : tie.Need-first-tested-requires Inv-loop μ-loop
 first-tested-requires c κs =
-    let l = c .before .before .before .before in
+    let l = c .before .before .before .before .before in
     let a = start l .args in
-    even-part (a .g .now) (a .w .now) (a .y .now) (length (a .g .now) - l .loop .i) (l .loop .i) (start l .pre)
+    even-part (slicesAt (a .g) (a .w) (a .y) (a .n)) (length (a .g .now) - l .loop .i) (l .loop .i) (start l .pre)
 
 add-result-2 : tie.Need-add-result-2 Inv-loop μ-loop
 add-result-2 c =
-    let l = c .before .before .before .before .before in
+    let l = c .before .before .before .before .before .before in
     let a = start l .args in
     let i = l .loop .i in
     omega (
       arith,
-      passing-most (a .d) (a .g .now) (a .w .now) (a .y .now) (start l .pre) i (l .loop .inv) (length (a .g .now) - i) _ (omega arith) (c .first-tested .ensures),
+      passing-most (a .d) (slicesAt (a .g) (a .w) (a .y) (a .n)) (start l .pre) i (l .loop .inv) (length (a .g .now) - i) _ (omega arith) (c .first-tested .ensures),
     )
 
 returns-2 : tie.Need-returns-2 Inv-loop μ-loop
 returns-2 c =
-    let l = c .before .before .before .before .before in
+    let l = c .before .before .before .before .before .before in
     let a = start l .args in
     let i = l .loop .i in
-    passing-end (a .d) (a .g .now) (a .w .now) (a .y .now) (start l .pre) i (l .loop .inv) (length (a .g .now) - i) _ (omega arith) (c .first-tested .ensures) (omega arith)
+    passing-end (a .d) (slicesAt (a .g) (a .w) (a .y) (a .n)) (start l .pre) i (l .loop .inv) (length (a .g .now) - i) _ (omega arith) (c .first-tested .ensures) (omega arith)
 
 pub first-match-spec : {M : Type 1} → statement M
 first-match-spec =
@@ -70,10 +71,14 @@ first-match-spec =
     (tie.spec
     Inv-loop
     μ-loop
-    (λ c. passing-start _ _ _ _)
+    (λ c. passing-start _ _)
     (λ c. omega arith)
     (λ c. omega arith)
-    -- the three parts of a stride
+    -- the four parts of a stride
+    (λ c. omega arith)
+    (λ c. omega arith)
+    (λ c. omega arith)
+    (λ c. omega arith)
     (λ c. omega arith)
     (λ c. omega arith)
     (λ c. omega arith)
@@ -92,6 +97,10 @@ first-match-spec =
     (λ c. omega arith)
     loop-again
     -- and of the rest
+    (λ c. omega arith)
+    (λ c. omega arith)
+    (λ c. omega arith)
+    (λ c. omega arith)
     (λ c. omega arith)
     (λ c. omega arith)
     (λ c. omega arith)

@@ -23,10 +23,10 @@ use Rattle.snapshot.proofs.check_column.Tie as tie
 -- The column, and what is known of it once its shape has passed.
 
 abbrev lent : tie.Start → Column
-lent s = columnOf (s .args .directory .now) (s .args .g .now) (s .args .w .now) (s .args .y .now)
+lent s = let a = s .args in columnOf (a .directory .now) (a .g .now) (a .w .now) (a .y .now) (a .n .now)
 
 abbrev col : tie.Else1 → Column
-col c = lent (c .before .before .before .before .before .before)
+col c = lent (c .before .before .before .before .before .before .before)
 
 carry : (c : tie.Else1) → Carried blockLimit (lentChecks blockLimit (col c)) (col c .directory) 0 (c .before .lent .result)
 carry c = carried blockLimit (lentChecks blockLimit (col c)) (col c .directory) 0 _ (c .before .lent .ensures) (c .if1 .left)
@@ -35,7 +35,7 @@ held : (c : tie.Else1) → LentColumn blockLimit (col c)
 held c = lent-column blockLimit (col c) (carry c .passed)
 
 -- the used slots are there, and few
-used : (c : tie.Else1) → (c .before .lent .result .used ≤ length (col c .growers)) × (c .before .lent .result .used ≤ mostSlots)
+used : (c : tie.Else1) → (c .before .lent .result .used ≤ length (col c .slices .growers)) × (c .before .lent .result .used ≤ mostSlots)
 used c = let l = held c in let u = carry c .used in (omega (arith, u, l .shape .room), omega (arith, u, l .shape .room, l .most))
 
 -- soundness tested, and passed
@@ -44,7 +44,7 @@ shaped c = c .before .before .before
 
 is-sound : (c : tie.After-sound-ok) → sound blockLimit (col (shaped c)) ≡ c .sound-ok .result
 unfolding sound
-is-sound c = sym (c .sound-ok .ensures ∙ ap₂ (λ (a b : List ℕ). soundGrowers a b (col (shaped c) .growers)) (c .before .before .lengths .ensures) (c .before .fences .ensures))
+is-sound c = sym (c .sound-ok .ensures ∙ ap₂ (λ (a b : List ℕ). soundGrowers a b (col (shaped c) .slices .growers)) (c .before .before .lengths .ensures) (c .before .fences .ensures))
 
 sound-there : (c : tie.Else2) → sound blockLimit (col (shaped (c .before))) ≡ true
 sound-there c = is-sound (c .before) ∙ not-false _ (c .if2 .left)
@@ -58,7 +58,7 @@ in-range c = let e = shaped (good c .before) in values-there blockLimit (col e) 
 
 returns : tie.Need-returns
 returns c =
-    let s = c .before .before .before .before .before .before .before in
+    let s = c .before .before .before .before .before .before .before .before in
     check-lent blockLimit (lent s) _ _ (shape-refusal blockLimit (lentChecks blockLimit (lent s)) _ 0 _ (c .before .before .lent .ensures)) (c .before .if1 .taken) (c .not-checked .ensures)
 
 lengths-requires : tie.Need-lengths-requires

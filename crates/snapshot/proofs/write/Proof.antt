@@ -16,10 +16,10 @@ use Rattle.snapshot.proofs.write.Tie as tie
 -- The column, and what is known of it once every check has passed.
 
 abbrev lent : tie.Start → Column
-lent s = columnOf (s .args .directory .now) (s .args .growers .now) (s .args .weights .now) (s .args .yields .now)
+lent s = let a = s .args in columnOf (a .directory .now) (a .growers .now) (a .weights .now) (a .yields .now) (a .days .now)
 
 abbrev from : tie.Else1 → tie.Start
-from c = c .before .before .before .before .before .before .before
+from c = c .before .before .before .before .before .before .before .before
 
 abbrev col : tie.Else1 → Column
 col c = lent (from c)
@@ -29,13 +29,17 @@ can c = can-write blockLimit (col c) (from c .args .text .now) _ (c .before .che
 
 -- each slice has the used slots
 lengths : (c : tie.Else1)
-    → (c .before .check-write .result .used ≤ length (col c .growers)) × (c .before .check-write .result .used ≤ length (col c .weights)) ×
-    (c .before .check-write .result .used ≤ length (col c .yields))
+    → (c .before .check-write .result .used ≤ length (col c .slices .growers)) × (c .before .check-write .result .used ≤ length (col c .slices .weights)) ×
+    (c .before .check-write .result .used ≤ length (col c .slices .yields)) × (c .before .check-write .result .used ≤ length (col c .slices .days))
 lengths c =
     let w = can c in
     let l = w .lent in
-    let u = w .used-is in
-    (omega (arith, u, l .shape .room), omega (arith, u, l .shape .room, l .even .weights), omega (arith, u, l .shape .room, l .even .yields))
+    let u = w .used-is in (
+      omega (arith, u, l .shape .room),
+      omega (arith, u, l .shape .room, l .even .weights),
+      omega (arith, u, l .shape .room, l .even .yields),
+      omega (arith, u, l .shape .room, l .even .days),
+    )
 
 -- the partitions are few, the text has room for all lines, and its length fits
 sizes : (c : tie.After-count)
@@ -65,7 +69,7 @@ checked c = counted (parted c) .before
 
 returns : tie.Need-returns
 returns c =
-    let s = c .before .before .before .before .before .before .before in
+    let s = c .before .before .before .before .before .before .before .before in
     write-refused blockLimit (lent s) (s .args .text .now) _ (c .before .check-write .ensures) (c .if1 .taken)
 
 count-requires : tie.Need-count-requires
@@ -110,22 +114,25 @@ slice-aggregate-put-rows-2 c = sym (length-take-le _ _ (lengths (checked (listed
 slice-aggregate-put-rows-3 : tie.Need-slice-aggregate-put-rows-3
 slice-aggregate-put-rows-3 c = sym (length-take-le _ _ (lengths (checked (listed (c .before .before .before .before))) .2))
 
+slice-aggregate-put-rows-4 : tie.Need-slice-aggregate-put-rows-4
+slice-aggregate-put-rows-4 c = sym (length-take-le _ _ (lengths (checked (listed (c .before .before .before .before .before))) .3))
+
 put-rows-requires : tie.Need-put-rows-requires
 put-rows-requires c κs =
-    let f = listed (c .before .before .before .before) in
+    let f = listed (c .before .before .before .before .before) in
     let l = lengths (checked f) in
     let x = length-take-le _ _ (l .0) in
-    (record { weights = length-take-le _ _ (l .1) ∙ sym x; yields = length-take-le _ _ (l .2) ∙ sym x }, omega (arith, x, sizes (counted (parted f)) .2))
+    (record { weights = length-take-le _ _ (l .1) ∙ sym x; yields = length-take-le _ _ (l .2) ∙ sym x; days = length-take-le _ _ (l .3) ∙ sym x }, omega (arith, x, sizes (counted (parted f)) .2))
 
-mul-t11 : tie.Need-mul-t11
-mul-t11 c = let s = sizes (counted (parted (listed (c .before .before .before .before .before .before .before)))) in omega (arith, s .0, s .1)
+mul-t12 : tie.Need-mul-t12
+mul-t12 c = let s = sizes (counted (parted (listed (c .before .before .before .before .before .before .before .before)))) in omega (arith, s .0, s .1)
 
-add-t31 : tie.Need-add-t31
-add-t31 c = let s = sizes (counted (parted (listed (c .before .before .before .before .before .before .before)))) in omega (arith, s .0, s .1)
+add-t34 : tie.Need-add-t34
+add-t34 c = let s = sizes (counted (parted (listed (c .before .before .before .before .before .before .before .before)))) in omega (arith, s .0, s .1)
 
 returns-2 : tie.Need-returns-2
 returns-2 c =
-    let p = c .before .before .before .before .before .before .before in
+    let p = c .before .before .before .before .before .before .before .before in
     let f = listed p in
     let b = parted f in
     let e = checked f in
@@ -137,5 +144,5 @@ write-spec =
     tie.close
     (tie.spec
     (λ c κs. search needs) returns count-requires mul-start add-start block-requires cast-put-three cast-put-three-2 put-three-requires
-    lengths-requires fences-requires put-parts-requires slice-aggregate-put-rows slice-aggregate-put-rows-2 slice-aggregate-put-rows-3
-    put-rows-requires mul-t11 add-t31 (λ c. search needs) returns-2)
+    lengths-requires fences-requires put-parts-requires slice-aggregate-put-rows slice-aggregate-put-rows-2 slice-aggregate-put-rows-3 slice-aggregate-put-rows-4
+    put-rows-requires mul-t12 add-t34 (λ c. search needs) returns-2)

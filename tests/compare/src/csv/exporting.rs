@@ -2,12 +2,13 @@
 
 use super::calls::{export, first, import, slots_of, Slots};
 use super::file::delivery;
+use crate::broken::asked_first;
 use crate::inputs::{self, EDGE_COUNTS};
 use crate::text::{old_slots, Text};
 use crate::Run;
 use meltusk::{Library, LIBRARIES};
 use second::random::Random;
-use second::{Delivery, SLOT_LIMIT, WEIGHT_LIMIT, YIELD_LIMIT};
+use second::{Delivery, DAY_LIMIT, SLOT_LIMIT, WEIGHT_LIMIT, YIELD_LIMIT};
 
 const HEADER: &str = "grower,weight,yield\r\n";
 
@@ -20,7 +21,13 @@ fn lines(deliveries: &[Delivery]) -> Vec<u8> {
     text.into_bytes()
 }
 
-/// An export imported by the library: its deliveries again.
+/// A delivery on any day.
+fn dated(r: &mut Random) -> Delivery {
+    let d = delivery(r);
+    d.on(inputs::day(r))
+}
+
+/// An export imported by the library: its deliveries again, with day 0.
 fn import_again(
     run: &mut Run,
     r: &mut Random,
@@ -30,10 +37,11 @@ fn import_again(
 ) -> Result<(), String> {
     let count = deliveries.len();
     let slots = (count + r.below(3)).clamp(1, SLOT_LIMIT);
-    let old = old_slots(r, [slots; 3]);
+    let old = old_slots(r, [slots; 4]);
     let (answer, slots) = import(r, &mut run.seen, library, &Text::whole(text), &old)?;
     let is_good = answer.refusal == 0 && answer.rows == count as u64;
-    match is_good && first(&slots, count) == deliveries {
+    let undated: Vec<Delivery> = deliveries.iter().map(|d| d.on(0)).collect();
+    match is_good && first(&slots, count) == undated {
         true => Ok(()),
         false => Err(format!("imported again: {answer:?}, {slots:?}")),
     }
@@ -76,6 +84,7 @@ fn add_free(r: &mut Random, slots: &mut Slots, count: usize) {
         slots[0].push(r.next() as u32);
         slots[1].push(inputs::weight_out(r));
         slots[2].push(inputs::oil_yield_out(r));
+        slots[3].push(inputs::day_out(r));
     }
 }
 
@@ -86,7 +95,7 @@ pub fn round_trip(run: &mut Run) -> Result<(), String> {
             0 => r.within(20, 300),
             _ => r.within(0, 6),
         };
-        let deliveries: Vec<Delivery> = (0..count).map(|_| delivery(r)).collect();
+        let deliveries: Vec<Delivery> = (0..count).map(|_| dated(r)).collect();
         let mut slots = slots_of(&deliveries);
         let free = r.within(usize::from(count == 0), 3);
         add_free(r, &mut slots, free);
@@ -107,7 +116,7 @@ impl Given {
     /// One that is accepted, with a free slot at least.
     fn accepted(r: &mut Random) -> Given {
         let count = r.within(1, 5);
-        let deliveries: Vec<Delivery> = (0..count).map(|_| delivery(r)).collect();
+        let deliveries: Vec<Delivery> = (0..count).map(|_| dated(r)).collect();
         let mut slots = slots_of(&deliveries);
         let free = r.within(1, 3);
         add_free(r, &mut slots, free);
@@ -131,32 +140,39 @@ enum Fault {
     /// The first or the last of the exported slots, or any.
     Weight(u32),
     Yield(u32),
+    Day(u32),
     /// The slot just past the exported ones; no fault at all.
     LaterWeight,
     LaterYield,
+    LaterDay,
     RoomShort,
     NoRoom,
 }
 
 use Fault::*;
 
-const FAULTS: [Fault; 18] = [
+const FAULTS: [Fault; 23] = [
     RoomShort,
     NoRoom,
     Weight(WEIGHT_LIMIT + 1),
     Weight(u32::MAX),
     Yield(YIELD_LIMIT + 1),
     Yield(u32::MAX),
+    Day(DAY_LIMIT + 1),
+    Day(u32::MAX),
     LaterWeight,
     LaterYield,
+    LaterDay,
     UsedPast,
     UsedMost,
     Shorter(0),
     Shorter(1),
     Shorter(2),
+    Shorter(3),
     Longer(0),
     Longer(1),
     Longer(2),
+    Longer(3),
     NoSlots,
     TooManySlots,
 ];
@@ -178,6 +194,8 @@ impl Fault {
             Yield(n) => given.slots[2][r.edge(0, used - 1)] = n,
             LaterWeight => given.slots[1][used] = WEIGHT_LIMIT + 1,
             LaterYield => given.slots[2][used] = YIELD_LIMIT + 1,
+            Day(n) => given.slots[3][r.edge(0, used - 1)] = n,
+            LaterDay => given.slots[3][used] = DAY_LIMIT + 1,
             RoomShort => given.room = lines(&first(&given.slots, used)).len() - 1,
             NoRoom => given.room = 0,
         }
@@ -188,20 +206,20 @@ impl Fault {
             Shorter(_) | Longer(_) | NoSlots | TooManySlots => 3,
             UsedPast | UsedMost => 4,
             Weight(_) | Yield(_) => 8,
+            Day(_) => 19,
             RoomShort | NoRoom => 15,
-            LaterWeight | LaterYield => 0,
+            LaterWeight | LaterYield | LaterDay => 0,
         }
     }
 
-    /// The refusal of two faults: the smaller, since the questions are put in
-    /// the order of their numbers.
+    /// The refusal of two faults: that of the check put first.
     fn refusal_with(self, other: Fault) -> u32 {
         match (self, other) {
             // The slice has its length again.
             (Shorter(i), Longer(j)) if i == j => 0,
             _ => match (self.refusal(), other.refusal()) {
                 (0, number) | (number, 0) => number,
-                (a, b) => a.min(b),
+                (a, b) => asked_first(a, b),
             },
         }
     }
@@ -250,12 +268,12 @@ pub fn faults(run: &mut Run) -> Result<(), String> {
     })
 }
 
-/// Growers, weights, yields and room, each alone at the edge counts; then
+/// Growers, weights, yields, days and room, each alone at the edge counts; then
 /// nothing lent.
 pub fn edge_counts(run: &mut Run) -> Result<(), String> {
     run.cases(93, 1, |run, r| {
         for library in LIBRARIES {
-            for lent in 0..4 {
+            for lent in 0..5 {
                 for n in EDGE_COUNTS {
                     let mut given = Given::accepted(r);
                     // Of one slot, so that a slice of one is accepted too.
@@ -263,12 +281,12 @@ pub fn edge_counts(run: &mut Run) -> Result<(), String> {
                     given.slots = slots_of(&[slot[0], slot[0]]);
                     given.used = 1;
                     match lent {
-                        3 => given.room = n,
+                        4 => given.room = n,
                         i => given.slots[i].resize(n, 0),
                     }
                     let expected = match lent {
-                        3 if n < lines(&slot).len() => 15,
-                        3 => 0,
+                        4 if n < lines(&slot).len() => 15,
+                        4 => 0,
                         _ => 3,
                     };
                     export_is(run, r, &library, &given, expected)?;
@@ -288,7 +306,7 @@ pub fn edge_counts(run: &mut Run) -> Result<(), String> {
 pub fn largest(run: &mut Run) -> Result<(), String> {
     run.cases(94, 1, |run, r| {
         let library = inputs::library(r);
-        let mut deliveries: Vec<Delivery> = (0..SLOT_LIMIT).map(|_| delivery(r)).collect();
+        let mut deliveries: Vec<Delivery> = (0..SLOT_LIMIT).map(|_| dated(r)).collect();
         // Each column's smallest and largest number, wherever else they are.
         deliveries[0] = Delivery::new(0, 0, 0);
         deliveries[1] = Delivery::new(u32::MAX, WEIGHT_LIMIT, YIELD_LIMIT);
@@ -306,7 +324,7 @@ pub fn largest(run: &mut Run) -> Result<(), String> {
         for (row, expected) in [(&b"1,2,3\r\n"[..], 12), (b"1,2,10001\r\n", 18)] {
             let length = text.len();
             text.extend(row);
-            let old = old_slots(r, [SLOT_LIMIT; 3]);
+            let old = old_slots(r, [SLOT_LIMIT; 4]);
             let whole = Text::whole(&text);
             let (answer, _) = import(r, &mut run.seen, &library, &whole, &old)?;
             if answer.refusal != expected {

@@ -43,7 +43,7 @@ fn import_is(
     r: &mut Random,
     library: &Library,
     text: &Text,
-    lengths: [usize; 3],
+    lengths: [usize; 4],
     expected: Result<&[Delivery], u32>,
 ) -> Result<(), String> {
     let old = old_slots(r, lengths);
@@ -66,9 +66,9 @@ pub fn example(run: &mut Run) -> Result<(), String> {
     run.cases(80, 1, |run, r| {
         let text = Text::whole(EXAMPLE);
         for library in LIBRARIES {
-            import_is(run, r, &library, &text, [rows.len(); 3], Ok(&rows))?;
-            import_is(run, r, &library, &text, [SLOT_LIMIT; 3], Ok(&rows))?;
-            import_is(run, r, &library, &text, [rows.len() - 1; 3], Err(12))?;
+            import_is(run, r, &library, &text, [rows.len(); 4], Ok(&rows))?;
+            import_is(run, r, &library, &text, [SLOT_LIMIT; 4], Ok(&rows))?;
+            import_is(run, r, &library, &text, [rows.len() - 1; 4], Err(12))?;
         }
         Ok(())
     })
@@ -194,7 +194,7 @@ fn import_damaged(
     slots: usize,
 ) -> Result<(), String> {
     run.files.note();
-    let old = old_slots(r, [slots; 3]);
+    let old = old_slots(r, [slots; 4]);
     import(r, &mut run.seen, library, text, &old).map(|_| ())
 }
 
@@ -354,7 +354,7 @@ pub fn numbers(run: &mut Run) -> Result<(), String> {
                     if is_past {
                         run.files.note();
                     }
-                    import_is(run, r, &library, &text, [2; 3], expected)?;
+                    import_is(run, r, &library, &text, [2; 4], expected)?;
                 }
             }
         }
@@ -418,7 +418,7 @@ pub fn long(run: &mut Run) -> Result<(), String> {
                 &number => Err(number),
             };
             let text = Text::whole(text);
-            let outcome = import_is(run, r, &library, &text, [2; 3], expected);
+            let outcome = import_is(run, r, &library, &text, [2; 4], expected);
             outcome.map_err(|why| format!("text {i}: {}", &why[..why.len().min(300)]))?;
         }
         Ok(())
@@ -430,15 +430,18 @@ pub fn long(run: &mut Run) -> Result<(), String> {
 pub fn slice_lengths(run: &mut Run) -> Result<(), String> {
     let limit = SLOT_LIMIT;
     let refused = [
-        [0; 3],
-        [0, 9, 9],
-        [9, 0, 9],
-        [9, 9, 0],
-        [9, 9, 8],
-        [8, 9, 9],
-        [9, 10, 9],
-        [limit + 1; 3],
-        [limit, limit, limit + 1],
+        [0; 4],
+        [0, 9, 9, 9],
+        [9, 0, 9, 9],
+        [9, 9, 0, 9],
+        [9, 9, 9, 0],
+        [9, 9, 9, 8],
+        [9, 9, 8, 9],
+        [8, 9, 9, 9],
+        [9, 10, 9, 9],
+        [limit + 1; 4],
+        [limit, limit, limit + 1, limit],
+        [limit, limit, limit, limit + 1],
     ];
     let rows = deliveries(&[[12, 3, 4], [5, 6, 7]]);
     run.cases(89, 1, |run, r| {
@@ -450,27 +453,27 @@ pub fn slice_lengths(run: &mut Run) -> Result<(), String> {
                     import_is(run, r, &library, &text, lengths, Err(3))?;
                 }
             }
-            import_is(run, r, &library, &whole, [limit; 3], Ok(&rows))?;
+            import_is(run, r, &library, &whole, [limit; 4], Ok(&rows))?;
         }
         Ok(())
     })
 }
 
-/// Growers, weights, yields and text, each alone at the edge counts.
+/// Growers, weights, yields, days and text, each alone at the edge counts.
 pub fn edge_counts(run: &mut Run) -> Result<(), String> {
     run.cases(90, 1, |run, r| {
         for library in LIBRARIES {
-            for lent in 0..4 {
+            for lent in 0..5 {
                 for n in EDGE_COUNTS {
                     let mut text = SMALL[0].to_vec();
-                    let mut lengths = [9; 3];
+                    let mut lengths = [9; 4];
                     match lent {
-                        3 => text.resize(n, b'\n'),
+                        4 => text.resize(n, b'\n'),
                         i => lengths[i] = n,
                     }
                     let expected = match lent {
-                        3 if n <= 1 => 16,
-                        3 => 18,
+                        4 if n <= 1 => 16,
+                        4 => 18,
                         _ => 3,
                     };
                     let text = Text::whole(&text);

@@ -5,7 +5,7 @@ use super::calls::Slots;
 use super::damage::damages;
 use super::file::{is_quoted, File, CRLF, LF, LIMITS};
 use meltusk::{Imported, Seen};
-use second::{csv_size, SLOT_LIMIT};
+use second::{csv_size, DAY_LIMIT, SLOT_LIMIT};
 
 /// The refusals of each call, 0 for accepted.
 const ANSWERS: [(&str, &[u32]); 2] = [
@@ -58,22 +58,25 @@ const FILES: [&str; 21] = [
     "a number at each limit",
 ];
 
-const EXPORTED: [&str; 8] = [
+const EXPORTED: [&str; 10] = [
     "exported: no slot",
     "exported: all slots",
     "exported: 262,144 slots",
     "exported: a later weight out of range",
     "exported: a later yield out of range",
+    "exported: a later day out of range",
+    "exported: days other than 0",
     "exported: room exact",
     "exported: room to spare",
     "exported: smallest and largest number in each column",
 ];
 
-const UNEXPORTED: [&str; 5] = [
+const UNEXPORTED: [&str; 6] = [
     "one slot more than there are",
     "4,294,967,295 slots",
     "the last weight out of range",
     "the last yield out of range",
+    "the last day out of range",
     "room one byte short",
 ];
 
@@ -164,7 +167,7 @@ pub fn note_file(seen: &mut Seen, file: &File) {
 pub fn note_export(seen: &mut Seen, used: u32, slots: &Slots, room: usize, refusal: u32) {
     seen.answer("export_csv", refusal);
     let used = used as usize;
-    let [growers, weights, yields] = slots;
+    let [growers, weights, yields, days] = slots;
     let past = |column: &[u32], i: usize| column.iter().any(|&n| u64::from(n) > LIMITS[i]);
     match refusal {
         0 => {
@@ -179,6 +182,8 @@ pub fn note_export(seen: &mut Seen, used: u32, slots: &Slots, room: usize, refus
                 used == SLOT_LIMIT,
                 past(&weights[used..], 1),
                 past(&yields[used..], 2),
+                days[used..].iter().any(|&day| day > DAY_LIMIT),
+                days[..used].iter().any(|&day| day > 0),
                 room == size,
                 room > size,
                 (0..3).all(whole),
@@ -199,6 +204,7 @@ pub fn note_export(seen: &mut Seen, used: u32, slots: &Slots, room: usize, refus
                 used == u32::MAX as usize,
                 last_past(1),
                 last_past(2),
+                refusal == 19 && days.get(last) == Some(&(DAY_LIMIT + 1)),
                 is_short,
             ];
             note(seen, UNEXPORTED, there);

@@ -30,17 +30,18 @@ impl Case {
             growers,
             weights,
             yields,
+            days,
             ..
         } = &self.set;
-        Memory::new(r, &[growers, weights, yields, &self.histograms, ends])
+        Memory::new(r, &[growers, weights, yields, days, &self.histograms, ends])
     }
 }
 
 /// Order of the slices of a case in its memory.
-const NAMES: [&str; 5] = ["growers", "weights", "yields", "histograms", "ends"];
+const NAMES: [&str; 6] = ["growers", "weights", "yields", "days", "histograms", "ends"];
 
 fn case_text(set: &Set) -> String {
-    let slots = slots_text(&set.growers, &set.weights, &set.yields);
+    let slots = slots_text([&set.growers, &set.weights, &set.yields, &set.days]);
     format!("block {}, used {}, {slots}", set.block, set.used)
 }
 
@@ -63,7 +64,13 @@ pub struct Recorder {
 
 impl Recorder {
     pub fn new(r: &mut Random, set: &Set, histograms: &[u32]) -> Recorder {
-        let slices = [&set.growers[..], &set.weights, &set.yields, histograms];
+        let slices = [
+            &set.growers[..],
+            &set.weights,
+            &set.yields,
+            &set.days,
+            histograms,
+        ];
         let compiled = Memory::new(r, &slices);
         Recorder {
             set: set.clone(),
@@ -73,7 +80,7 @@ impl Recorder {
     }
 
     pub fn histograms(&self) -> &[u32] {
-        self.second.slice(3)
+        self.second.slice(4)
     }
 
     /// Records the call by both; compares refusal, slices and guards.
@@ -85,14 +92,16 @@ impl Recorder {
     ) -> Result<u32, String> {
         let compiled = self
             .compiled
-            .lend(|[growers, weights, yields, histograms]| {
-                let set = self.set.over([growers, weights, yields]);
+            .lend(|[growers, weights, yields, days, histograms]| {
+                let set = self.set.over([growers, weights, yields, days]);
                 library.record(histograms, &set, call)
             });
-        let second = self.second.lend(|[growers, weights, yields, histograms]| {
-            let set = self.set.over([growers, weights, yields]);
-            record_second(histograms, &set, call)
-        });
+        let second = self
+            .second
+            .lend(|[growers, weights, yields, days, histograms]| {
+                let set = self.set.over([growers, weights, yields, days]);
+                record_second(histograms, &set, call)
+            });
         seen.answer(seen::recorded(call), second);
         seen.lent(seen::recorded(call), library, self.second.counts(&NAMES));
         if compiled == second && self.compiled.equals(&self.second) {
@@ -100,7 +109,7 @@ impl Recorder {
         }
         Err(format!(
             "{call:?}: compiled {compiled}, second {second}; {}; {}; after: {}",
-            self.compiled.compared(&self.second, &NAMES[..4]),
+            self.compiled.compared(&self.second, &NAMES[..5]),
             case_text(&self.set),
             counts_text(self.histograms())
         ))
@@ -117,8 +126,8 @@ pub fn cost(
     let set = &case.set;
     let mut memory = case.memory(r, &case.ends);
     let before = memory.clone();
-    let compiled = memory.lend(|[growers, weights, yields, histograms, ends]| {
-        let set = set.over([growers, weights, yields]);
+    let compiled = memory.lend(|[growers, weights, yields, days, histograms, ends]| {
+        let set = set.over([growers, weights, yields, days]);
         library.cost(&case.card, &set, ends, histograms)
     });
     let answer = second::cost(&case.card, &set.view(), &case.histograms, &case.ends);
@@ -158,15 +167,15 @@ pub fn plan(
     let mut compiled_memory = case.memory(r, &case.room);
     let mut second_memory = compiled_memory.clone();
     let (card, limits) = (&case.card, &case.limits);
-    let compiled = compiled_memory.lend(|[growers, weights, yields, histograms, ends]| {
-        let set = set.over([growers, weights, yields]);
+    let compiled = compiled_memory.lend(|[growers, weights, yields, days, histograms, ends]| {
+        let set = set.over([growers, weights, yields, days]);
         library.plan(card, limits, &set, histograms, ends)
     });
-    let second = second_memory.lend(|[growers, weights, yields, histograms, ends]| {
-        let set = set.over([growers, weights, yields]);
+    let second = second_memory.lend(|[growers, weights, yields, days, histograms, ends]| {
+        let set = set.over([growers, weights, yields, days]);
         Planned::from(second::plan_by_table(card, limits, &set, histograms, ends))
     });
-    let ends = second_memory.slice(4);
+    let ends = second_memory.slice(5);
     if by == By::Listing {
         let mut listed_ends = case.room.clone();
         let (set, counts) = (set.view(), &case.histograms);
@@ -200,13 +209,16 @@ pub fn list(
 ) -> Result<(Listed, Vec<u8>), String> {
     let (card, limits, set) = (&case.card, &case.limits, &case.set);
     let (view, counts) = (set.view(), &case.histograms[..]);
-    let mut slots = Memory::new(r, &[view.growers, view.weights, view.yields, counts]);
+    let mut slots = Memory::new(
+        r,
+        &[view.growers, view.weights, view.yields, view.days, counts],
+    );
     let before = slots.clone();
     let old = old_bytes(r, case.text);
     let mut compiled_text = Memory::new(r, &[&old]);
     let mut second_text = compiled_text.clone();
-    let compiled = slots.lend(|[growers, weights, yields, histograms]| {
-        let set = set.over([growers, weights, yields]);
+    let compiled = slots.lend(|[growers, weights, yields, days, histograms]| {
+        let set = set.over([growers, weights, yields, days]);
         compiled_text.lend(|[text]| library.list_layouts(card, limits, &set, histograms, text))
     });
     let answer = second_text.lend(|[text]| second::list_layouts(card, limits, &view, counts, text));
@@ -222,7 +234,7 @@ pub fn list(
     Err(format!(
         "list_layouts: compiled {compiled:?}, second {second:?}; {}; {}; text {}; {card:?}, {limits:?}, {}, {}",
         compiled_text.compared(&second_text, &TEXT),
-        slots.compared(&before, &NAMES[..4]),
+        slots.compared(&before, &NAMES[..5]),
         shown(compiled_text.slice(0)),
         case_text(set),
         counts_text(counts)

@@ -6,7 +6,7 @@ use super::{card, limits, one_a_block, proper_call, seen};
 use crate::{inputs, Run};
 use meltusk::{Call, Library, Set};
 use second::random::Random;
-use second::{Delivery, Increase, Limits, PriceCard, BLOCK_LIMIT, HISTOGRAM_LEN, LIMIT_LIMIT};
+use second::{Increase, Limits, PriceCard, BLOCK_LIMIT, HISTOGRAM_LEN, LIMIT_LIMIT};
 
 /// The histograms of a list of which every call is accepted.
 fn recorded(
@@ -28,9 +28,9 @@ fn recorded(
 
 /// Any call, or a delete of the first delivery, which passes all partitions.
 fn accepted_call(r: &mut Random, set: &Set) -> Call {
-    match r.below(7) {
-        which @ 0..=4 => proper_call(r, set, which),
-        _ => Call::Delete(Delivery::new(set.growers[0], set.weights[0], set.yields[0])),
+    match r.below(8) {
+        which @ 0..=5 => proper_call(r, set, which),
+        _ => Call::Delete(set.slot(0)),
     }
 }
 

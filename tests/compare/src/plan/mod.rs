@@ -15,8 +15,8 @@ use meltusk::{record_second, Call, Empty, Library, Set, Slots, LIBRARIES};
 use second::random::Random;
 use second::recorder::count_index;
 use second::{
-    Delivery, Limits, PriceCard, COUNT_LIMIT, HISTOGRAMS, HISTOGRAM_LEN, LIMIT_LIMIT,
-    LISTED_BLOCK_LIMIT,
+    Delivery, Limits, PriceCard, Span, COUNT_LIMIT, DAY_LIMIT, HISTOGRAMS, HISTOGRAM_LEN,
+    LIMIT_LIMIT, LISTED_BLOCK_LIMIT,
 };
 
 fn card(r: &mut Random) -> PriceCard {
@@ -70,23 +70,28 @@ fn near(r: &mut Random, set: &Set) -> u32 {
 
 fn delivery(r: &mut Random, set: &Set) -> Delivery {
     let i = r.below(set.used as usize);
-    let mut d = Delivery::new(set.growers[i], set.weights[i], set.yields[i]);
+    let mut d = set.slot(i);
     match r.below(20) {
         0 => d.grower = near(r, set),
         1 => d.weight = inputs::weight(r),
         2 => d.oil_yield = inputs::oil_yield(r),
+        3 => d.day = inputs::day(r),
         _ => {}
     }
     d
 }
 
-/// One of the five calls, weights and yields in range, lo at most hi.
+/// One of the calls, weights, yields and days in range, lo at most hi.
 fn proper_call(r: &mut Random, set: &Set, which: usize) -> Call {
     match which {
         0 => Call::Find(near(r, set)),
-        1 => {
+        1 | 5 => {
             let (x, y) = (near(r, set), near(r, set));
-            Call::Range(x.min(y), x.max(y))
+            let (lo, hi) = (x.min(y), x.max(y));
+            match which {
+                1 => Call::Range(lo, hi),
+                _ => Call::RangeDays(lo, hi, Span::new(inputs::day(r), inputs::day(r))),
+            }
         }
         2 => Call::Insert(Delivery {
             grower: near(r, set),
@@ -98,19 +103,22 @@ fn proper_call(r: &mut Random, set: &Set, which: usize) -> Call {
 }
 
 fn any_call(r: &mut Random, set: &Set) -> Call {
-    let which = r.below(5);
+    let which = r.below(6);
     let mut call = proper_call(r, set, which);
-    if r.one_in(12) {
-        let heavy = r.one_in(2);
-        match call.offered() {
-            Some(d) if heavy => d.weight = inputs::weight_out(r),
-            Some(d) => d.oil_yield = inputs::oil_yield_out(r),
-            None => {
-                if let Call::Range(lo, hi) = &mut call {
-                    std::mem::swap(lo, hi);
-                }
-            }
-        }
+    if !r.one_in(12) {
+        return call;
+    }
+    let fault = r.below(4);
+    match call.offered() {
+        Some(d) if fault == 0 => d.weight = inputs::weight_out(r),
+        Some(d) if fault == 1 => d.oil_yield = inputs::oil_yield_out(r),
+        Some(d) if fault == 2 => d.day = inputs::day_out(r),
+        Some(d) => (d.weight, d.day) = (inputs::weight_out(r), inputs::day_out(r)),
+        None => match &mut call {
+            Call::RangeDays(_, _, span) if fault > 1 => *span = inputs::span(r),
+            Call::Range(lo, hi) | Call::RangeDays(lo, hi, _) => std::mem::swap(lo, hi),
+            _ => {}
+        },
     }
     call
 }
@@ -177,6 +185,7 @@ fn one_a_block(blocks: usize) -> Set {
         growers: (0..blocks as u32).collect(),
         weights: vec![1; blocks],
         yields: vec![0; blocks],
+        days: vec![0; blocks],
     }
 }
 
@@ -185,7 +194,7 @@ fn case(r: &mut Random, most_blocks: usize) -> Case {
     let set = inputs::set(r, most_blocks, free);
     let blocks = set.view().blocks();
     let card = card(r);
-    let which = r.below(5);
+    let which = r.below(6);
     Case {
         limits: limits(r, &card, blocks),
         card,
@@ -283,6 +292,10 @@ enum CaseFault {
     RangeFalls,
     OfferedWeight(u32),
     OfferedYield(u32),
+    OfferedDay(u32),
+    /// The first or the last of the days that a range names.
+    FirstDay(u32),
+    LastDay(u32),
     /// Every count at its limit.
     CountsAtLimit,
     CountOver(u32),
@@ -312,6 +325,12 @@ fn case_faults() -> Vec<CaseFault> {
         OfferedWeight(u32::MAX),
         OfferedYield(10_001),
         OfferedYield(u32::MAX),
+        OfferedDay(DAY_LIMIT + 1),
+        OfferedDay(u32::MAX),
+        FirstDay(DAY_LIMIT + 1),
+        FirstDay(u32::MAX),
+        LastDay(DAY_LIMIT + 1),
+        LastDay(u32::MAX),
         CountsAtLimit,
         CountOver(COUNT_LIMIT + 1),
         CountOver(u32::MAX),
@@ -364,7 +383,9 @@ impl CaseFault {
                 case.ends = vec![n as u32 - 1];
             }
             RangeFalls => match &mut case.call {
-                Call::Range(lo, hi) if *lo < *hi => std::mem::swap(lo, hi),
+                Call::Range(lo, hi) | Call::RangeDays(lo, hi, _) if *lo < *hi => {
+                    std::mem::swap(lo, hi)
+                }
                 _ => return false,
             },
             OfferedWeight(weight) => match case.call.offered() {
@@ -374,6 +395,18 @@ impl CaseFault {
             OfferedYield(oil_yield) => match case.call.offered() {
                 Some(d) => d.oil_yield = oil_yield,
                 None => return false,
+            },
+            OfferedDay(day) => match case.call.offered() {
+                Some(d) => d.day = day,
+                None => return false,
+            },
+            FirstDay(day) => match &mut case.call {
+                Call::RangeDays(_, _, span) => span.first = day,
+                _ => return false,
+            },
+            LastDay(day) => match &mut case.call {
+                Call::RangeDays(_, _, span) => span.last = day,
+                _ => return false,
             },
             CountsAtLimit => case.histograms.fill(COUNT_LIMIT),
             // In a used block or a later one.
@@ -402,6 +435,7 @@ impl CaseFault {
             Blocks(_) => on(target == Target::List, 23),
             RangeFalls => on(target == Target::Record, 7),
             OfferedWeight(_) | OfferedYield(_) => on(target == Target::Record, 8),
+            OfferedDay(_) | FirstDay(_) | LastDay(_) => on(target == Target::Record, 19),
             CountsAtLimit => on(target == Target::Record, 10),
             CountOver(_) | HistogramLength(_) => 9,
             OfSet(fault) => fault.expected(),
@@ -451,13 +485,14 @@ fn made(
     }
 }
 
-/// The five recorded calls, the cost, the plan and the listing.
-const TARGETS: [(Target, usize); 8] = [
+/// The recorded calls, the cost, the plan and the listing.
+const TARGETS: [(Target, usize); 9] = [
     (Target::Record, 0),
     (Target::Record, 1),
     (Target::Record, 2),
     (Target::Record, 3),
     (Target::Record, 4),
+    (Target::Record, 5),
     (Target::Cost, 0),
     (Target::Plan, 0),
     (Target::List, 0),
@@ -506,34 +541,34 @@ fn pairs(run: &mut Run) -> Result<(), String> {
     })
 }
 
-/// Growers, weights, yields, histograms, ends, room and text, each alone at the
-/// edge counts.
+/// Growers, weights, yields, days, histograms, ends, room and text, each alone
+/// at the edge counts.
 fn edge_counts(run: &mut Run) -> Result<(), String> {
     run.cases(46, 1, |run, r| {
         for library in LIBRARIES {
             for (target, which) in TARGETS {
-                for lent in 0..7 {
+                for lent in 0..8 {
                     for n in EDGE_COUNTS {
                         let mut case = accepted(r, target, which);
                         let last = case.set.view().blocks() as u32 - 1;
                         match lent {
-                            3 => case.histograms.resize(n, 0),
+                            4 => case.histograms.resize(n, 0),
                             // The only end is the last block.
-                            4 => case.ends = (0..n as u32).map(|i| last + i).collect(),
-                            5 => {
+                            5 => case.ends = (0..n as u32).map(|i| last + i).collect(),
+                            6 => {
                                 // Of all limits the least that permits a layout: one partition.
                                 case.limits.insert = 2 * (case.card.rr + case.card.rw);
                                 case.room = vec![7; n];
                             }
-                            6 => case.text = n,
+                            7 => case.text = n,
                             i => case.set.slices()[i].resize(n, u32::MAX),
                         }
                         let expected = match (lent, target) {
-                            (3, _) => 9,
-                            (4, Target::Cost) if n != 1 => 6,
-                            (5, Target::Plan) if n == 0 => 15,
-                            (6, Target::List) if n <= 1 => 15,
-                            (4..=6, _) => 0,
+                            (4, _) => 9,
+                            (5, Target::Cost) if n != 1 => 6,
+                            (6, Target::Plan) if n == 0 => 15,
+                            (7, Target::List) if n <= 1 => 15,
+                            (5..=7, _) => 0,
                             _ => 3,
                         };
                         let refusal = made(run, r, &library, &case, target)?;
@@ -599,6 +634,7 @@ fn main_case(run: &mut Run, r: &mut Random, library: &Library) -> Result<Case, S
         growers: (1..=8).map(|i| 10 * i).collect(),
         weights: vec![100; 8],
         yields: vec![2_000; 8],
+        days: vec![0; 8],
     };
     set.resize(9);
     let mut recorder = Recorder::new(r, &set, &[0; HISTOGRAM_LEN]);

@@ -5,15 +5,16 @@ use meltusk::{Call, Costed, Planned, Seen};
 use second::Increase;
 
 /// The refusals of each call, 0 for accepted.
-const ANSWERS: [(&str, &[u32]); 8] = [
-    ("record_find", &[0, 2, 3, 4, 5, 8, 9, 10]),
-    ("record_range", &[0, 2, 3, 4, 5, 7, 8, 9, 10]),
-    ("record_insert", &[0, 2, 3, 4, 5, 8, 9, 10]),
-    ("record_delete", &[0, 2, 3, 4, 5, 8, 9, 10]),
-    ("record_move", &[0, 2, 3, 4, 5, 8, 9, 10]),
-    ("cost", &[0, 1, 2, 3, 4, 5, 6, 8, 9]),
-    ("plan", &[0, 1, 2, 3, 4, 5, 8, 9, 11, 15]),
-    ("list_layouts", &[0, 1, 2, 3, 4, 5, 8, 9, 11, 15, 23]),
+const ANSWERS: [(&str, &[u32]); 9] = [
+    ("record_find", &[0, 2, 3, 4, 5, 8, 9, 10, 19]),
+    ("record_range", &[0, 2, 3, 4, 5, 7, 8, 9, 10, 19]),
+    ("record_range_days", &[0, 2, 3, 4, 5, 7, 8, 9, 10, 19]),
+    ("record_insert", &[0, 2, 3, 4, 5, 8, 9, 10, 19]),
+    ("record_delete", &[0, 2, 3, 4, 5, 8, 9, 10, 19]),
+    ("record_move", &[0, 2, 3, 4, 5, 8, 9, 10, 19]),
+    ("cost", &[0, 1, 2, 3, 4, 5, 6, 8, 9, 19]),
+    ("plan", &[0, 1, 2, 3, 4, 5, 8, 9, 11, 15, 19]),
+    ("list_layouts", &[0, 1, 2, 3, 4, 5, 8, 9, 11, 15, 19, 23]),
 ];
 
 const KINDS: [&str; 5] = [
@@ -29,6 +30,7 @@ pub fn recorded(call: &Call) -> &'static str {
     match call {
         Call::Find(_) => "record_find",
         Call::Range(..) => "record_range",
+        Call::RangeDays(..) => "record_range_days",
         Call::Insert(_) => "record_insert",
         Call::Delete(_) => "record_delete",
         Call::Move(..) => "record_move",

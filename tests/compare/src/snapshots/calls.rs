@@ -2,22 +2,33 @@
 //! after it.
 
 use super::seen;
-use crate::calls::{directory_text, slots_text, NAMES};
+use crate::calls::{column_memory, column_text, directory_text, slots_text, NAMES, SLOT_NAMES};
 use crate::memory::Memory;
 use crate::text::{old_bytes, shown, Text, TEXT};
 use meltusk::{Applied, Column, Library, Seen, View, Written, DIRECTORY};
 use second::random::Random;
-use second::{snapshot_size, BLOCK_LIMIT, LENGTHS};
+use second::{snapshot_size, TextAnswer, BLOCK_LIMIT, LENGTHS};
 
 /// Bytes of the text of a column whose directory has its shape.
 pub fn size(c: &Column) -> usize {
     snapshot_size(c.view().used(), c.view().partitions())
 }
 
-/// The text that the second implementation writes of a column.
+fn write_second(c: &Column, text: &mut [u8]) -> TextAnswer {
+    second::snapshot_write(
+        &c.growers,
+        &c.weights,
+        &c.yields,
+        &c.days,
+        &c.directory,
+        text,
+    )
+}
+
+/// The text that the second implementation writes of a column without its days.
 pub fn text_of(c: &Column) -> Result<Vec<u8>, String> {
     let mut text = vec![0; size(c)];
-    let a = second::snapshot_write(&c.growers, &c.weights, &c.yields, &c.directory, &mut text);
+    let a = write_second(&c.clone().undated(), &mut text);
     match a.refusal {
         0 => Ok(text),
         number => Err(format!("the second implementation wrote no text: {number}")),
@@ -36,20 +47,19 @@ pub fn write(
     let old = old_bytes(r, room);
     let mut compiled_text = Memory::new(r, &[&old]);
     let mut second_text = compiled_text.clone();
-    let mut slots = Memory::new(r, &[&c.growers, &c.weights, &c.yields, &c.directory]);
+    let mut slots = column_memory(r, c);
     let before = slots.clone();
-    let compiled = slots.lend(|[growers, weights, yields, directory]| {
+    let compiled = slots.lend(|[growers, weights, yields, days, directory]| {
         let column = View {
             directory,
             growers,
             weights,
             yields,
+            days,
         };
         compiled_text.lend(|[text]| library.write_snapshot(&column, text))
     });
-    let answer = second_text.lend(|[text]| {
-        second::snapshot_write(&c.growers, &c.weights, &c.yields, &c.directory, text)
-    });
+    let answer = second_text.lend(|[text]| write_second(c, text));
     let second = Written::from(answer);
     seen::note_write(seen, c, room, second.refusal);
     let lent = slots.counts(&NAMES).chain(second_text.counts(&TEXT));
@@ -60,12 +70,11 @@ pub fn write(
         return Ok((second.refusal, text[..answer.written].to_vec()));
     }
     Err(format!(
-        "write_snapshot: compiled {compiled:?}, second {second:?}; {}; {}; text {}, room {room}, {}, {}",
+        "write_snapshot: compiled {compiled:?}, second {second:?}; {}; {}; text {}, room {room}, {}",
         compiled_text.compared(&second_text, &TEXT),
         slots.compared(&before, &NAMES),
         shown(text),
-        directory_text(&c.directory),
-        slots_text(&c.growers, &c.weights, &c.yields)
+        column_text(c)
     ))
 }
 
@@ -75,7 +84,7 @@ fn leaves(answer: &Applied, before: &Memory, after: &Memory) -> bool {
     let lengths = &answer.directory[LENGTHS..LENGTHS + BLOCK_LIMIT];
     let used: usize = lengths.iter().map(|&n| n as usize).sum();
     let zeros = answer.directory == [0; DIRECTORY];
-    (0..3).all(|i| before.slice(i)[used..] == after.slice(i)[used..])
+    (0..4).all(|i| before.slice(i)[used..] == after.slice(i)[used..])
         && (answer.refusal != 0) == zeros
 }
 
@@ -86,22 +95,22 @@ pub fn read(
     seen: &mut Seen,
     library: &Library,
     text: &Text,
-    old: &[Vec<u32>; 3],
+    old: &[Vec<u32>; 4],
 ) -> Result<(u32, Column), String> {
     let mut lent = text.memory(r);
     let lent_before = lent.clone();
-    let mut compiled_slots = Memory::new(r, &[&old[0], &old[1], &old[2]]);
+    let mut compiled_slots = Memory::new(r, &[&old[0], &old[1], &old[2], &old[3]]);
     let mut second_slots = compiled_slots.clone();
     let before = compiled_slots.clone();
-    let compiled = compiled_slots.lend(|[growers, weights, yields]| {
-        lent.lend(|[text]| library.read_snapshot(text, growers, weights, yields))
+    let compiled = compiled_slots.lend(|[growers, weights, yields, days]| {
+        lent.lend(|[text]| library.read_snapshot(text, growers, weights, yields, days))
     });
-    let second = second_slots.lend(|[growers, weights, yields]| {
-        second::snapshot_read(text.lent(), growers, weights, yields)
+    let second = second_slots.lend(|[growers, weights, yields, days]| {
+        second::snapshot_read(text.lent(), growers, weights, yields, days)
     });
     let second = Applied::from(second);
     seen::note_read(seen, &second, old[0].len());
-    let slices = second_slots.counts(&NAMES[..3]).chain(lent.counts(&TEXT));
+    let slices = second_slots.counts(&SLOT_NAMES).chain(lent.counts(&TEXT));
     seen.lent("read_snapshot", library, slices);
     let same =
         compiled == second && compiled_slots.equals(&second_slots) && lent.equals(&lent_before);
@@ -111,6 +120,7 @@ pub fn read(
             growers: compiled_slots.slice(0).to_vec(),
             weights: compiled_slots.slice(1).to_vec(),
             yields: compiled_slots.slice(2).to_vec(),
+            days: compiled_slots.slice(3).to_vec(),
         };
         return Ok((second.refusal, column));
     }
@@ -120,10 +130,10 @@ pub fn read(
         directory_text(&compiled.directory),
         second.refusal,
         directory_text(&second.directory),
-        compiled_slots.compared(&second_slots, &NAMES[..3]),
+        compiled_slots.compared(&second_slots, &SLOT_NAMES),
         lent.compared(&lent_before, &TEXT),
         shown(text.lent()),
-        slots_text(&old[0], &old[1], &old[2])
+        slots_text([&old[0], &old[1], &old[2], &old[3]])
     ))
 }
 
@@ -134,7 +144,7 @@ pub fn read_back(
     seen: &mut Seen,
     library: &Library,
     text: &Text,
-    old: &[Vec<u32>; 3],
+    old: &[Vec<u32>; 4],
 ) -> Result<(u32, Column), String> {
     let (refusal, column) = read(r, seen, library, text, old)?;
     if refusal == 0 {

@@ -24,6 +24,7 @@ pub const TESTS: &[(&str, Test)] = &[
     ("snapshots: written, each fault alone", writing::alone),
     ("snapshots: written, two faults", writing::pairs),
     ("snapshots: written, any column", writing::any),
+    ("snapshots: written, columns with days", writing::dated),
     (
         "snapshots: written, each slice at the edge counts",
         writing::edge_counts,

@@ -22,9 +22,9 @@ struct Given {
 
 impl Given {
     /// The refusal; none if the damage may have any effect.
-    fn expected(&self, lengths: [usize; 3]) -> Option<u32> {
+    fn expected(&self, lengths: [usize; 4]) -> Option<u32> {
         let [slots, others @ ..] = lengths;
-        if slots == 0 || others != [slots; 2] {
+        if slots == 0 || others != [slots; 3] {
             return Some(3);
         }
         match self.effect {
@@ -167,7 +167,7 @@ fn read_damaged(
     text: &Text,
     slots: usize,
 ) -> Result<u32, String> {
-    let old = old_slots(r, [slots; 3]);
+    let old = old_slots(r, [slots; 4]);
     let (refusal, _) = read_back(r, &mut run.seen, library, text, &old)?;
     run.damages.note();
     Ok(refusal)
@@ -294,15 +294,18 @@ pub fn line1(run: &mut Run) -> Result<(), String> {
 pub fn slice_lengths(run: &mut Run) -> Result<(), String> {
     let limit = SLOT_LIMIT;
     let refused = [
-        [0; 3],
-        [0, 9, 9],
-        [9, 0, 9],
-        [9, 9, 0],
-        [9, 9, 8],
-        [8, 9, 9],
-        [9, 10, 9],
-        [limit + 1; 3],
-        [limit, limit, limit + 1],
+        [0; 4],
+        [0, 9, 9, 9],
+        [9, 0, 9, 9],
+        [9, 9, 0, 9],
+        [9, 9, 9, 0],
+        [9, 9, 9, 8],
+        [9, 9, 8, 9],
+        [8, 9, 9, 9],
+        [9, 10, 9, 9],
+        [limit + 1; 4],
+        [limit, limit, limit + 1, limit],
+        [limit, limit, limit, limit + 1],
     ];
     run.cases(71, 2, |run, r| {
         let text = text_of(&lists::main_column())?;
@@ -322,20 +325,20 @@ pub fn slice_lengths(run: &mut Run) -> Result<(), String> {
     })
 }
 
-/// Growers, weights, yields and text, each alone at the edge counts.
+/// Growers, weights, yields, days and text, each alone at the edge counts.
 pub fn edge_counts(run: &mut Run) -> Result<(), String> {
     run.cases(75, 1, |run, r| {
         let whole = text_of(&lists::main_column())?;
         for library in LIBRARIES {
-            for lent in 0..4 {
+            for lent in 0..5 {
                 for n in EDGE_COUNTS {
                     let mut text = whole.clone();
-                    let mut lengths = [9; 3];
+                    let mut lengths = [9; 4];
                     match lent {
-                        3 => text.resize(n, b'\n'),
+                        4 => text.resize(n, b'\n'),
                         i => lengths[i] = n,
                     }
-                    let expected = if lent == 3 { 14 } else { 3 };
+                    let expected = if lent == 4 { 14 } else { 3 };
                     let old = old_slots(r, lengths);
                     let text = Text::whole(&text);
                     let (refusal, _) = read_back(r, &mut run.seen, &library, &text, &old)?;
@@ -365,6 +368,7 @@ fn largest_column(r: &mut Random) -> Column {
         growers,
         weights: (0..SLOT_LIMIT).map(|_| inputs::weight(r)).collect(),
         yields: (0..SLOT_LIMIT).map(|_| inputs::oil_yield(r)).collect(),
+        days: vec![0; SLOT_LIMIT],
     }
 }
 
@@ -398,13 +402,13 @@ pub fn largest(run: &mut Run) -> Result<(), String> {
         let (refusal, _) = write(r, &mut run.seen, &library, &c, size(&c) - 1)?;
         stated("room one byte short", refusal, 15)?;
         let whole = Text::whole(&text);
-        let old = old_slots(r, [SLOT_LIMIT; 3]);
+        let old = old_slots(r, [SLOT_LIMIT; 4]);
         let (refusal, column) = read_back(r, &mut run.seen, &library, &whole, &old)?;
         stated("read", refusal, 0)?;
         if column != c {
             return Err("read: another column".into());
         }
-        let old = old_slots(r, [SLOT_LIMIT - 1; 3]);
+        let old = old_slots(r, [SLOT_LIMIT - 1; 4]);
         let (refusal, _) = read_back(r, &mut run.seen, &library, &whole, &old)?;
         stated("read, one slot too few", refusal, 12)?;
         for (back, byte) in NEAR_THE_END {

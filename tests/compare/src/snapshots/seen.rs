@@ -8,7 +8,7 @@ use second::{BLOCK_LIMIT, LENGTHS, WEIGHT_LIMIT};
 
 /// The refusals of each call, 0 for accepted.
 const ANSWERS: [(&str, &[u32]); 2] = [
-    ("write_snapshot", &[0, 2, 3, 6, 8, 15]),
+    ("write_snapshot", &[0, 2, 3, 6, 8, 15, 19]),
     ("read_snapshot", &[0, 3, 12, 14]),
 ];
 

@@ -2,7 +2,7 @@
 
 use super::calls::{read, size, write};
 use super::damage::line;
-use crate::broken::{self, Fault, FAULTS};
+use crate::broken::{self, asked_first, Fault, FAULTS};
 use crate::calls::{Asked, Pair};
 use crate::inputs::{self, Kind, EDGE_COUNTS, MIXES};
 use crate::lists;
@@ -10,7 +10,7 @@ use crate::text::{old_slots, Text};
 use crate::Run;
 use meltusk::{Call, Column, Empty, Library, Slots, LIBRARIES};
 use second::random::Random;
-use second::{SLOT_LIMIT, WEIGHT_LIMIT, YIELD_LIMIT};
+use second::{DAY_LIMIT, SLOT_LIMIT, WEIGHT_LIMIT, YIELD_LIMIT};
 
 /// The text of 01's main column, line by line.
 const MAIN: &[u8] = b"          2          8          2
@@ -35,10 +35,10 @@ pub fn main_text(run: &mut Run) -> Result<(), String> {
     if refusal != 0 || text != MAIN {
         return Err(format!("refusal {refusal}, \"{}\"", text.escape_ascii()));
     }
-    let old = old_slots(&mut r, [9; 3]);
+    let old = old_slots(&mut r, [9; 4]);
     let (refusal, column) = read(&mut r, seen, &library, &Text::whole(MAIN), &old)?;
     same_column(&c, &column, refusal)?;
-    match column.growers[8] == old[0][8] {
+    match column.growers[8] == old[0][8] && column.days[8] == old[3][8] {
         true => Ok(()),
         false => Err("the free slot is written".into()),
     }
@@ -70,7 +70,8 @@ pub fn same_column(written: &Column, read: &Column, refusal: u32) -> Result<(), 
         && written.directory == read.directory
         && written.growers[..used] == read.growers[..used]
         && written.weights[..used] == read.weights[..used]
-        && written.yields[..used] == read.yields[..used];
+        && written.yields[..used] == read.yields[..used]
+        && read.days[..used].iter().all(|&day| day == 0);
     match same {
         true => Ok(()),
         false => Err(format!(
@@ -87,7 +88,7 @@ fn round_trip(run: &mut Run, r: &mut Random, library: &Library, c: &Column) -> R
         return Err(format!("a sound column is refused by {refusal}"));
     }
     let slots = (c.view().used() + r.below(3)).clamp(1, SLOT_LIMIT);
-    let old = old_slots(r, [slots; 3]);
+    let old = old_slots(r, [slots; 4]);
     let (refusal, column) = read(r, seen, library, &Text::whole(&text), &old)?;
     same_column(c, &column, refusal)?;
     let (refusal, again) = write(r, seen, library, &column, text.len())?;
@@ -128,7 +129,7 @@ pub fn sound(run: &mut Run) -> Result<(), String> {
             1..=9 => Kind::Full,
             _ => Kind::Sound,
         };
-        let c = inputs::clean_column(r, kind);
+        let c = inputs::clean_column(r, kind).undated();
         rooms(run, r, &library, &c)?;
         round_trip(run, r, &library, &c)
     })
@@ -142,13 +143,13 @@ pub fn laid(run: &mut Run) -> Result<(), String> {
         let mut pair = Pair::new(r, &column);
         let mix = r.pick(&MIXES);
         for _ in 0..r.within(1, 3) {
-            round_trip(run, r, &library, &pair.column())?;
+            round_trip(run, r, &library, &pair.column().undated())?;
             for _ in 0..r.below(20) {
                 let asked = inputs::asked(r, &pair.view(), &mix);
                 pair.ask(&mut run.seen, &library, asked)?;
             }
         }
-        round_trip(run, r, &library, &pair.column())
+        round_trip(run, r, &library, &pair.column().undated())
     })
 }
 
@@ -161,6 +162,7 @@ pub enum WriteFault {
     GrowerBelow,
     LastWeight,
     LastYield,
+    LastDay,
     RoomShort,
     NoRoom,
 }
@@ -179,6 +181,7 @@ pub fn faults() -> Vec<WriteFault> {
         GrowerBelow,
         LastWeight,
         LastYield,
+        LastDay,
     ];
     let of_column = FAULTS.iter().filter(|fault| !fault.is_of_call());
     all.extend(of_column.map(|&fault| OfColumn(fault)));
@@ -203,6 +206,10 @@ impl WriteFault {
             LastYield => {
                 let last = c.view().used() - 1;
                 c.yields[last] = YIELD_LIMIT + 1;
+            }
+            LastDay => {
+                let last = c.view().used() - 1;
+                c.days[last] = DAY_LIMIT + 1;
             }
             RoomShort => *room = exact - 1,
             NoRoom => *room = 0,
@@ -231,6 +238,7 @@ impl WriteFault {
             OfColumn(fault) => fault.expected(&ALL),
             GrowerAbove | GrowerBelow => 6,
             LastWeight | LastYield => 8,
+            LastDay => 19,
             RoomShort | NoRoom => 15,
         }
     }
@@ -238,7 +246,7 @@ impl WriteFault {
 
 /// A column that is accepted, and the room for its text.
 fn accepted(r: &mut Random) -> (Column, usize) {
-    let c = broken::base(r);
+    let c = broken::base(r).undated();
     let room = size(&c) + r.pick(&[0, 1, 500]);
     (c, room)
 }
@@ -263,8 +271,7 @@ pub fn alone(run: &mut Run) -> Result<(), String> {
     })
 }
 
-/// The refusal of two faults: the smaller, since the questions are put in
-/// the order of their numbers.
+/// The refusal of two faults: that of the check put first.
 pub fn expected_of(first: WriteFault, second: WriteFault) -> u32 {
     match (first, second) {
         // Without 130 numbers there is no B to ask about.
@@ -273,7 +280,7 @@ pub fn expected_of(first: WriteFault, second: WriteFault) -> u32 {
         (OfColumn(Fault::Shorter(i)), OfColumn(Fault::Longer(j))) if i == j => 0,
         _ => match (first.expected(), second.expected()) {
             (0, number) | (number, 0) => number,
-            (a, b) => a.min(b),
+            (a, b) => asked_first(a, b),
         },
     }
 }
@@ -304,23 +311,23 @@ pub fn pairs(run: &mut Run) -> Result<(), String> {
     })
 }
 
-/// Growers, weights, yields, directory and room, each alone at the edge
+/// Growers, weights, yields, days, directory and room, each alone at the edge
 /// counts; then nothing lent.
 pub fn edge_counts(run: &mut Run) -> Result<(), String> {
     run.cases(73, 1, |run, r| {
         for library in LIBRARIES {
-            for lent in 0..5 {
+            for lent in 0..6 {
                 for n in EDGE_COUNTS {
                     let (mut c, mut room) = accepted(r);
                     let expected = match lent {
-                        4 if n < size(&c) => 15,
-                        4 => 0,
-                        3 => 6,
+                        5 if n < size(&c) => 15,
+                        5 => 0,
+                        4 => 6,
                         _ => 3,
                     };
                     match lent {
-                        4 => room = n,
-                        3 => c.directory.resize(n, 0),
+                        5 => room = n,
+                        4 => c.directory.resize(n, 0),
                         i => c.slices()[i].resize(n, 0),
                     }
                     let (refusal, _) = write(r, &mut run.seen, &library, &c, room)?;
@@ -346,7 +353,7 @@ pub fn one_slot(run: &mut Run) -> Result<(), String> {
     run.cases(74, 100, |run, r| {
         let library = inputs::library(r);
         for is_used in [false, true] {
-            let c = inputs::one_slot(r, is_used);
+            let c = inputs::one_slot(r, is_used).undated();
             rooms(run, r, &library, &c)?;
             round_trip(run, r, &library, &c)?;
         }
@@ -380,10 +387,43 @@ pub fn replace_some(r: &mut Random, c: &mut Column) {
     }
 }
 
+/// A day that a book cannot hold, in each record: 19, ahead of a room that is
+/// short and behind a bad weight elsewhere and a record in another's partition.
+pub fn dated(run: &mut Run) -> Result<(), String> {
+    run.cases(65, 300, |run, r| {
+        let library = inputs::library(r);
+        let (clean, room) = accepted(r);
+        let used = clean.view().used();
+        for at in 0..used {
+            let mut c = clean.clone();
+            c.days[at] = r.pick(&[1, 14, 8_825, DAY_LIMIT, DAY_LIMIT + 1, u32::MAX]);
+            let mut light = c.clone();
+            light.weights[r.below(used)] = WEIGHT_LIMIT + 1;
+            let mut unsound = light.clone();
+            let is_moved = GrowerAbove.put_grower(r, &mut unsound);
+            for (c, room, expected) in [
+                (&c, room, 19),
+                (&c, 0, 19),
+                (&light, room, 8),
+                (&unsound, room, if is_moved { 6 } else { 8 }),
+            ] {
+                let (refusal, _) = write(r, &mut run.seen, &library, c, room)?;
+                if refusal != expected {
+                    return Err(format!("slot {at} of {c:?}: {refusal}, not {expected}"));
+                }
+            }
+        }
+        Ok(())
+    })
+}
+
 pub fn any(run: &mut Run) -> Result<(), String> {
     run.cases(64, 15_000, |run, r| {
         let library = inputs::library(r);
         let mut c = any_column(r);
+        if r.one_in(2) {
+            c = c.undated();
+        }
         let room = size(&c) + 100 - r.pick(&[0, 0, 0, 100, 101]);
         replace_some(r, &mut c);
         write(r, &mut run.seen, &library, &c, room).map(|_| ())

@@ -7,6 +7,8 @@
 mod checks;
 #[path = "selfcheck/csv.rs"]
 mod csv;
+#[path = "selfcheck/days.rs"]
+mod days;
 #[path = "selfcheck/groups.rs"]
 mod groups;
 #[path = "selfcheck/growers.rs"]
@@ -25,6 +27,8 @@ mod random;
 mod sheets;
 #[path = "selfcheck/subject.rs"]
 mod subject;
+#[path = "selfcheck/wrong_days.rs"]
+mod wrong_days;
 #[path = "selfcheck/wrong_listings.rs"]
 mod wrong_listings;
 
@@ -140,6 +144,17 @@ const GROUPS: &[(&str, Group, u64)] = &[
     ("sheet at edges of shape and size", sheets::sheet_edges, 1),
     ("example: settlement output", sheets::settlement_examples, 1),
     ("settlement of books", sheets::settlement_books, 40_000),
+    ("example: dates and terms", days::calendar_examples, 1),
+    ("every date of the century", days::calendar_century, 1),
+    ("example: ranges over days", days::range_examples, 1),
+    ("example: 8 of all, then 19 of all", days::order_examples, 1),
+    ("example: days in moves", days::match_examples, 1),
+    ("ranges over days against ranges", days::range_spans, 20_000),
+    ("example: sheets of terms", days::term_examples, 1),
+    ("sheet of a term against a map", days::term_sheets, 10_000),
+    ("sheet of a term of any column", days::term_refused, 40_000),
+    ("books and days", days::book_days, 20_000),
+    ("weighbridge files and days", days::export_days, 20_000),
     ("example: weighbridge files", csv::csv_examples, 1),
     (
         "weighbridge file there and back",

@@ -5,8 +5,8 @@ use crate::groups::{guarded, Outcome};
 use crate::model::{snapshot_text, text_of};
 use crate::require;
 use crate::subject::{
-    library_call, library_record, library_sheet, library_step, step_refused, Call, Column, Room,
-    Set, Step,
+    library_call, library_record, library_sheet, library_step, library_term_sheet, step_refused,
+    Call, Column, Room, Set, Step,
 };
 use second::recorder::{count_index, DE, IN, PQ, RE, RS, SC, UDB, UDF, UTB, UTF};
 use second::*;
@@ -78,6 +78,7 @@ struct Work {
     ends: Vec<u32>,
     lo: u32,
     hi: u32,
+    span: Span,
     d: Delivery,
     new_grower: u32,
     room: usize,
@@ -92,6 +93,8 @@ fn work() -> Work {
     growers.resize(70, 0);
     weights.resize(70, u32::MAX);
     yields.resize(70, u32::MAX);
+    let mut days = vec![36_524; 8];
+    days.resize(70, u32::MAX);
     Work {
         card: PriceCard::FACTORY,
         limits: Limits::new(7, 100),
@@ -101,12 +104,14 @@ fn work() -> Work {
             growers,
             weights,
             yields,
+            days,
         },
         histograms: vec![0; HISTOGRAM_LEN],
         ends: vec![3, 7],
         lo: 20,
         hi: 60,
-        d: Delivery::new(30, 100_000, 10_000),
+        span: Span::new(0, 36_524),
+        d: Delivery::new(30, 100_000, 10_000).on(36_524),
         new_grower: 60,
         room: 2,
     }
@@ -152,11 +157,16 @@ fn set_faults(place: usize) -> Vec<Fault<Work>> {
     all.push(fault(p, 3, "long growers", |w: &mut Work| {
         w.set.growers.push(0)
     }));
+    all.push(fault(p, 3, "short days", |w: &mut Work| {
+        w.set.days.pop();
+    }));
+    all.push(fault(p, 3, "no days", |w: &mut Work| w.set.days.clear()));
     for c in [0, SLOT_LIMIT + 1] {
         all.push(fault(p, 3, &format!("C {c}"), move |w: &mut Work| {
             w.set.growers.resize(c, 0);
             w.set.weights.resize(c, 0);
             w.set.yields.resize(c, 0);
+            w.set.days.resize(c, 0);
         }));
     }
     let p = place + 2;
@@ -213,6 +223,43 @@ fn value_faults(place: usize) -> Vec<Fault<Work>> {
     ]
 }
 
+/// Check 19 of the set.
+fn day_faults(place: usize) -> Vec<Fault<Work>> {
+    vec![
+        fault(place, 19, "day in set", |w: &mut Work| {
+            put(&mut w.set.days, 0, 36_525)
+        }),
+        fault(place, 19, "last day in set", |w: &mut Work| {
+            put(&mut w.set.days, 7, 36_525)
+        }),
+        fault(place, 19, "day largest", |w: &mut Work| {
+            put(&mut w.set.days, 4, u32::MAX)
+        }),
+    ]
+}
+
+fn offered_day_faults(place: usize) -> Vec<Fault<Work>> {
+    [36_525, u32::MAX]
+        .map(|day| {
+            let name = format!("day {day} offered");
+            fault(place, 19, &name, move |w: &mut Work| w.d.day = day)
+        })
+        .into()
+}
+
+fn span_faults(place: usize) -> Vec<Fault<Work>> {
+    vec![
+        fault(place, 19, "first day", |w: &mut Work| w.span.first = 36_525),
+        fault(place, 19, "last day", |w: &mut Work| w.span.last = 36_525),
+        fault(place, 19, "both days", |w: &mut Work| {
+            w.span = Span::new(u32::MAX, u32::MAX)
+        }),
+        fault(place, 19, "first day, the last earlier", |w: &mut Work| {
+            w.span = Span::new(36_525, 0)
+        }),
+    ]
+}
+
 fn offered_faults(place: usize) -> Vec<Fault<Work>> {
     vec![
         fault(place, 8, "weight offered", |w: &mut Work| {
@@ -240,20 +287,34 @@ fn histogram_faults(place: usize) -> Vec<Fault<Work>> {
     ]
 }
 
+/// What a recorded call gives beside the set.
+#[derive(Clone, Copy, PartialEq, Eq)]
+enum Given {
+    Grower,
+    Range,
+    RangeDays,
+    Delivery,
+}
+
 /// The recorder for one call; `full` are the counts it raises.
-fn recorder(call: fn(&Work) -> Call, full: &[usize], ranged: bool, offered: bool) -> Outcome {
+fn recorder(call: fn(&Work) -> Call, full: &[usize], given: Given) -> Outcome {
     let mut faults = set_faults(0);
-    if ranged {
+    if given == Given::Range || given == Given::RangeDays {
         faults.push(fault(4, 7, "lo above hi", |w: &mut Work| w.lo = w.hi + 1));
     }
     faults.extend(value_faults(5));
-    if offered {
+    faults.extend(day_faults(6));
+    if given == Given::Delivery {
         faults.extend(offered_faults(5));
+        faults.extend(offered_day_faults(6));
     }
-    faults.extend(histogram_faults(6));
+    if given == Given::RangeDays {
+        faults.extend(span_faults(6));
+    }
+    faults.extend(histogram_faults(7));
     for &i in full {
         faults.push(fault(
-            7,
+            8,
             10,
             &format!("count {i} full"),
             move |w: &mut Work| put(&mut w.histograms, i, 1_000_000),
@@ -287,7 +348,8 @@ fn cost_checks() -> Outcome {
     faults.extend(set_faults(1));
     faults.extend(layout_faults(5));
     faults.extend(value_faults(6));
-    faults.extend(histogram_faults(7));
+    faults.extend(day_faults(7));
+    faults.extend(histogram_faults(8));
     // Limits are not given to this call.
     alone_and_in_pairs(&work(), &faults, &|w| {
         let a = cost(&w.card, &w.set.view(), &w.histograms, &w.ends);
@@ -319,21 +381,22 @@ fn permission_faults(place: usize) -> Vec<Fault<Work>> {
     limits.into_iter().map(of).collect()
 }
 
-/// Checks 1 2 3 4 5 8 9, which planning and listing put first.
+/// Checks 1 2 3 4 5 8 19 9, which planning and listing put first.
 fn plan_faults() -> Vec<Fault<Work>> {
     let mut faults = price_faults(0);
     faults.extend(limit_faults(0));
     faults.extend(set_faults(1));
     faults.extend(value_faults(5));
-    faults.extend(histogram_faults(6));
+    faults.extend(day_faults(6));
+    faults.extend(histogram_faults(7));
     faults
 }
 
 fn planner_checks() -> Outcome {
     let mut faults = plan_faults();
-    faults.extend(permission_faults(7));
-    faults.push(fault(8, 15, "room 1", |w: &mut Work| w.room = 1));
-    faults.push(fault(8, 15, "room 0", |w: &mut Work| w.room = 0));
+    faults.extend(permission_faults(8));
+    faults.push(fault(9, 15, "room 1", |w: &mut Work| w.room = 1));
+    faults.push(fault(9, 15, "room 0", |w: &mut Work| w.room = 0));
     alone_and_in_pairs(&work(), &faults, &|w| {
         let (mut one, mut two) = (vec![5; w.room], vec![5; w.room]);
         let a = plan_by_table(&w.card, &w.limits, &w.set.view(), &w.histograms, &mut one);
@@ -358,6 +421,7 @@ fn block_fault(place: usize, blocks: usize) -> Fault<Work> {
             put(&mut w.set.growers, at, 70 + at as u32);
             put(&mut w.set.weights, at, 0);
             put(&mut w.set.yields, at, 0);
+            put(&mut w.set.days, at, 0);
         }
     })
 }
@@ -368,11 +432,11 @@ fn listing_checks() -> Outcome {
     base.room = listing_size(&layouts);
     let short = base.room - 1;
     let mut faults = plan_faults();
-    faults.extend([13, 64].map(|blocks| block_fault(7, blocks)));
-    faults.extend(permission_faults(8));
+    faults.extend([13, 64].map(|blocks| block_fault(8, blocks)));
+    faults.extend(permission_faults(9));
     for room in [short, 43, 0] {
         let name = format!("room {room}");
-        faults.push(fault(9, 15, &name, move |w: &mut Work| w.room = room));
+        faults.push(fault(10, 15, &name, move |w: &mut Work| w.room = room));
     }
     alone_and_in_pairs(&base, &faults, &|w| {
         let mut out = vec![b'#'; w.room];
@@ -389,6 +453,7 @@ fn apply_checks() -> Outcome {
     let mut faults = set_faults(0);
     faults.extend(layout_faults(4));
     faults.extend(value_faults(5));
+    faults.extend(day_faults(6));
     alone_and_in_pairs(&work(), &faults, &|w| {
         let a = apply_layout(&w.set.view(), &w.ends);
         require_zero(a.refusal, a.directory == [0; DIRECTORY_LEN])?;
@@ -402,6 +467,9 @@ struct Laid {
     c: Column,
     lo: u32,
     hi: u32,
+    span: Span,
+    /// The day whose term a sheet is of.
+    day: u32,
     d: Delivery,
     new_grower: u32,
     /// Bytes of the text that is written.
@@ -416,6 +484,7 @@ fn laid() -> Laid {
         growers: vec![10, 30, 20, 60, 90, 1, 2],
         weights: vec![100, 200, 300, 400, 500, u32::MAX, u32::MAX],
         yields: vec![1, 2, 3, 4, 5, u32::MAX, u32::MAX],
+        days: vec![0, 0, 0, 0, 0, u32::MAX, u32::MAX],
         directory: vec![0; DIRECTORY_LEN],
     };
     c.directory[..5].copy_from_slice(&[2, 3, 3, 0, 2]);
@@ -425,6 +494,8 @@ fn laid() -> Laid {
         c,
         lo: 20,
         hi: 70,
+        span: Span::new(36_524, 0),
+        day: 14,
         d: Delivery::new(30, 200, 2),
         new_grower: 50,
         room,
@@ -450,12 +521,17 @@ fn directory_faults(growers_alone: bool) -> Vec<Fault<Laid>> {
         all.push(fault(1, 3, "long growers", |l: &mut Laid| {
             l.c.growers.push(0)
         }));
+        all.push(fault(1, 3, "short days", |l: &mut Laid| {
+            l.c.days.pop();
+        }));
+        all.push(fault(1, 3, "long days", |l: &mut Laid| l.c.days.push(0)));
     }
     for c in [0, SLOT_LIMIT + 1] {
         all.push(fault(1, 3, &format!("C {c}"), move |l: &mut Laid| {
             l.c.growers.resize(c, 0);
             l.c.weights.resize(c, 0);
             l.c.yields.resize(c, 0);
+            l.c.days.resize(c, 0);
         }));
     }
     let shapes: [(&str, &[(usize, u32)]); 14] = [
@@ -509,11 +585,26 @@ fn column_call(call: fn(&Laid) -> Call) -> impl Fn(&Laid) -> Result<u32, String>
     }
 }
 
+/// Check 19 of the slots that a call scans.
+fn scanned_day_faults(place: usize, slots: &[usize]) -> Vec<Fault<Laid>> {
+    let of = |&at: &usize| {
+        fault(place, 19, "day scanned", move |l: &mut Laid| {
+            put(&mut l.c.days, at, 36_525)
+        })
+    };
+    slots.iter().map(of).collect()
+}
+
+fn offered_day_fault(place: usize) -> Fault<Laid> {
+    fault(place, 19, "day offered", |l: &mut Laid| l.d.day = 36_525)
+}
+
 /// Find of 30 scans partition 0 alone; bad values elsewhere do not concern it.
 fn find_checks() -> Outcome {
     let mut base = laid();
     base.c.weights[3] = u32::MAX;
     base.c.yields[4] = u32::MAX;
+    base.c.days[3] = u32::MAX;
     let mut faults = directory_faults(false);
     faults.push(fault(3, 8, "weight scanned", |l: &mut Laid| {
         put(&mut l.c.weights, 0, 100_001)
@@ -521,10 +612,12 @@ fn find_checks() -> Outcome {
     faults.push(fault(3, 8, "yield scanned", |l: &mut Laid| {
         put(&mut l.c.yields, 2, 10_001)
     }));
+    faults.extend(scanned_day_faults(4, &[0, 1, 2]));
     alone_and_in_pairs(&base, &faults, &column_call(|_| Call::Find(30)))
 }
 
-fn range_checks() -> Outcome {
+/// What both kinds of range ask.
+fn range_faults() -> Vec<Fault<Laid>> {
     let mut faults = directory_faults(false);
     faults.push(fault(3, 7, "lo above hi", |l: &mut Laid| l.lo = l.hi + 1));
     faults.push(fault(3, 7, "lo largest", |l: &mut Laid| {
@@ -538,7 +631,26 @@ fn range_checks() -> Outcome {
             put(&mut l.c.yields, at, u32::MAX)
         }));
     }
-    alone_and_in_pairs(&laid(), &faults, &column_call(|l| Call::Range(l.lo, l.hi)))
+    faults.extend(scanned_day_faults(5, &[0, 2, 3, 4]));
+    faults
+}
+
+fn range_checks() -> Outcome {
+    let call = column_call(|l| Call::Range(l.lo, l.hi));
+    alone_and_in_pairs(&laid(), &range_faults(), &call)
+}
+
+/// A last day that is earlier is no fault; either above the limit is.
+fn range_days_checks() -> Outcome {
+    let mut faults = range_faults();
+    faults.push(fault(5, 19, "first day", |l: &mut Laid| {
+        l.span.first = 36_525
+    }));
+    faults.push(fault(5, 19, "last day", |l: &mut Laid| {
+        l.span.last = u32::MAX
+    }));
+    let call = column_call(|l| Call::RangeDays(l.lo, l.hi, l.span));
+    alone_and_in_pairs(&laid(), &faults, &call)
 }
 
 /// Insert scans nothing: bad values in the column do not concern it.
@@ -546,6 +658,7 @@ fn insert_checks() -> Outcome {
     let mut base = laid();
     base.c.weights[0] = u32::MAX;
     base.c.yields[3] = u32::MAX;
+    base.c.days[0] = u32::MAX;
     let mut faults = directory_faults(false);
     faults.push(fault(3, 8, "weight offered", |l: &mut Laid| {
         l.d.weight = 100_001
@@ -553,7 +666,8 @@ fn insert_checks() -> Outcome {
     faults.push(fault(3, 8, "yield offered", |l: &mut Laid| {
         l.d.oil_yield = u32::MAX
     }));
-    faults.push(fault(4, 12, "full", |l: &mut Laid| {
+    faults.push(offered_day_fault(4));
+    faults.push(fault(5, 12, "full", |l: &mut Laid| {
         put(&mut l.c.directory, LENGTHS + 2, 4)
     }));
     alone_and_in_pairs(&base, &faults, &column_call(|l| Call::Insert(l.d)))
@@ -563,6 +677,7 @@ fn removal_checks(call: fn(&Laid) -> Call) -> Outcome {
     let mut base = laid();
     base.c.weights[3] = u32::MAX;
     base.c.yields[4] = u32::MAX;
+    base.c.days[3] = u32::MAX;
     let mut faults = directory_faults(false);
     faults.push(fault(3, 8, "weight offered", |l: &mut Laid| {
         l.d.weight = 100_001
@@ -576,13 +691,16 @@ fn removal_checks(call: fn(&Laid) -> Call) -> Outcome {
     faults.push(fault(3, 8, "yield scanned", |l: &mut Laid| {
         put(&mut l.c.yields, 0, 10_001)
     }));
-    faults.push(fault(4, 13, "other grower", |l: &mut Laid| l.d.grower = 29));
-    faults.push(fault(4, 13, "other weight", |l: &mut Laid| {
+    faults.push(offered_day_fault(4));
+    faults.extend(scanned_day_faults(4, &[0, 1, 2]));
+    faults.push(fault(5, 13, "other grower", |l: &mut Laid| l.d.grower = 29));
+    faults.push(fault(5, 13, "other weight", |l: &mut Laid| {
         l.d.weight = 201
     }));
-    faults.push(fault(4, 13, "other yield", |l: &mut Laid| {
+    faults.push(fault(5, 13, "other yield", |l: &mut Laid| {
         l.d.oil_yield = 3
     }));
+    faults.push(fault(5, 13, "other day", |l: &mut Laid| l.d.day = 1));
     alone_and_in_pairs(&base, &faults, &column_call(call))
 }
 
@@ -592,8 +710,10 @@ fn step_checks(step: Step, scanned: Range<usize>) -> Outcome {
     for at in (0..5).filter(|at| !scanned.contains(at)) {
         base.c.weights[at] = u32::MAX;
         base.c.yields[at] = u32::MAX;
+        base.c.days[at] = u32::MAX;
     }
     let mut faults = directory_faults(false);
+    faults.extend(scanned_day_faults(4, &scanned.clone().collect::<Vec<_>>()));
     for at in scanned {
         faults.push(fault(3, 8, "weight scanned", move |l: &mut Laid| {
             put(&mut l.c.weights, at, 100_001)
@@ -611,8 +731,9 @@ fn step_checks(step: Step, scanned: Range<usize>) -> Outcome {
 
 fn slice_checks() -> Outcome {
     let mut base = laid();
-    // The other two slices do not concern this call.
+    // The other three slices do not concern this call.
     base.c.weights.clear();
+    base.c.days.clear();
     alone_and_in_pairs(&base, &directory_faults(true), &|l| {
         let a = partition_span(&l.c.growers, &l.c.directory, 30);
         require_zero(a.refusal, a.start == 0 && a.count == 0)?;
@@ -647,16 +768,32 @@ fn text_faults() -> Vec<Fault<Laid>> {
             put(&mut l.c.yields, at, 10_001)
         }));
     }
-    faults.push(fault(5, 15, "room short by 1", |l: &mut Laid| l.room -= 1));
-    faults.push(fault(5, 15, "room 0", |l: &mut Laid| l.room = 0));
+    faults.extend(scanned_day_faults(5, &[0, 1, 2, 3, 4]));
+    faults.push(fault(6, 15, "room short by 1", |l: &mut Laid| l.room -= 1));
+    faults.push(fault(6, 15, "room 0", |l: &mut Laid| l.room = 0));
     faults
 }
 
+/// A book holds no day but 0.
 fn write_checks() -> Outcome {
-    alone_and_in_pairs(&laid(), &text_faults(), &|l| {
+    let mut faults = text_faults();
+    for (at, day) in [(0, 1), (4, 36_524), (2, 8_825)] {
+        let name = format!("day {day}");
+        faults.push(fault(5, 19, &name, move |l: &mut Laid| {
+            put(&mut l.c.days, at, day)
+        }));
+    }
+    alone_and_in_pairs(&laid(), &faults, &|l| {
         let mut out = vec![b'#'; l.room];
         let c = &l.c;
-        let a = snapshot_write(&c.growers, &c.weights, &c.yields, &c.directory, &mut out);
+        let a = snapshot_write(
+            &c.growers,
+            &c.weights,
+            &c.yields,
+            &c.days,
+            &c.directory,
+            &mut out,
+        );
         require_zero(a.refusal, a.written == 0)?;
         if a.refusal != 0 {
             require_same(&out, &vec![b'#'; l.room])?;
@@ -665,15 +802,22 @@ fn write_checks() -> Outcome {
     })
 }
 
-fn sheet_checks() -> Outcome {
+fn sheet_checks(of_term: bool) -> Outcome {
     let mut base = laid();
+    base.c.days[..5].copy_from_slice(&[0, 14, 7, 1, 2]);
     // No grower has two records.
     base.room = sheet_size(5);
     let mut faults = text_faults();
+    if of_term {
+        for day in [36_525, u32::MAX] {
+            let name = format!("the term of day {day}");
+            faults.push(fault(5, 19, &name, move |l: &mut Laid| l.day = day));
+        }
+    }
     for (i, list) in ["order", "work"].into_iter().enumerate() {
         for n in [0, 4] {
             let name = format!("{list} of {n}");
-            faults.push(fault(5, 15, &name, move |l: &mut Laid| l.lists[i] = n));
+            faults.push(fault(6, 15, &name, move |l: &mut Laid| l.lists[i] = n));
         }
     }
     alone_and_in_pairs(&base, &faults, &|l| {
@@ -683,7 +827,10 @@ fn sheet_checks() -> Outcome {
             work: vec![7; l.lists[1]],
         };
         let mut room = before.clone();
-        let a = library_sheet(&l.c, &mut room);
+        let a = match of_term {
+            true => library_term_sheet(&l.c, l.day, &mut room),
+            false => library_sheet(&l.c, &mut room),
+        };
         require_zero(a.refusal, a.written == 0)?;
         require!(
             a.refusal == 0 || room == before,
@@ -705,10 +852,11 @@ fn directory_length_checks() -> Outcome {
                     l.c.growers.clear();
                 }
                 let expected = if short { 3 } else { 6 };
-                let d = Delivery::new(30, u32::MAX, 2);
+                let d = Delivery::new(30, u32::MAX, 2).on(u32::MAX);
                 for call in [
                     Call::Find(30),
                     Call::Range(9, 8),
+                    Call::RangeDays(9, 8, Span::new(u32::MAX, 0)),
                     Call::Insert(d),
                     Call::Delete(d),
                     Call::Move(d, 50),
@@ -724,7 +872,14 @@ fn directory_length_checks() -> Outcome {
                 let a = partition_span(&l.c.growers, &l.c.directory, 30);
                 require!(a.refusal == expected, "{len} slice: {a:?}");
                 let c = &l.c;
-                let a = snapshot_write(&c.growers, &c.weights, &c.yields, &c.directory, &mut []);
+                let a = snapshot_write(
+                    &c.growers,
+                    &c.weights,
+                    &c.yields,
+                    &c.days,
+                    &c.directory,
+                    &mut [],
+                );
                 require!(a.refusal == expected, "{len} write: {a:?}");
                 let mut room = Room {
                     text: Vec::new(),
@@ -733,6 +888,8 @@ fn directory_length_checks() -> Outcome {
                 };
                 let a = library_sheet(c, &mut room);
                 require!(a.refusal == expected, "{len} sheet: {a:?}");
+                let a = library_term_sheet(c, u32::MAX, &mut room);
+                require!(a.refusal == expected, "{len} sheet of a term: {a:?}");
             }
         }
     }
@@ -747,7 +904,7 @@ struct Text {
     tail: Vec<u8>,
     cut: usize,
     bytes: Vec<(usize, u8)>,
-    slots: [usize; 3],
+    slots: [usize; 4],
 }
 
 impl Text {
@@ -765,14 +922,15 @@ impl Text {
 }
 
 fn read_call(t: &Text) -> Result<u32, String> {
-    let [g, w, y] = t.slots;
-    let (mut gs, mut ws, mut ys) = (vec![7; g], vec![8; w], vec![9; y]);
-    let a = snapshot_read(&t.bytes(), &mut gs, &mut ws, &mut ys);
+    let [g, w, y, n] = t.slots;
+    let (mut gs, mut ws, mut ys, mut ns) = (vec![7; g], vec![8; w], vec![9; y], vec![6; n]);
+    let a = snapshot_read(&t.bytes(), &mut gs, &mut ws, &mut ys, &mut ns);
     require_zero(a.refusal, a.directory == [0; DIRECTORY_LEN])?;
     if a.refusal != 0 {
         require_same(&gs, &vec![7; g])?;
         require_same(&ws, &vec![8; w])?;
         require_same(&ys, &vec![9; y])?;
+        require_same(&ns, &vec![6; n])?;
     }
     Ok(a.refusal)
 }
@@ -790,7 +948,7 @@ fn text_base() -> Text {
         tail: vec![],
         cut: 0,
         bytes: vec![],
-        slots: [3; 3],
+        slots: [3; 4],
     }
 }
 
@@ -840,11 +998,14 @@ fn read_checks() -> Outcome {
         fault(0, 3, "long yields", |t: &mut Text| {
             t.slots[2] = t.slots[0] + 1
         }),
-        fault(0, 3, "C 0", |t: &mut Text| t.slots = [0; 3]),
-        fault(0, 3, "C 262145", |t: &mut Text| {
-            t.slots = [SLOT_LIMIT + 1; 3]
+        fault(0, 3, "short days", |t: &mut Text| {
+            t.slots[3] = t.slots[0] - 1
         }),
-        fault(1, 12, "two slots", |t: &mut Text| t.slots = [2; 3]),
+        fault(0, 3, "C 0", |t: &mut Text| t.slots = [0; 4]),
+        fault(0, 3, "C 262145", |t: &mut Text| {
+            t.slots = [SLOT_LIMIT + 1; 4]
+        }),
+        fault(1, 12, "two slots", |t: &mut Text| t.slots = [2; 4]),
         fault(1, 12, "M larger", |t: &mut Text| t.lines[0][1] = 4),
         fault(1, 12, "M largest", |t: &mut Text| t.lines[0][1] = 262_144),
     ];
@@ -856,7 +1017,7 @@ fn read_checks() -> Outcome {
     for slots in [2, 3] {
         let mut t = text_base();
         t.lines[0][1] = 2;
-        t.slots = [slots; 3];
+        t.slots = [slots; 4];
         let got = read_call(&t)?;
         require!(got == 14, "M smaller, {slots} slots: {got}");
     }
@@ -897,7 +1058,7 @@ fn read_line_1_checks() -> Outcome {
     faults.push(fault(0, 3, "short growers", |t: &mut Text| {
         t.slots[0] = t.slots[1] - 1
     }));
-    faults.push(fault(2, 12, "two slots", |t: &mut Text| t.slots = [2; 3]));
+    faults.push(fault(2, 12, "two slots", |t: &mut Text| t.slots = [2; 4]));
     alone_and_in_pairs(&text_base(), &faults, &read_call)
 }
 
@@ -932,19 +1093,20 @@ fn settlement_checks() -> Outcome {
 struct File {
     header: &'static str,
     rows: Vec<&'static str>,
-    slots: [usize; 3],
+    slots: [usize; 4],
 }
 
 fn import_call(f: &File) -> Result<u32, String> {
-    let [g, w, y] = f.slots;
-    let (mut gs, mut ws, mut ys) = (vec![7; g], vec![8; w], vec![9; y]);
+    let [g, w, y, n] = f.slots;
+    let (mut gs, mut ws, mut ys, mut ns) = (vec![7; g], vec![8; w], vec![9; y], vec![6; n]);
     let text = [f.header, &f.rows.join("\r\n")].join("\r\n");
-    let a = csv_import(text.as_bytes(), &mut gs, &mut ws, &mut ys);
+    let a = csv_import(text.as_bytes(), &mut gs, &mut ws, &mut ys, &mut ns);
     require_zero(a.refusal, a.rows == 0)?;
     if a.refusal != 0 {
         require_same(&gs, &vec![7; g])?;
         require_same(&ws, &vec![8; w])?;
         require_same(&ys, &vec![9; y])?;
+        require_same(&ns, &vec![6; n])?;
     }
     Ok(a.refusal)
 }
@@ -953,7 +1115,7 @@ fn import_checks() -> Outcome {
     let base = File {
         header: "mill,grower,weight,yield",
         rows: vec!["a,1,2,3", "b,4,5,6"],
-        slots: [2; 3],
+        slots: [2; 4],
     };
     let mut faults = vec![
         fault(0, 3, "short weights", |f: &mut File| {
@@ -962,11 +1124,14 @@ fn import_checks() -> Outcome {
         fault(0, 3, "long yields", |f: &mut File| {
             f.slots[2] = f.slots[0] + 1
         }),
-        fault(0, 3, "C 0", |f: &mut File| f.slots = [0; 3]),
-        fault(0, 3, "C 262145", |f: &mut File| {
-            f.slots = [SLOT_LIMIT + 1; 3]
+        fault(0, 3, "short days", |f: &mut File| {
+            f.slots[3] = f.slots[0] - 1
         }),
-        fault(4, 12, "one slot", |f: &mut File| f.slots = [1; 3]),
+        fault(0, 3, "C 0", |f: &mut File| f.slots = [0; 4]),
+        fault(0, 3, "C 262145", |f: &mut File| {
+            f.slots = [SLOT_LIMIT + 1; 4]
+        }),
+        fault(4, 12, "one slot", |f: &mut File| f.slots = [1; 4]),
         fault(4, 12, "rows more", |f: &mut File| f.rows.push("c,7,8,9")),
     ];
     for (place, number, header) in [
@@ -1004,11 +1169,16 @@ struct Export {
     room: usize,
 }
 
+fn columns(c: &mut Column) -> [&mut Vec<u32>; 4] {
+    [&mut c.growers, &mut c.weights, &mut c.yields, &mut c.days]
+}
+
 fn export_checks() -> Outcome {
     let c = Column {
         growers: vec![10, u32::MAX, 0, 7],
         weights: vec![100_000, 0, 5, 100_001],
         yields: vec![10_000, 0, 6, 10_001],
+        days: vec![36_524, 0, 8_825, 36_525],
         directory: vec![],
     };
     let base = Export {
@@ -1021,13 +1191,14 @@ fn export_checks() -> Outcome {
             e.c.growers.truncate(3)
         }),
         fault(0, 3, "long yields", |e: &mut Export| e.c.yields.push(0)),
+        fault(0, 3, "short days", |e: &mut Export| e.c.days.truncate(3)),
         fault(0, 3, "C 0", |e: &mut Export| {
-            for column in [&mut e.c.growers, &mut e.c.weights, &mut e.c.yields] {
+            for column in columns(&mut e.c) {
                 column.clear();
             }
         }),
         fault(0, 3, "C 262145", |e: &mut Export| {
-            for column in [&mut e.c.growers, &mut e.c.weights, &mut e.c.yields] {
+            for column in columns(&mut e.c) {
                 column.resize(SLOT_LIMIT + 1, 0);
             }
         }),
@@ -1038,8 +1209,8 @@ fn export_checks() -> Outcome {
         fault(2, 8, "M over values out of range", |e: &mut Export| {
             e.used = 4
         }),
-        fault(3, 15, "room short by 1", |e: &mut Export| e.room -= 1),
-        fault(3, 15, "room 0", |e: &mut Export| e.room = 0),
+        fault(4, 15, "room short by 1", |e: &mut Export| e.room -= 1),
+        fault(4, 15, "room 0", |e: &mut Export| e.room = 0),
     ];
     for at in 0..3 {
         faults.push(fault(2, 8, "weight", move |e: &mut Export| {
@@ -1048,10 +1219,20 @@ fn export_checks() -> Outcome {
         faults.push(fault(2, 8, "yield", move |e: &mut Export| {
             put(&mut e.c.yields, at, 10_001)
         }));
+        faults.push(fault(3, 19, "day", move |e: &mut Export| {
+            put(&mut e.c.days, at, 36_525)
+        }));
     }
     alone_and_in_pairs(&base, &faults, &|e| {
         let mut out = vec![b'#'; e.room];
-        let a = csv_export(e.used, &e.c.growers, &e.c.weights, &e.c.yields, &mut out);
+        let a = csv_export(
+            e.used,
+            &e.c.growers,
+            &e.c.weights,
+            &e.c.yields,
+            &e.c.days,
+            &mut out,
+        );
         require_zero(a.refusal, a.written == 0)?;
         if a.refusal != 0 {
             require_same(&out, &vec![b'#'; e.room])?;
@@ -1077,7 +1258,7 @@ fn layplan_base(calls: bool) -> Text {
         tail: vec![],
         cut: 0,
         bytes: vec![],
-        slots: [0; 3],
+        slots: [0; 4],
     }
 }
 
@@ -1221,13 +1402,18 @@ fn ledger_checks() -> Outcome {
     require!(l.insert(d) == 0, "insert");
     let before = l.clone();
     require!(l.insert(d) == 12, "12");
-    for bad in [heavy, rich] {
+    for bad in [heavy, rich, heavy.on(36_525)] {
         // Full and absent as well: 8 is asked first.
         require!(l.insert(bad) == 8, "8 ahead of 12");
         require!(l.delete(bad) == 8, "8 ahead of 13");
         require!(l.move_delivery(bad, 4) == 8, "8 ahead of 13");
     }
+    let late = d.on(36_525);
+    require!(l.insert(late) == 19, "19 ahead of 12");
+    require!(l.delete(late) == 19, "19 ahead of 13");
+    require!(l.move_delivery(late, 4) == 19, "19 ahead of 13");
     for absent in [
+        d.on(1),
         Delivery::new(2, 2, 3),
         Delivery::new(1, 1, 3),
         Delivery::new(1, 2, 2),
@@ -1238,6 +1424,17 @@ fn ledger_checks() -> Outcome {
         );
     }
     require!(l.range(2, 1) == (7, Totals::ZERO), "7");
+    for (lo, first, last, expected) in [
+        (2, 36_525, 0, (7, Totals::ZERO)),
+        (1, 36_525, 0, (19, Totals::ZERO)),
+        (1, 0, 36_525, (19, Totals::ZERO)),
+        (1, 1, 0, (0, Totals::ZERO)),
+        (1, 1, 36_524, (0, Totals::ZERO)),
+        (1, 0, 0, (0, Totals::new(1, 2, 6))),
+    ] {
+        let a = l.range_days(lo, 1, Span::new(first, last));
+        require!(a == expected, "range on {first} to {last}: {a:?}");
+    }
     require!(l == before, "a refusal changed the ledger");
     require!(l.find(1) == (0, Totals::new(1, 2, 6)), "find");
     for (g, next, previous) in [
@@ -1260,42 +1457,57 @@ fn recorder_checks() -> Vec<(&'static str, Box<dyn Fn() -> Outcome>)> {
     let at = count_index;
     let mut spread = vec![at(RS, 1), at(RE, 6)];
     spread.extend((2..6).map(|i| at(SC, i)));
+    let ranged = spread.clone();
     vec![
         (
             "recorder find",
-            Box::new(move || recorder(|_| Call::Find(30), &[at(PQ, 2)], false, false)),
+            Box::new(move || recorder(|_| Call::Find(30), &[at(PQ, 2)], Given::Grower)),
         ),
         (
             "recorder range",
-            Box::new(move || recorder(|w| Call::Range(w.lo, w.hi), &spread, true, false)),
+            Box::new(move || recorder(|w| Call::Range(w.lo, w.hi), &ranged, Given::Range)),
+        ),
+        (
+            "recorder range over days",
+            Box::new(move || {
+                let call = |w: &Work| Call::RangeDays(w.lo, w.hi, w.span);
+                recorder(call, &spread, Given::RangeDays)
+            }),
         ),
         (
             "recorder insert",
-            Box::new(move || recorder(|w| Call::Insert(w.d), &[at(IN, 2)], false, true)),
+            Box::new(move || recorder(|w| Call::Insert(w.d), &[at(IN, 2)], Given::Delivery)),
         ),
         (
             "recorder delete",
-            Box::new(move || recorder(|w| Call::Delete(w.d), &[at(DE, 2)], false, true)),
+            Box::new(move || recorder(|w| Call::Delete(w.d), &[at(DE, 2)], Given::Delivery)),
         ),
         (
             "recorder delete of an absent delivery",
             Box::new(move || {
                 let call = |w: &Work| Call::Delete(Delivery { grower: 99, ..w.d });
-                recorder(call, &[at(PQ, 7)], false, true)
+                recorder(call, &[at(PQ, 7)], Given::Delivery)
+            }),
+        ),
+        (
+            "recorder delete of a delivery on another day",
+            Box::new(move || {
+                let call = |w: &Work| Call::Delete(w.d.on(w.d.day - 1));
+                recorder(call, &[at(PQ, 2)], Given::Grower)
             }),
         ),
         (
             "recorder move forward",
             Box::new(move || {
                 let full = [at(UDF, 2), at(UTF, 6)];
-                recorder(|w| Call::Move(w.d, w.new_grower), &full, false, true)
+                recorder(|w| Call::Move(w.d, w.new_grower), &full, Given::Delivery)
             }),
         ),
         (
             "recorder move backward",
             Box::new(move || {
                 let full = [at(UDB, 2), at(UTB, 0)];
-                recorder(|w| Call::Move(w.d, 1), &full, false, true)
+                recorder(|w| Call::Move(w.d, 1), &full, Given::Delivery)
             }),
         ),
     ]
@@ -1303,13 +1515,14 @@ fn recorder_checks() -> Vec<(&'static str, Box<dyn Fn() -> Outcome>)> {
 
 pub fn all() -> Vec<(String, Outcome)> {
     let mut list = recorder_checks();
-    let rest: [(&str, fn() -> Outcome); 24] = [
+    let rest: [(&str, fn() -> Outcome); 26] = [
         ("cost of a layout", cost_checks),
         ("planner", planner_checks),
         ("listing", listing_checks),
         ("apply layout", apply_checks),
         ("find", find_checks),
         ("range", range_checks),
+        ("range over days", range_days_checks),
         ("insert", insert_checks),
         ("delete", || removal_checks(|l| Call::Delete(l.d))),
         ("move", || removal_checks(|l| Call::Move(l.d, l.new_grower))),
@@ -1318,7 +1531,8 @@ pub fn all() -> Vec<(String, Outcome)> {
         ("previous grower", || step_checks(Step::Previous(40), 0..3)),
         ("partition slice", slice_checks),
         ("snapshot write", write_checks),
-        ("sheet", sheet_checks),
+        ("sheet", || sheet_checks(false)),
+        ("sheet of a term", || sheet_checks(true)),
         ("directory of another length", directory_length_checks),
         ("snapshot read", read_checks),
         ("snapshot read, line 1", read_line_1_checks),

@@ -157,13 +157,14 @@ fn expected_import(text: &[u8], slots: usize) -> Result<Vec<Delivery>, u32> {
 }
 
 /// What slots hold before an import.
-const OLD: Delivery = Delivery::new(7, 8, 9);
+const OLD: Delivery = Delivery::new(7, 8, 9).on(6);
 
 fn slots_of(deliveries: &[Delivery]) -> Column {
     Column {
         growers: deliveries.iter().map(|d| d.grower).collect(),
         weights: deliveries.iter().map(|d| d.weight).collect(),
         yields: deliveries.iter().map(|d| d.oil_yield).collect(),
+        days: deliveries.iter().map(|d| d.day).collect(),
         directory: Vec::new(),
     }
 }
@@ -363,7 +364,9 @@ pub fn csv_round_trip(s: &dyn Subject, cases: u64) -> Outcome {
         require!(written == expected.as_bytes(), "another text");
         require!(past.iter().all(|&b| b == b'#'), "bytes past it changed");
         let slots = used.max(1) + r.below(3);
-        import_is(s, written, slots, &Ok(kept.to_vec()))?;
+        // The day is not restored.
+        let undated = kept.iter().map(|d| d.on(0)).collect();
+        import_is(s, written, slots, &Ok(undated))?;
     }
     Ok(())
 }

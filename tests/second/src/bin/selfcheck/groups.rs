@@ -32,6 +32,7 @@ pub fn main_set() -> Set {
         growers: (1..=8).map(|i| 10 * i).collect(),
         weights: vec![100; 8],
         yields: vec![2_000; 8],
+        days: vec![0; 9],
     };
     set.growers.push(0);
     set.weights.push(0);
@@ -351,8 +352,10 @@ pub fn recorder_model(s: &dyn Subject, cases: u64) -> Outcome {
             let call = random::call(r, &held);
             let mut expected = h.clone();
             let refusal = match call {
-                Call::Range(lo, hi) if lo > hi => 7,
+                Call::Range(lo, hi) | Call::RangeDays(lo, hi, _) if lo > hi => 7,
                 Call::Insert(d) | Call::Delete(d) | Call::Move(d, _) if !d.in_range() => 8,
+                Call::Insert(d) | Call::Delete(d) | Call::Move(d, _) if d.day > 36_524 => 19,
+                Call::RangeDays(_, _, span) if span.first.max(span.last) > 36_524 => 19,
                 _ => {
                     let up = raised(&set, &call);
                     if up.iter().any(|&(n, b)| h[named(n, b)] >= 1_000_000) {
@@ -566,6 +569,10 @@ pub fn column_slots(s: &dyn Subject, cases: u64) -> Outcome {
                 c.yields[at] = u32::MAX;
             }
         }
+        if used > 0 && r.one_in(8) {
+            let at = r.below(used);
+            c.days[at] = 36_525;
+        }
         let mut model = SlotModel::new(&c);
         for _ in 0..25 {
             let call = random::call(r, &c.records());
@@ -601,6 +608,7 @@ pub fn column_edges(s: &dyn Subject, cases: u64) -> Outcome {
             growers: vec![0; c],
             weights: vec![0; c],
             yields: vec![0; c],
+            days: vec![0; c],
             directory,
         }
     };
@@ -658,7 +666,9 @@ pub fn column_edges(s: &dyn Subject, cases: u64) -> Outcome {
             let g = r.pick(&[5, 5, 300, 305, 639, 9_999]);
             let a = s.call(
                 &mut c,
-                &Call::Insert(Delivery::new(g, random::weight(r), random::oil_yield(r))),
+                &Call::Insert(
+                    Delivery::new(g, random::weight(r), random::oil_yield(r)).on(random::day(r)),
+                ),
             );
             require!(a.refusal == 0, "insert: {a:?}");
         }
@@ -684,6 +694,7 @@ pub fn column_largest(s: &dyn Subject, _: u64) -> Outcome {
         growers: (0..m as u32).collect(),
         weights: vec![100_000; m],
         yields: vec![10_000; m],
+        days: vec![36_524; m],
     };
     let ends: Vec<u32> = (0..64).collect();
     let laid = s.apply(&set.view(), &ends);
@@ -696,14 +707,15 @@ pub fn column_largest(s: &dyn Subject, _: u64) -> Outcome {
         "range: {a:?}"
     );
     require!(a.counts == Counts::new(1, 63, 0), "range: {a:?}");
-    let d = Delivery::new(5, 100_000, 10_000);
+    let of = |g: u32| Delivery::new(g, 100_000, 10_000).on(36_524);
+    let d = of(5);
     let a = s.call(&mut c, &Call::Insert(d));
     require!(a.refusal == 12, "insert: {a:?}");
     let mut model = SlotModel::new(&c);
     for call in [
         Call::Delete(d),
-        Call::Move(Delivery::new(200_000, 100_000, 10_000), 7),
-        Call::Move(Delivery::new(9, 100_000, 10_000), u32::MAX),
+        Call::Move(of(200_000), 7),
+        Call::Move(of(9), u32::MAX),
         Call::Insert(d),
         Call::Insert(d),
     ] {
@@ -711,6 +723,7 @@ pub fn column_largest(s: &dyn Subject, _: u64) -> Outcome {
         require!(a == e, "{call:?}: {a:?}, not {e:?}");
     }
     require!(c == model.column(), "slots differ");
+    let c = c.undated();
     let mut text = vec![b'#'; snapshot_size(m, 64) + 3];
     let w = s.snapshot_write(&c, &mut text);
     require!(
@@ -722,6 +735,7 @@ pub fn column_largest(s: &dyn Subject, _: u64) -> Outcome {
     back.growers.fill(1);
     back.weights.fill(1);
     back.yields.fill(1);
+    back.days.fill(1);
     text.truncate(w.written);
     let read = s.snapshot_read(&text, &mut back);
     back.directory = read.directory.to_vec();
@@ -742,6 +756,7 @@ pub fn snapshot_round_trip(s: &dyn Subject, cases: u64) -> Outcome {
             let call = random::call(r, &c.records());
             s.call(&mut c, &call);
         }
+        let c = c.undated();
         let expected = snapshot_text(&c);
         let spare = r.below(3);
         let mut text = vec![b'#'; expected.len() + spare];
@@ -766,6 +781,7 @@ pub fn snapshot_round_trip(s: &dyn Subject, cases: u64) -> Outcome {
             growers: vec![7; slots],
             weights: vec![8; slots],
             yields: vec![9; slots],
+            days: vec![6; slots],
             directory: Vec::new(),
         };
         let a = s.snapshot_read(&expected, &mut back);
@@ -778,7 +794,7 @@ pub fn snapshot_round_trip(s: &dyn Subject, cases: u64) -> Outcome {
         require!(back.records() == c.records(), "records differ");
         for at in c.used()..slots {
             require!(
-                back.slot(at) == Delivery::new(7, 8, 9),
+                back.slot(at) == Delivery::new(7, 8, 9).on(6),
                 "a later slot changed"
             );
         }
@@ -891,6 +907,7 @@ pub fn snapshot_damaged(s: &dyn Subject, cases: u64) -> Outcome {
             growers: vec![7; slots],
             weights: vec![8; slots],
             yields: vec![9; slots],
+            days: vec![6; slots],
             directory: Vec::new(),
         };
         let before = back.clone();
@@ -961,6 +978,7 @@ fn expected_layplan(s: &dyn Subject, text: &[u8]) -> Vec<u8> {
         growers: vec![],
         weights: vec![],
         yields: vec![],
+        days: vec![0; m + 1],
     };
     for d in &lines[3..3 + m] {
         set.growers.push(num(d[0]));
@@ -1024,7 +1042,7 @@ fn random_input(r: &mut Random) -> Vec<Vec<u64>> {
     for _ in 0..q {
         lines.push(match random::call(r, &held) {
             Call::Find(g) => vec![1, wide(g), 0, 0, 0],
-            Call::Range(lo, hi) => vec![2, wide(lo), wide(hi), 0, 0],
+            Call::Range(lo, hi) | Call::RangeDays(lo, hi, _) => vec![2, wide(lo), wide(hi), 0, 0],
             Call::Insert(d) => vec![3, wide(d.grower), wide(d.weight), wide(d.oil_yield), 0],
             Call::Delete(d) => vec![4, wide(d.grower), wide(d.weight), wide(d.oil_yield), 0],
             Call::Move(d, g) => {

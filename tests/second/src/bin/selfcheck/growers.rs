@@ -67,8 +67,8 @@ pub fn sound_column(r: &mut Random) -> Column {
     }
 }
 
-/// A column of any kind: unsound in one of three, and a weight or a yield out
-/// of range in one of three.
+/// A column of any kind: unsound in one of three, a weight or a yield out of
+/// range in one of three, and a day in one of four.
 pub fn any_column(r: &mut Random) -> Column {
     let mut c = sound_column(r);
     let used = c.used();
@@ -85,6 +85,10 @@ pub fn any_column(r: &mut Random) -> Column {
         } else {
             c.yields[at] = u32::MAX;
         }
+    }
+    if used > 0 && r.one_in(4) {
+        let at = r.below(used);
+        c.days[at] = r.pick(&[36_525, u32::MAX]);
     }
     c
 }
@@ -208,6 +212,7 @@ pub fn grower_edges(s: &dyn Subject, _: u64) -> Outcome {
             growers: vec![grower, 1],
             weights: vec![100, u32::MAX],
             yields: vec![2_000, u32::MAX],
+            days: vec![36_524, u32::MAX],
             directory: vec![0; DIRECTORY_LEN],
         };
         c.directory[..2].copy_from_slice(&[1, 64]);
@@ -231,6 +236,7 @@ pub fn grower_edges(s: &dyn Subject, _: u64) -> Outcome {
         growers: (0..m).map(|i| i * 129 % m / 2 * 2).collect(),
         weights: vec![100_000; SLOT_LIMIT],
         yields: vec![10_000; SLOT_LIMIT],
+        days: vec![36_524; SLOT_LIMIT],
         directory: vec![0; DIRECTORY_LEN],
     };
     c.directory[..3].copy_from_slice(&[4_096, 1, m]);

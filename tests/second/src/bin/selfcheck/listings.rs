@@ -52,6 +52,7 @@ fn one_a_block(blocks: usize) -> Set {
         growers: (0..blocks as u32).collect(),
         weights: vec![1; blocks],
         yields: vec![0; blocks],
+        days: vec![0; blocks],
     }
 }
 

@@ -35,6 +35,7 @@ impl SlotModel {
             growers: Vec::new(),
             weights: Vec::new(),
             yields: Vec::new(),
+            days: Vec::new(),
             directory: vec![0; DIRECTORY_LEN],
         };
         c.directory[0] = self.b as u32;
@@ -53,39 +54,46 @@ impl SlotModel {
         before.min(self.fences.len() - 1)
     }
 
-    /// Blocks of the partitions scanned, or `None` if check 8 refuses one.
-    fn scan(&self, first: usize, last: usize) -> Option<Counts> {
+    /// Blocks of the partitions scanned, or the refusal: 8 if one of all their
+    /// records has a bad weight or yield, else 19 if one has a bad day.
+    fn scan(&self, first: usize, last: usize) -> Result<Counts, u32> {
+        let records = || self.parts[first..=last].iter().flatten();
+        if records().any(|d| d.weight > 100_000 || d.oil_yield > 10_000) {
+            return Err(8);
+        }
+        if records().any(|d| d.day > 36_524) {
+            return Err(19);
+        }
         let mut blocks = 0;
         for part in &self.parts[first..=last] {
-            if part
-                .iter()
-                .any(|d| d.weight > 100_000 || d.oil_yield > 10_000)
-            {
-                return None;
-            }
             let mut n = part.len() / self.b;
             if part.len() % self.b != 0 {
                 n += 1;
             }
             blocks += n as u64;
         }
-        Some(match blocks {
+        Ok(match blocks {
             0 => Counts::ZERO,
             _ => Counts::new(1, blocks - 1, 0),
         })
     }
 
-    fn read(&self, lo: u32, hi: u32) -> Answer {
+    fn read(&self, lo: u32, hi: u32, span: Span) -> Answer {
         if lo > hi {
             return Answer::refused(7);
         }
         let (first, last) = (self.partition_of(lo), self.partition_of(hi));
-        let Some(counts) = self.scan(first, last) else {
-            return Answer::refused(8);
+        let counts = match self.scan(first, last) {
+            Ok(counts) => counts,
+            Err(number) => return Answer::refused(number),
         };
+        if span.first.max(span.last) > 36_524 {
+            return Answer::refused(19);
+        }
         let mut totals = Totals::ZERO;
         for d in self.parts[first..=last].iter().flatten() {
-            if d.grower >= lo && d.grower <= hi {
+            let on_days = (span.first..=span.last).contains(&d.day);
+            if d.grower >= lo && d.grower <= hi && on_days {
                 totals.records += 1;
                 totals.weight += u64::from(d.weight);
                 totals.oil += u64::from(d.weight) * u64::from(d.oil_yield);
@@ -101,6 +109,9 @@ impl SlotModel {
     fn insert(&mut self, d: Delivery) -> Answer {
         if d.weight > 100_000 || d.oil_yield > 10_000 {
             return Answer::refused(8);
+        }
+        if d.day > 36_524 {
+            return Answer::refused(19);
         }
         if self.free.is_empty() {
             return Answer::refused(12);
@@ -128,9 +139,10 @@ impl SlotModel {
             return Err(Answer::refused(8));
         }
         let p = self.partition_of(d.grower);
-        let Some(counts) = self.scan(p, p) else {
-            return Err(Answer::refused(8));
-        };
+        let counts = self.scan(p, p).map_err(Answer::refused)?;
+        if d.day > 36_524 {
+            return Err(Answer::refused(19));
+        }
         match self.parts[p].iter().position(|held| held == d) {
             Some(at) => Ok((p, at, counts)),
             None => Err(Answer {
@@ -222,8 +234,9 @@ impl SlotModel {
     pub fn step(&self, step: &Step) -> GrowerAnswer {
         let scanned = self.scanned(step);
         let (one, other) = (scanned[0], scanned[scanned.len() - 1]);
-        let Some(counts) = self.scan(one.min(other), one.max(other)) else {
-            return step_refused(8);
+        let counts = match self.scan(one.min(other), one.max(other)) {
+            Ok(counts) => counts,
+            Err(number) => return step_refused(number),
         };
         let held = || self.parts[other].iter().map(|d| d.grower);
         let grower = step.first_of(held());
@@ -237,8 +250,9 @@ impl SlotModel {
 
     pub fn call(&mut self, call: &Call) -> Answer {
         match *call {
-            Call::Find(g) => self.read(g, g),
-            Call::Range(lo, hi) => self.read(lo, hi),
+            Call::Find(g) => self.read(g, g, Span::new(0, 36_524)),
+            Call::Range(lo, hi) => self.read(lo, hi, Span::new(0, 36_524)),
+            Call::RangeDays(lo, hi, span) => self.read(lo, hi, span),
             Call::Insert(d) => self.insert(d),
             Call::Delete(d) => self.delete(d),
             Call::Move(d, g) => self.move_delivery(d, g),
@@ -246,11 +260,12 @@ impl SlotModel {
     }
 }
 
-/// The five calls on the ledger.
+/// The calls on the ledger.
 pub fn ledger_call(ledger: &mut Ledger, call: &Call) -> (u32, Totals) {
     match *call {
         Call::Find(g) => ledger.find(g),
         Call::Range(lo, hi) => ledger.range(lo, hi),
+        Call::RangeDays(lo, hi, span) => ledger.range_days(lo, hi, span),
         Call::Insert(d) => (ledger.insert(d), Totals::ZERO),
         Call::Delete(d) => (ledger.delete(d), Totals::ZERO),
         Call::Move(d, g) => (ledger.move_delivery(d, g), Totals::ZERO),
@@ -275,7 +290,7 @@ pub fn raised(set: &Set, call: &Call) -> Vec<(&'static str, usize)> {
     };
     match *call {
         Call::Find(g) => vec![("pq", block(g))],
-        Call::Range(lo, hi) => {
+        Call::Range(lo, hi) | Call::RangeDays(lo, hi, _) => {
             let (a, z) = (block(lo), block(hi));
             if a == z {
                 return vec![("pq", a)];
@@ -400,11 +415,16 @@ pub fn snapshot_text(c: &Column) -> Vec<u8> {
     text_of(&lines)
 }
 
-/// The sheet of a sound column and the used slots in its order, by a map from
-/// each grower to his slots.
+/// The sheet of a sound column and the used slots in its order.
 pub fn sheet(c: &Column) -> (Vec<u8>, Vec<u32>) {
+    sheet_of(c, |_| true)
+}
+
+/// The sheet of those records of a sound column that are on chosen days and
+/// their slots in its order, by a map from each grower to his slots.
+pub fn sheet_of(c: &Column, chosen: impl Fn(u32) -> bool) -> (Vec<u8>, Vec<u32>) {
     let mut slots: BTreeMap<u32, Vec<usize>> = BTreeMap::new();
-    for s in 0..c.used() {
+    for s in (0..c.used()).filter(|&s| chosen(c.days[s])) {
         slots.entry(c.growers[s]).or_default().push(s);
     }
     let mut lines: Vec<Vec<u64>> = Vec::new();

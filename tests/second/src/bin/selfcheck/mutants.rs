@@ -2,12 +2,14 @@
 //! is named for it; otherwise that comparison proves nothing.
 
 use crate::csv;
+use crate::days;
 use crate::groups::{self, Outcome};
 use crate::growers;
 use crate::increases;
 use crate::model::text_in;
 use crate::sheets;
 use crate::subject::*;
+use crate::wrong_days::*;
 use crate::wrong_listings::{self, List};
 use second::planner::layout_of_bits;
 use second::recorder::*;
@@ -36,6 +38,10 @@ struct Mutant {
     layplan: Option<fn(&[u8]) -> Vec<u8>>,
     sheet: Option<fn(&Column, &mut Room) -> TextAnswer>,
     settlement: Option<fn(&[u8]) -> Vec<u8>>,
+    term_sheet: Option<fn(&Column, u32, &mut Room) -> TextAnswer>,
+    day: Option<fn(u32, u32, u32) -> DayAnswer>,
+    date: Option<fn(u32) -> DateAnswer>,
+    term: Option<fn(u32) -> TermAnswer>,
 }
 
 impl Subject for Mutant {
@@ -132,6 +138,22 @@ impl Subject for Mutant {
 
     fn settlement(&self, text: &[u8]) -> Vec<u8> {
         self.settlement.unwrap_or(settlement)(text)
+    }
+
+    fn term_sheet(&self, c: &Column, day: u32, room: &mut Room) -> TextAnswer {
+        self.term_sheet.unwrap_or(library_term_sheet)(c, day, room)
+    }
+
+    fn day_of(&self, year: u32, month: u32, day: u32) -> DayAnswer {
+        self.day.unwrap_or(day_of)(year, month, day)
+    }
+
+    fn date_of(&self, day: u32) -> DateAnswer {
+        self.date.unwrap_or(date_of)(day)
+    }
+
+    fn term_of(&self, day: u32) -> TermAnswer {
+        self.term.unwrap_or(term_of)(day)
     }
 }
 
@@ -444,7 +466,7 @@ fn with_insert(c: &mut Column, call: &Call, steps: fn(&mut Column, Delivery)) ->
     a
 }
 
-/// Two of the three columns move.
+/// Two of the four columns move.
 fn two_columns(c: &mut Column, call: &Call) -> Answer {
     with_insert(c, call, |c, d| {
         insert_by_hand(c, d, &mut |c, from, to, n| {
@@ -469,6 +491,7 @@ fn yield_behind_after_empty(c: &mut Column, call: &Call) -> Answer {
             c.weights[to] = c.weights[from];
             if !passed_empty {
                 c.yields[to] = c.yields[from];
+                c.days[to] = c.days[from];
             }
         })
     })
@@ -580,7 +603,7 @@ fn random_read_each(counts: &mut Counts, lengths: &[usize]) {
 fn lengths_scanned(c: &Column, call: &Call, refusal: u32) -> Vec<usize> {
     let (lo, hi) = match (*call, refusal) {
         (Call::Find(g), 0) => (g, g),
-        (Call::Range(lo, hi), 0) => (lo, hi),
+        (Call::Range(lo, hi) | Call::RangeDays(lo, hi, _), 0) => (lo, hi),
         (Call::Delete(d) | Call::Move(d, _), 13) => (d.grower, d.grower),
         _ => return Vec::new(),
     };
@@ -907,6 +930,7 @@ fn text_ahead_of_full(text: &[u8], c: &mut Column) -> DirectoryAnswer {
             growers: vec![0; SLOT_LIMIT],
             weights: vec![0; SLOT_LIMIT],
             yields: vec![0; SLOT_LIMIT],
+            days: vec![0; SLOT_LIMIT],
             directory: Vec::new(),
         };
         let b = Library.snapshot_read(text, &mut large);
@@ -1153,6 +1177,7 @@ fn slot_too_many(text: &[u8]) -> Vec<u8> {
         growers: vec![0; 513],
         weights: vec![0; 513],
         yields: vec![0; 513],
+        days: vec![0; 513],
         directory: Vec::new(),
     };
     let read = Library.snapshot_read(text, &mut c);
@@ -1287,7 +1312,12 @@ fn filled_when_refused(text: &[u8], c: &mut Column) -> ImportAnswer {
     if a.refusal == 12 {
         let slots = c.growers.len();
         let mut large = c.clone();
-        for column in [&mut large.growers, &mut large.weights, &mut large.yields] {
+        for column in [
+            &mut large.growers,
+            &mut large.weights,
+            &mut large.yields,
+            &mut large.days,
+        ] {
             column.resize(text.len(), 0);
         }
         Library.csv_import(text, &mut large);
@@ -1443,6 +1473,244 @@ fn sheet(f: fn(&Column, &mut Room) -> TextAnswer) -> Mutant {
     }
 }
 
+fn write(f: fn(&Column, &mut [u8]) -> TextAnswer) -> Mutant {
+    Mutant {
+        write: Some(f),
+        ..Mutant::default()
+    }
+}
+
+fn of_term(f: fn(&Column, u32, &mut Room) -> TextAnswer) -> Mutant {
+    Mutant {
+        term_sheet: Some(f),
+        ..Mutant::default()
+    }
+}
+
+fn numbered(f: fn(u32, u32, u32) -> DayAnswer) -> Mutant {
+    Mutant {
+        day: Some(f),
+        ..Mutant::default()
+    }
+}
+
+fn dated(f: fn(u32) -> DateAnswer) -> Mutant {
+    Mutant {
+        date: Some(f),
+        ..Mutant::default()
+    }
+}
+
+fn termed(f: fn(u32) -> TermAnswer) -> Mutant {
+    Mutant {
+        term: Some(f),
+        ..Mutant::default()
+    }
+}
+
+/// The wrong variants of the rules of days, terms and dates.
+fn of_days() -> Vec<(&'static str, Mutant, &'static [Group])> {
+    use days::*;
+    use groups::{column_ledger, column_slots, laid_ledger, recorder_model};
+    vec![
+        (
+            "day left behind",
+            call(day_behind),
+            &[match_examples, column_ledger, laid_ledger, column_slots],
+        ),
+        (
+            "day of a freed slot not 0",
+            call(freed_day),
+            &[match_examples, column_slots],
+        ),
+        (
+            "match on any day",
+            call(any_day),
+            &[match_examples, column_ledger, laid_ledger, column_slots],
+        ),
+        (
+            "move loses the day",
+            call(moved_undated),
+            &[match_examples, column_ledger, laid_ledger, column_slots],
+        ),
+        (
+            "last day left out of a range",
+            call(last_day_out),
+            &[range_examples, range_spans, column_ledger, column_slots],
+        ),
+        (
+            "first day left out of a range",
+            call(first_day_out),
+            &[range_examples, range_spans, column_ledger, column_slots],
+        ),
+        (
+            "days of a range ignored",
+            call(days_ignored),
+            &[range_examples, range_spans, column_ledger, column_slots],
+        ),
+        (
+            "days of a range exchanged",
+            call(days_exchanged),
+            &[range_examples, column_ledger, column_slots],
+        ),
+        (
+            "earlier last day refused",
+            call(earlier_refused),
+            &[range_examples, column_ledger, column_slots],
+        ),
+        (
+            "range over no day not scanned",
+            call(earlier_unscanned),
+            &[range_examples, column_slots],
+        ),
+        (
+            "range over days above the limit matches nothing",
+            call(late_span_matches_nothing),
+            &[range_examples, column_ledger, column_slots],
+        ),
+        (
+            "8 and 19 record by record",
+            call(record_by_record),
+            &[order_examples, column_slots],
+        ),
+        (
+            "19 ahead of 8",
+            call(days_first),
+            &[order_examples, column_slots],
+        ),
+        (
+            "19 not asked of records",
+            call(records_not_asked),
+            &[order_examples, column_slots],
+        ),
+        (
+            "19 not asked of the delivery",
+            call(offered_not_asked),
+            &[order_examples, column_ledger, column_slots],
+        ),
+        (
+            "19 not asked by steps",
+            step(steps_not_asked),
+            &[growers::grower_slots],
+        ),
+        (
+            "delivery of another day entered",
+            record(recorded_any_day),
+            &[recorder_model],
+        ),
+        (
+            "range over no day not entered",
+            record(earlier_not_entered),
+            &[recorder_model],
+        ),
+        (
+            "recorder does not ask for the days named",
+            record(recorded_span_not_asked),
+            &[recorder_model],
+        ),
+        (
+            "recorder does not ask for the offered day",
+            record(recorded_day_not_asked),
+            &[recorder_model],
+        ),
+        (
+            "book of any days written",
+            write(written_with_days),
+            &[book_days],
+        ),
+        (
+            "book refused only for bad days",
+            write(written_with_good_days),
+            &[book_days],
+        ),
+        (
+            "days left by reading",
+            read(read_days_left),
+            &[book_days, groups::snapshot_round_trip],
+        ),
+        (
+            "every day cleared by reading",
+            read(read_days_cleared),
+            &[book_days, groups::snapshot_round_trip],
+        ),
+        (
+            "days left by an import",
+            import(import_days_left),
+            &[export_days, csv::csv_examples, csv::csv_damaged],
+        ),
+        (
+            "19 not asked by an export",
+            export(export_not_asked),
+            &[export_days],
+        ),
+        (
+            "export refused for a day",
+            export(export_without_days),
+            &[export_days, csv::csv_round_trip],
+        ),
+        (
+            "sheet of a term has every record",
+            of_term(term_of_all),
+            &[term_examples, term_sheets, term_refused],
+        ),
+        (
+            "records outside the term not asked",
+            of_term(term_asked_alone),
+            &[term_examples, term_refused],
+        ),
+        (
+            "sheet of no term is empty",
+            of_term(term_of_no_day),
+            &[term_examples, term_refused],
+        ),
+        (
+            "room for the records of every term",
+            of_term(term_room_of_all),
+            &[term_examples, term_sheets, term_refused],
+        ),
+        (
+            "2000 no leap year",
+            numbered(century_not_leap),
+            &[calendar_examples, calendar_century],
+        ),
+        (
+            "29 February every year",
+            numbered(february_of_29),
+            &[calendar_examples, calendar_century],
+        ),
+        (
+            "2100 counted too",
+            numbered(year_2100),
+            &[calendar_examples, calendar_century],
+        ),
+        (
+            "refused date with a day",
+            numbered(refused_with_day),
+            &[calendar_examples, calendar_century],
+        ),
+        (
+            "days of the month from 0",
+            dated(date_from_zero),
+            &[calendar_examples, calendar_century],
+        ),
+        (
+            "last day refused",
+            dated(last_day_refused),
+            &[calendar_examples, calendar_century],
+        ),
+        (
+            "the 16th in the first term",
+            termed(term_to_16),
+            &[calendar_examples, calendar_century],
+        ),
+        (
+            "second term of 15 days",
+            termed(term_of_15),
+            &[calendar_examples, calendar_century],
+        ),
+    ]
+}
+
 fn settled(f: fn(&[u8]) -> Vec<u8>) -> Mutant {
     Mutant {
         settlement: Some(f),
@@ -1537,7 +1805,7 @@ pub fn all() -> Vec<(String, Outcome)> {
             &[recorder_model],
         ),
         (
-            "two of three columns moved",
+            "two of four columns moved",
             call(two_columns),
             &[column_ledger, laid_ledger, column_slots, column_edges],
         ),
@@ -1936,6 +2204,7 @@ pub fn all() -> Vec<(String, Outcome)> {
             &[example_layplan, layplan_pieces],
         ),
     ];
+    list.extend(of_days());
     let listings = wrong_listings::ALL.iter();
     list.extend(listings.map(|&(name, list, detectors)| (name, listed(list), detectors)));
     list.into_iter()

@@ -13,6 +13,29 @@ pub fn oil_yield(r: &mut Random) -> u32 {
     r.pick(&[0, 1, 2_000, 2_000, 10_000])
 }
 
+/// Few days, so that terms hold several records; both ends of a term and of the
+/// range too.
+pub fn day(r: &mut Random) -> u32 {
+    r.pick(&[0, 0, 14, 15, 8_825, 8_825, 8_826, 36_508, 36_509, 36_524])
+}
+
+/// A first and a last day: mostly both near those held; the last earlier and
+/// either out of range too.
+pub fn span(r: &mut Random) -> Span {
+    let near = |r: &mut Random| match r.below(12) {
+        0 => 36_525,
+        1 => u32::MAX,
+        2 => r.below(36_525) as u32,
+        _ => day(r),
+    };
+    let (x, y) = (near(r), near(r));
+    match r.below(6) {
+        0 => Span::new(x.max(y), x.min(y)),
+        1 => Span::new(x, x),
+        _ => Span::new(x.min(y), x.max(y)),
+    }
+}
+
 /// A grower from a small domain, at its ends too.
 pub fn grower(r: &mut Random, domain: u32) -> u32 {
     match r.below(12) {
@@ -42,10 +65,12 @@ pub fn set(r: &mut Random, most_blocks: usize, free: usize) -> Set {
     growers.sort_unstable();
     let mut weights: Vec<u32> = (0..m).map(|_| weight(r)).collect();
     let mut yields: Vec<u32> = (0..m).map(|_| oil_yield(r)).collect();
+    let mut days: Vec<u32> = (0..m).map(|_| day(r)).collect();
     for _ in 0..free {
         growers.push(stale(r));
         weights.push(stale(r));
         yields.push(stale(r));
+        days.push(stale(r));
     }
     Set {
         b: b as u32,
@@ -53,6 +78,7 @@ pub fn set(r: &mut Random, most_blocks: usize, free: usize) -> Set {
         growers,
         weights,
         yields,
+        days,
     }
 }
 
@@ -84,7 +110,7 @@ fn near(r: &mut Random, held: &[Delivery]) -> u32 {
 /// A delivery that is mostly among those held.
 fn mostly_held(r: &mut Random, held: &[Delivery]) -> Delivery {
     let mut d = if held.is_empty() || r.one_in(6) {
-        Delivery::new(near(r, held), weight(r), oil_yield(r))
+        Delivery::new(near(r, held), weight(r), oil_yield(r)).on(day(r))
     } else {
         held[r.below(held.len())]
     };
@@ -94,6 +120,9 @@ fn mostly_held(r: &mut Random, held: &[Delivery]) -> Delivery {
         2 => d.grower = near(r, held),
         3 => d.weight = weight(r),
         4 => d.oil_yield = oil_yield(r),
+        5 => d.day = r.pick(&[36_525, u32::MAX]),
+        6 => d.day = day(r),
+        7 => (d.weight, d.day) = (100_001, 36_525),
         _ => {}
     }
     d
@@ -101,24 +130,27 @@ fn mostly_held(r: &mut Random, held: &[Delivery]) -> Delivery {
 
 /// A random call over the deliveries held.
 pub fn call(r: &mut Random, held: &[Delivery]) -> Call {
-    match r.below(6) {
+    match r.below(7) {
         0 => Call::Find(near(r, held)),
-        1 => {
+        kind @ (1 | 2) => {
             let (x, y) = (near(r, held), near(r, held));
-            if r.one_in(12) {
-                Call::Range(x.max(y), x.min(y))
-            } else {
-                Call::Range(x.min(y), x.max(y))
+            let (lo, hi) = match r.one_in(12) {
+                true => (x.max(y), x.min(y)),
+                false => (x.min(y), x.max(y)),
+            };
+            match kind {
+                1 => Call::Range(lo, hi),
+                _ => Call::RangeDays(lo, hi, span(r)),
             }
         }
-        2 => {
+        3 => {
             let mut d = mostly_held(r, held);
             if r.one_in(2) {
                 d.grower = near(r, held);
             }
             Call::Insert(d)
         }
-        3 => Call::Delete(mostly_held(r, held)),
+        4 => Call::Delete(mostly_held(r, held)),
         _ => Call::Move(mostly_held(r, held), near(r, held)),
     }
 }
@@ -154,7 +186,7 @@ pub fn column(r: &mut Random) -> Column {
             _ => r.pick(&fences),
         };
         let p = fences.iter().position(|&f| f >= g).unwrap_or(k - 1);
-        parts[p].push(Delivery::new(g, weight(r), oil_yield(r)));
+        parts[p].push(Delivery::new(g, weight(r), oil_yield(r)).on(day(r)));
     }
     let free = if r.one_in(4) {
         usize::from(records == 0)
@@ -165,6 +197,7 @@ pub fn column(r: &mut Random) -> Column {
         growers: Vec::new(),
         weights: Vec::new(),
         yields: Vec::new(),
+        days: Vec::new(),
         directory: vec![0; DIRECTORY_LEN],
     };
     c.directory[0] = r.pick(&[1, 2, 3, 4_096]);
@@ -177,7 +210,7 @@ pub fn column(r: &mut Random) -> Column {
         }
     }
     for _ in 0..free {
-        let d = Delivery::new(stale(r), stale(r), stale(r));
+        let d = Delivery::new(stale(r), stale(r), stale(r)).on(stale(r));
         c.push(d);
     }
     c
@@ -192,6 +225,7 @@ pub fn long_column(r: &mut Random) -> Column {
         growers: Vec::new(),
         weights: Vec::new(),
         yields: Vec::new(),
+        days: Vec::new(),
         directory: vec![0; DIRECTORY_LEN],
     };
     c.directory[0] = r.pick(&[1, 7, 64]);
@@ -203,10 +237,10 @@ pub fn long_column(r: &mut Random) -> Column {
         c.directory[FENCES + p] = (lowest + growers - 1) as u32;
         for _ in 0..n {
             let g = lowest + r.below(growers);
-            c.push(Delivery::new(g as u32, weight(r), oil_yield(r)));
+            c.push(Delivery::new(g as u32, weight(r), oil_yield(r)).on(day(r)));
         }
     }
-    c.push(Delivery::new(stale(r), stale(r), stale(r)));
+    c.push(Delivery::new(stale(r), stale(r), stale(r)).on(stale(r)));
     c
 }
 

@@ -87,6 +87,7 @@ fn mixed_column() -> Column {
         growers: vec![20, 10, 20, 90, 50, 90, 10],
         weights: vec![100_000, 7, 1, 100, 0, 200, u32::MAX],
         yields: vec![10_000, 10_000, 1, 5_000, 9, 3_000, u32::MAX],
+        days: vec![0, 14, 15, 30, 31, 36_524, u32::MAX],
         directory: vec![0; DIRECTORY_LEN],
     };
     c.directory[..5].copy_from_slice(&[2, 3, 3, 0, 3]);
@@ -185,15 +186,16 @@ pub fn sheet_finds(s: &dyn Subject, cases: u64) -> Outcome {
     Ok(())
 }
 
-/// Columns of any kind: 6 if one is unsound, 8 if a value is out of range, 15
-/// if a room is short.
+/// Columns of any kind: 6 if one is unsound, 8 if a value is out of range, 19 if
+/// a day is, 15 if a room is short.
 pub fn sheet_refused(s: &dyn Subject, cases: u64) -> Outcome {
     let r = &mut Random::new(21);
-    let mut met = [0u32; 16];
+    let mut met = [0u32; 20];
     for _ in 0..cases {
         let c = any_column(r);
         let m = c.used();
         let is_bad = c.records().iter().any(|d| !d.in_range());
+        let is_late = c.records().iter().any(|d| d.day > 36_524);
         let (text, order) = sheet(&c);
         let exact = [text.len(), m, m];
         let mut rooms = exact.map(|n| n + r.below(2));
@@ -202,10 +204,11 @@ pub fn sheet_refused(s: &dyn Subject, cases: u64) -> Outcome {
             rooms[i] = r.below(exact[i] + 1);
         }
         let is_short = rooms.iter().zip(exact).any(|(&n, least)| n < least);
-        let number = match (c.is_sound(), is_bad, is_short) {
+        let number = match (c.is_sound(), is_bad, is_late, is_short) {
             (false, ..) => 6,
-            (true, true, _) => 8,
-            (true, false, true) => 15,
+            (true, true, ..) => 8,
+            (true, false, true, _) => 19,
+            (true, false, false, true) => 15,
             _ => 0,
         };
         met[number as usize] += 1;
@@ -217,7 +220,7 @@ pub fn sheet_refused(s: &dyn Subject, cases: u64) -> Outcome {
             _ => refused(s, &c, lent(rooms[0], rooms[1], rooms[2]), number)?,
         }
     }
-    let every = [0, 6, 8, 15].iter().all(|&number| met[number] > 0);
+    let every = [0, 6, 8, 15, 19].iter().all(|&number| met[number] > 0);
     require!(every || cases < 500, "not every outcome was met: {met:?}");
     Ok(())
 }
@@ -230,6 +233,7 @@ fn wide_column(growers: impl Iterator<Item = u32>, each: u32) -> Column {
         growers,
         weights: vec![100_000; m],
         yields: vec![10_000; m],
+        days: vec![36_524; m],
         directory: vec![0; DIRECTORY_LEN],
     };
     c.directory[0] = 4_096;

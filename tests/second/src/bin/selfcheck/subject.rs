@@ -11,6 +11,7 @@ pub struct Set {
     pub growers: Vec<u32>,
     pub weights: Vec<u32>,
     pub yields: Vec<u32>,
+    pub days: Vec<u32>,
 }
 
 impl Set {
@@ -21,6 +22,7 @@ impl Set {
             growers: &self.growers,
             weights: &self.weights,
             yields: &self.yields,
+            days: &self.days,
         }
     }
 
@@ -29,13 +31,16 @@ impl Set {
             growers: self.growers.clone(),
             weights: self.weights.clone(),
             yields: self.yields.clone(),
+            days: self.days.clone(),
             directory,
         }
     }
 
     pub fn records(&self) -> Vec<Delivery> {
         (0..self.m)
-            .map(|s| Delivery::new(self.growers[s], self.weights[s], self.yields[s]))
+            .map(|s| {
+                Delivery::new(self.growers[s], self.weights[s], self.yields[s]).on(self.days[s])
+            })
             .collect()
     }
 }
@@ -46,6 +51,7 @@ pub struct Column {
     pub growers: Vec<u32>,
     pub weights: Vec<u32>,
     pub yields: Vec<u32>,
+    pub days: Vec<u32>,
     pub directory: Vec<u32>,
 }
 
@@ -54,6 +60,7 @@ impl Column {
         self.growers.push(d.grower);
         self.weights.push(d.weight);
         self.yields.push(d.oil_yield);
+        self.days.push(d.day);
     }
 
     pub fn k(&self) -> usize {
@@ -71,7 +78,7 @@ impl Column {
     }
 
     pub fn slot(&self, s: usize) -> Delivery {
-        Delivery::new(self.growers[s], self.weights[s], self.yields[s])
+        Delivery::new(self.growers[s], self.weights[s], self.yields[s]).on(self.days[s])
     }
 
     pub fn records(&self) -> Vec<Delivery> {
@@ -82,6 +89,14 @@ impl Column {
         self.growers[s] = d.grower;
         self.weights[s] = d.weight;
         self.yields[s] = d.oil_yield;
+        self.days[s] = d.day;
+    }
+
+    /// Day 0 in every record, as a book has it.
+    pub fn undated(mut self) -> Column {
+        let used = self.used();
+        self.days[..used].fill(0);
+        self
     }
 
     /// Partition of a grower by the paper's sentence, read one by one.
@@ -109,12 +124,13 @@ impl Column {
 pub enum Call {
     Find(u32),
     Range(u32, u32),
+    RangeDays(u32, u32, Span),
     Insert(Delivery),
     Delete(Delivery),
     Move(Delivery, u32),
 }
 
-/// Answer of any of the five calls.
+/// Answer of any of the calls.
 #[derive(Clone, Copy, Debug, PartialEq, Eq)]
 pub struct Answer {
     pub refusal: u32,
@@ -148,20 +164,22 @@ impl Answer {
     }
 }
 
-/// The five calls of the library on an owned column.
+/// The calls of the library on an owned column.
 pub fn library_call(c: &mut Column, call: &Call) -> Answer {
     let Column {
-        growers,
-        weights,
-        yields,
-        directory,
+        growers: g,
+        weights: w,
+        yields: y,
+        days: n,
+        directory: at,
     } = c;
     match *call {
-        Call::Find(g) => Answer::read(find(growers, weights, yields, directory, g)),
-        Call::Range(lo, hi) => Answer::read(range(growers, weights, yields, directory, lo, hi)),
-        Call::Insert(d) => Answer::write(insert(growers, weights, yields, directory, d)),
-        Call::Delete(d) => Answer::write(delete(growers, weights, yields, directory, d)),
-        Call::Move(d, g) => Answer::write(move_delivery(growers, weights, yields, directory, d, g)),
+        Call::Find(grower) => Answer::read(find(g, w, y, n, at, grower)),
+        Call::Range(lo, hi) => Answer::read(range(g, w, y, n, at, lo, hi)),
+        Call::RangeDays(lo, hi, span) => Answer::read(range_days(g, w, y, n, at, (lo, hi), span)),
+        Call::Insert(d) => Answer::write(insert(g, w, y, n, at, d)),
+        Call::Delete(d) => Answer::write(delete(g, w, y, n, at, d)),
+        Call::Move(d, grower) => Answer::write(move_delivery(g, w, y, n, at, d, grower)),
     }
 }
 
@@ -169,6 +187,7 @@ pub fn library_record(set: &UnlaidSet, histograms: &mut [u32], call: &Call) -> u
     match *call {
         Call::Find(g) => record_find(set, histograms, g),
         Call::Range(lo, hi) => record_range(set, histograms, lo, hi),
+        Call::RangeDays(lo, hi, span) => record_range_days(set, histograms, (lo, hi), span),
         Call::Insert(d) => record_insert(set, histograms, d),
         Call::Delete(d) => record_delete(set, histograms, d),
         Call::Move(d, g) => record_move(set, histograms, d, g),
@@ -225,8 +244,10 @@ pub fn step_refused(refusal: u32) -> GrowerAnswer {
 
 pub fn library_step(c: &Column, step: &Step) -> GrowerAnswer {
     match *step {
-        Step::Next(g) => next_grower(&c.growers, &c.weights, &c.yields, &c.directory, g),
-        Step::Previous(g) => previous_grower(&c.growers, &c.weights, &c.yields, &c.directory, g),
+        Step::Next(g) => next_grower(&c.growers, &c.weights, &c.yields, &c.days, &c.directory, g),
+        Step::Previous(g) => {
+            previous_grower(&c.growers, &c.weights, &c.yields, &c.days, &c.directory, g)
+        }
     }
 }
 
@@ -243,7 +264,22 @@ pub fn library_sheet(c: &Column, room: &mut Room) -> TextAnswer {
         &c.growers,
         &c.weights,
         &c.yields,
+        &c.days,
         &c.directory,
+        &mut room.text,
+        &mut room.order,
+        &mut room.work,
+    )
+}
+
+pub fn library_term_sheet(c: &Column, day: u32, room: &mut Room) -> TextAnswer {
+    term_sheet_write(
+        &c.growers,
+        &c.weights,
+        &c.yields,
+        &c.days,
+        &c.directory,
+        day,
         &mut room.text,
         &mut room.order,
         &mut room.work,
@@ -308,19 +344,38 @@ pub trait Subject {
     }
 
     fn snapshot_read(&self, text: &[u8], c: &mut Column) -> DirectoryAnswer {
-        snapshot_read(text, &mut c.growers, &mut c.weights, &mut c.yields)
+        snapshot_read(
+            text,
+            &mut c.growers,
+            &mut c.weights,
+            &mut c.yields,
+            &mut c.days,
+        )
     }
 
     fn snapshot_write(&self, c: &Column, out: &mut [u8]) -> TextAnswer {
-        snapshot_write(&c.growers, &c.weights, &c.yields, &c.directory, out)
+        snapshot_write(
+            &c.growers,
+            &c.weights,
+            &c.yields,
+            &c.days,
+            &c.directory,
+            out,
+        )
     }
 
     fn csv_import(&self, text: &[u8], c: &mut Column) -> ImportAnswer {
-        csv_import(text, &mut c.growers, &mut c.weights, &mut c.yields)
+        csv_import(
+            text,
+            &mut c.growers,
+            &mut c.weights,
+            &mut c.yields,
+            &mut c.days,
+        )
     }
 
     fn csv_export(&self, used: usize, c: &Column, out: &mut [u8]) -> TextAnswer {
-        csv_export(used, &c.growers, &c.weights, &c.yields, out)
+        csv_export(used, &c.growers, &c.weights, &c.yields, &c.days, out)
     }
 
     fn tally_add(&self, tally: &mut Tally, counts: &Counts) -> u32 {
@@ -333,6 +388,22 @@ pub trait Subject {
 
     fn sheet(&self, c: &Column, room: &mut Room) -> TextAnswer {
         library_sheet(c, room)
+    }
+
+    fn term_sheet(&self, c: &Column, day: u32, room: &mut Room) -> TextAnswer {
+        library_term_sheet(c, day, room)
+    }
+
+    fn day_of(&self, year: u32, month: u32, day: u32) -> DayAnswer {
+        day_of(year, month, day)
+    }
+
+    fn date_of(&self, day: u32) -> DateAnswer {
+        date_of(day)
+    }
+
+    fn term_of(&self, day: u32) -> TermAnswer {
+        term_of(day)
     }
 
     fn settlement(&self, text: &[u8]) -> Vec<u8> {
