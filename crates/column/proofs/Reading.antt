@@ -26,8 +26,8 @@ use Rattle.model.proofs.Places.{placed, placed-mono}
 use Rattle.model.proofs.Parts.{stop-le}
 use Rattle.model.proofs.Deliveries.{length-rows}
 use Rattle.scan.specs.declared.Scan.{Scan}
-use Rattle.scan.specs.Scans.{recordsIn, scanOf}
-use Rattle.scan.proofs.Judging.{judged-says, judged-value}
+use Rattle.scan.specs.Scans.{allFit, recordsIn, scanOf}
+use Rattle.scan.proofs.Judging.{judged-says, judged-value, first-holds, second-holds}
 use Rattle.scan.proofs.Scanning.{scans}
 use Rattle.column.specs.Answers.{withoutTotals}
 use Rattle.directory.specs.Numbers.{HasPartition}
@@ -39,29 +39,38 @@ module _ (b : ℕ) (ns : List ℕ) (p n lo hi : ℕ) (z : Span) (ds : List Deliv
   abbrev records : List Delivery
   records = recordsIn ns p n ds
 
-  abbrev summed : Bool × Totals × ℕ
-  summed = (every dayOk records, totalsDuring lo hi z records, sumOf (map (blocksOf b) (take n (drop p ns))))
+  abbrev summed : Totals × ℕ
+  summed = (totalsDuring lo hi z records, sumOf (map (blocksOf b) (take n (drop p ns))))
 
-  bad-scan : s .good ≡ false → every inRange records ≡ false
+  bad-scan : s .good ≡ false → every inRange records && every dayOk records ≡ false
   unfolding scanOf
-  bad-scan = judged-says scans _ summed s e false
+  bad-scan = judged-says scans (allFit records) summed s e false
 
   pub record GoodScan : Type 0 where
     pub values : every inRange records ≡ true
-    pub days : s .dated ≡ every dayOk records
+    pub days : every dayOk records ≡ true
     pub totals : s .totals ≡ totalsDuring lo hi z records
     pub blocks : s .blocks ≡ sumOf (map (blocksOf b) (take n (drop p ns)))
 
   pub good-scan : s .good ≡ true → GoodScan
   unfolding scanOf
   good-scan f =
-      let v = judged-value scans (every inRange records) summed s e f in
+      let v = judged-value scans (allFit records) summed s e f in
+      let t = judged-says scans (allFit records) summed s e true f in
       record {
-        values = judged-says scans _ summed s e true f;
-        days = ap (λ (r : Bool × Totals × ℕ). r .0) v;
-        totals = ap (λ (r : Bool × Totals × ℕ). r .1) v;
-        blocks = ap (λ (r : Bool × Totals × ℕ). r .2) v;
+        values = first-holds (every inRange records) (every dayOk records) t;
+        days = second-holds (every inRange records) (every dayOk records) t;
+        totals = ap (λ (r : Totals × ℕ). r .0) v;
+        blocks = ap (λ (r : Totals × ℕ). r .1) v;
       }
+
+and-true : (a : Bool) → a && true ≡ a
+and-true true = refl
+and-true false = refl
+
+and-false : (a : Bool) → a && false ≡ false
+and-false true = refl
+and-false false = refl
 
 module _ (L : ℕ) where
   module _ (c : Column) (h : firstFailed (lentChecks L c) ≡ 0) where
@@ -92,28 +101,39 @@ module _ (L : ℕ) where
       unfolding callChecks firstFailed
       answered b t f g = lent-yes L c (rangeDays lo hi z) h ∙ rw (le-leb lo hi k, f, g)
 
-      -- refused by 8
-      pub range-bad : s .good ≡ false → withoutTotals 8 noCounts ≡ columnCall L c (rangeDays lo hi z) .answer
-      unfolding scannedOk between
-      range-bad f =
-          ap (λ (r : Called). r .answer) (refused-call L c (rangeDays lo hi z) 8 (answered false _ (bad-scan _ _ _ _ lo hi z (slots c) s e f) refl) (λ i. omega arith)
-          (λ i. omega arith))
+      -- the records scanned
+      abbrev scanned : List Delivery
+      scanned = recordsIn (lengthsOf L c) (target L c lo) (target L c hi + 1 - target L c lo) (slots c)
 
-      -- check 19 of the days named and of those scanned
-      module _ (v r : Bool) (p : v ≡ spanOk z) (q : r ≡ v && s .dated) (f : s .good ≡ true) where
-        dated : spanOk z && scannedDaysOk L c lo hi ≡ r
+      -- refused by 8, or else by 19
+      pub range-bad : s .good ≡ false → (n : ℕ) → n ≡ cond (every inRange scanned) 19 8 → withoutTotals n noCounts ≡ columnCall L c (rangeDays lo hi z) .answer
+      unfolding scannedOk scannedDaysOk between
+      range-bad f n i = go (every inRange scanned) refl (bad-scan _ _ _ _ lo hi z (slots c) s e f)
+        where
+          go : (v : Bool) → every inRange scanned ≡ v → v && every dayOk scanned ≡ false → withoutTotals n noCounts ≡ columnCall L c (rangeDays lo hi z) .answer
+          go true j k =
+              let r : spanOk z && every dayOk scanned ≡ false = rw k (and-false (spanOk z)) in
+              ap (λ (m : ℕ). withoutTotals m noCounts) (i ∙ rw j)
+              ∙ ap (λ (x : Called). x .answer) (refused-call L c (rangeDays lo hi z) 19 (answered true false j r) (λ o. omega arith) (λ o. omega arith))
+          go false j k =
+              ap (λ (m : ℕ). withoutTotals m noCounts) (i ∙ rw j)
+              ∙ ap (λ (x : Called). x .answer) (refused-call L c (rangeDays lo hi z) 8 (answered false _ j refl) (λ o. omega arith) (λ o. omega arith))
+
+      -- check 19 of the days named
+      module _ (f : s .good ≡ true) (v : Bool) (p : v ≡ spanOk z) where
+        dated : spanOk z && scannedDaysOk L c lo hi ≡ v
         unfolding scannedDaysOk between
-        dated = sym (q ∙ ap₂ (λ (x y : Bool). x && y) p (good-scan _ _ _ _ lo hi z (slots c) s e f .days))
+        dated = rw (good-scan _ _ _ _ lo hi z (slots c) s e f .days) (and-true (spanOk z) ∙ sym p)
 
         -- refused by 19
-        pub range-undated : r ≡ false → withoutTotals 19 noCounts ≡ columnCall L c (rangeDays lo hi z) .answer
+        pub range-undated : v ≡ false → withoutTotals 19 noCounts ≡ columnCall L c (rangeDays lo hi z) .answer
         unfolding scannedOk between
         range-undated i =
             let g = good-scan _ _ _ _ lo hi z (slots c) s e f in
             ap (λ (x : Called). x .answer) (refused-call L c (rangeDays lo hi z) 19 (answered true false (g .values) (dated ∙ i)) (λ j. omega arith) (λ j. omega arith))
 
         -- accepted
-        pub range-good : (n : Counts) → r ≡ true → n ≡ readsOf (s .blocks)
+        pub range-good : (n : Counts) → v ≡ true → n ≡ readsOf (s .blocks)
             → _≡_ {A = Answer} (record { refusal = 0; totals = s .totals; counts = n }) (columnCall L c (rangeDays lo hi z) .answer)
         unfolding scannedOk between callTotals callCounts scanCounts blocksScanned directoryOf
         range-good n i j =

@@ -23,6 +23,7 @@ use Rattle.model.specs.ColumnCalls.{columnRefusal}
 use Rattle.model.proofs.AccessLaws.{blocks-none}
 use Rattle.model.proofs.Parts.{between-one, length-part}
 use Rattle.model.proofs.Deliveries.{first-among}
+use Rattle.scan.specs.Scans.{allFit}
 use Rattle.scan.proofs.Scanning.{lent-part}
 use Rattle.column.specs.declared.Located.{Located}
 use Rattle.column.specs.Answers.{notLocated, searchedOf, locatedOf}
@@ -43,6 +44,14 @@ module _ (b t a : ℕ) (d : Delivery) (ds : List Delivery) where
   pub search-undated : every inRange ds ≡ true → dayOk d && every dayOk ds ≡ false → notLocated 19 noCounts ≡ searchedOf b t a d ds
   unfolding searchedOf
   search-undated e f = rw (e, f)
+
+  -- values in range, but not all days: of the records, or of the delivery
+  pub search-late : allFit ds ≡ false → every inRange ds ≡ true → notLocated 19 noCounts ≡ searchedOf b t a d ds
+  search-late e f = search-undated f (go (dayOk d) (every dayOk ds) (sym (rw f) ∙ e))
+    where
+      go : (x y : Bool) → y ≡ false → x && y ≡ false
+      go true y h = h
+      go false y h = refl
 
   module _ (e : every inRange ds ≡ true) (f : dayOk d && every dayOk ds ≡ true) (i : ℕ) (k : Counts) (m : i ≡ firstMatch d ds) (n : k ≡ readsOf (blocksOf b (length ds))) where
     pub search-found : i < length ds → _≡_ {A = Located} (record { refusal = 0; target = t; start = a; slot = i; counts = k }) (searchedOf b t a d ds)

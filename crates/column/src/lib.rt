@@ -99,9 +99,18 @@ fn read(
         last,
     );
     if !s.good {
-        return refused(8);
+        return refused(scan::failed_check(
+            g,
+            w,
+            y,
+            n,
+            directory::lengths(directory),
+            from,
+            to,
+            start,
+        ));
     }
-    if !scan::both(checks::span_ok(first, last), s.dated) {
+    if !checks::span_ok(first, last) {
         return refused(19);
     }
     let counts = scan::reads_of(s.blocks);
@@ -242,9 +251,12 @@ fn search_part(
     }
     let f = scan::seek_all(g, w, y, n, d);
     if !f.good {
+        if checks::values_ok(w, y) {
+            return not_located(19);
+        }
         return not_located(8);
     }
-    if !scan::both(dated, f.dated) {
+    if !dated {
         return not_located(19);
     }
     let i = f.slot;

@@ -1,9 +1,21 @@
 // Dates, day numbers and settlement terms (02: Slip 7), by value and in constant time: no loop and no table.
 ghost use mathlib.Core.Path.{_≡_};
 ghost use Prim.Native.Nat.{_+_, _≤_, _<_};
-ghost use Rattle.model.specs.Calendar.{isLeap, monthDays, daysBeforeMonth, daysBeforeYear};
+ghost use Rattle.model.specs.Bounds.{mostDay};
+ghost use Rattle.model.specs.Calendar.{firstYear, isLeap, monthDays, daysBeforeMonth, daysBeforeYear};
 ghost use Rattle.dates.specs.DateCalls.{dayCall, dateCall, termCall};
 ghost use Rattle.dates.specs.Parts.{MonthAt, Parted};
+ghost use Rattle.dates.specs.DateLaws.{ExactEachWay, NumbersRise, OneTerm, TermSize, NoGap};
+use model::MOST_DAY;
+
+// The years that day numbers reach, and where the first term of a month ends and the second begins (02).
+const FIRST_YEAR: u32 = 2000;
+
+const LAST_YEAR: u32 = 2099;
+
+const FIRST_TERM_END: u32 = 15;
+
+const SECOND_TERM: u32 = FIRST_TERM_END + 1;
 
 // What the conversion of a date answers.
 #[repr(C)]
@@ -40,7 +52,7 @@ struct Parts {
 // Whether year 2000 + k is a leap year: from 2000 to 2099 it is every fourth.
 fn leap(k: u32) -> bool
     requires { ⌜ k < 100 ⌝ }
-    ensures { λ r. ⌜ r ≡ isLeap (2000 + k) ⌝ }
+    ensures { λ r. ⌜ r ≡ isLeap (firstYear + k) ⌝ }
 {
     k % 4 == 0
 }
@@ -48,7 +60,7 @@ fn leap(k: u32) -> bool
 // The days of the k years from 2000 on.
 fn before_year(k: u32) -> u32
     requires { ⌜ k < 100 ⌝ }
-    ensures value { λ r. ⌜ r ≡ daysBeforeYear (2000 + k) ⌝ }
+    ensures value { λ r. ⌜ r ≡ daysBeforeYear (firstYear + k) ⌝ }
     ensures small { λ r. ⌜ r ≤ 36525 ⌝ }
 {
     (1461 * k + 3) / 4
@@ -98,7 +110,7 @@ fn month_at(leap: bool, n: u32) -> u32
 
 // A day number taken apart: 1,461 days are four years, the first of them a leap year.
 fn apart(day: u32) -> Parts
-    requires { ⌜ day ≤ 36524 ⌝ }
+    requires { ⌜ day ≤ mostDay ⌝ }
     ensures { λ r. ⌜ Parted day r ⌝ }
 {
     let k = 4 * day / 1461;
@@ -107,7 +119,7 @@ fn apart(day: u32) -> Parts
     let m = month_at(l, n);
     let b = before_month(l, m);
     Parts {
-        year: 2000 + k,
+        year: FIRST_YEAR + k,
         leap: l,
         month: m,
         day: n - b + 1,
@@ -127,10 +139,10 @@ fn no_day() -> DayAnswer
 pub fn day_of(year: u32, month: u32, day: u32) -> DayAnswer
     ensures { λ r. ⌜ r ≡ dayCall year month day ⌝ }
 {
-    if year < 2000 {
+    if year < FIRST_YEAR {
         return no_day();
     }
-    if 2099 < year {
+    if LAST_YEAR < year {
         return no_day();
     }
     if month < 1 {
@@ -142,7 +154,7 @@ pub fn day_of(year: u32, month: u32, day: u32) -> DayAnswer
     if day < 1 {
         return no_day();
     }
-    let k = year - 2000;
+    let k = year - FIRST_YEAR;
     let l = leap(k);
     if month_days(l, month) < day {
         return no_day();
@@ -157,7 +169,7 @@ pub fn day_of(year: u32, month: u32, day: u32) -> DayAnswer
 pub fn date_of(day: u32) -> DateAnswer
     ensures { λ r. ⌜ r ≡ dateCall day ⌝ }
 {
-    if 36524 < day {
+    if MOST_DAY < day {
         return DateAnswer {
             refusal: 19,
             year: 0,
@@ -178,7 +190,7 @@ pub fn date_of(day: u32) -> DateAnswer
 pub fn term_of(day: u32) -> TermAnswer
     ensures { λ r. ⌜ r ≡ termCall day ⌝ }
 {
-    if 36524 < day {
+    if MOST_DAY < day {
         return TermAnswer {
             refusal: 19,
             first: 0,
@@ -187,17 +199,22 @@ pub fn term_of(day: u32) -> TermAnswer
     }
     let p = apart(day);
     let d = p.day;
-    if d <= 15 {
+    if d <= FIRST_TERM_END {
         return TermAnswer {
             refusal: 0,
             first: day + 1 - d,
-            last: day + 15 - d,
+            last: day + FIRST_TERM_END - d,
         };
     }
     let e = month_days(p.leap, p.month);
     TermAnswer {
         refusal: 0,
-        first: day + 16 - d,
+        first: day + SECOND_TERM - d,
         last: day + e - d,
     }
 }
+
+// Does nothing: its contract is that the laws of dates and terms hold, so that they stand in the list of what is proved.
+pub fn conversions_exact()
+    ensures { λ _. ⌜ ExactEachWay × NumbersRise × OneTerm × TermSize × NoGap ⌝ }
+{}

@@ -3,7 +3,7 @@ use Prim.Native.Nat.{ℕ}
 use mathlib.Core.Path.{_≡_, sym, ap, _∙_}
 use mathlib.Core.List.{List, map}
 use Rattle.model.specs.declared.Delivery.{Delivery}
-use Rattle.model.specs.Deliveries.{growerOf, weightOf, yieldOf, dayOf, Slices, slicesOf, rows, Even, slicesFor, storing}
+use Rattle.model.specs.Deliveries.{growerOf, weightOf, yieldOf, dayOf, Slices, rows, Even, slicesFor, storing}
 use Rattle.model.specs.Moves.{inserted, deleted, moved}
 use Rattle.model.specs.Column.{Column, slots}
 use Rattle.model.specs.ColumnCalls.{moveSlices}

@@ -1,18 +1,7 @@
 -- Answers with a flag: a value where all was in range, and else a fixed answer. Assumes nothing.
 use mathlib.Core.Path.{_≡_, sym, ap, _∙_}
 use mathlib.Core.Bool.{Bool, true, false, cond, _&&_}
-use Rattle.model.specs.Lists.{every}
-use Rattle.model.specs.Deliveries.{Slices, rows, Even, inRange, dayOk}
 use Rattle.model.proofs.Tests.{and-fst, and-snd, of-true, is-true}
-use Rattle.model.proofs.Deliveries.{values-rows, days-rows}
-use Rattle.checks.specs.Values.{allValuesOk, allDaysOk}
-
--- check 8 of two slices says whether their records are in range, check 19 of a third whether their days are
-pub values-say : (s : Slices) → Even s → (v : Bool) → v ≡ allValuesOk (s .weights) (s .yields) → (b : Bool) → v ≡ b → every inRange (rows s) ≡ b
-values-say s p v e b h = values-rows s p ∙ sym e ∙ h
-
-pub days-say : (s : Slices) → Even s → (old v r : Bool) → r ≡ old && v → v ≡ allDaysOk (s .days) → r ≡ old && every dayOk (rows s)
-days-say s p old v r e h = e ∙ ap (λ (t : Bool). old && t) (h ∙ sym (days-rows s p))
 
 -- where both hold each does
 pub second-holds : (a b : Bool) → a && b ≡ true → b ≡ true

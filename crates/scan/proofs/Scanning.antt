@@ -1,10 +1,11 @@
 -- A scan of partitions, one after the other. Assumes nothing.
 use Prim.Native.Nat.{ℕ, _+_, _-_, _≤_, _<_}
 use mathlib.Core.Path.{_≡_, refl, sym, ap, _∙_, subst}
-use mathlib.Core.Bool.{Bool, true, false, cond, _&&_}
+use mathlib.Core.Bool.{Bool, true, false, cond}
 use mathlib.Core.List.{List, [], _∷_, _++_, append-nil, map, map-append, flatten}
 use native.Mathlib.Omega.{arith}
 use native.Mathlib.Numerals.{add-one}
+use lib.Dec.{T}
 use lib.ListN.{length, getD, take, drop, length-take, length-drop}
 use lib.Seq.{take-suc, getD-drop}
 use Rattle.model.specs.declared.Delivery.{Delivery}
@@ -12,36 +13,38 @@ use Rattle.model.specs.declared.Totals.{Totals}
 use Rattle.model.specs.Bounds.{mostSlots}
 use Rattle.model.specs.Lists.{sumOf, every, keep}
 use Rattle.model.specs.Calendar.{Span}
-use Rattle.model.specs.Deliveries.{Slices, eachSlice, rows, plusTotals, inRange, dayOk, noTotals, totalsOf, totalsDuring}
+use Rattle.model.specs.Deliveries.{Slices, eachSlice, rows, Even, plusTotals, inRange, dayOk, noTotals, totalsOf, totalsDuring}
 use Rattle.model.specs.Partitions.{parts, part, startOf}
 use Rattle.model.specs.Accesses.{blocksOf}
-use Rattle.model.proofs.Tests.{of-true}
+use Rattle.model.proofs.Tests.{and-fst, of-true}
 use Rattle.model.proofs.AccessLaws.{blocks-none, blocks-most}
-use Rattle.model.proofs.ListLaws.{sum-append, sum-cut, sum-take-le, flatten-append, every-joined}
+use Rattle.model.proofs.ListLaws.{sum-append, sum-cut, sum-take-le, flatten-append}
 use Rattle.model.proofs.Parts.{flatten-parts, take-parts, drop-parts, part-parts, part-none, length-parts, length-part, start-next}
-use Rattle.model.proofs.Deliveries.{rows-part}
+use Rattle.model.proofs.Deliveries.{rows-part, values-rows}
 use Rattle.scan.specs.declared.Scan.{Scan}
-use Rattle.slices.proofs.Sums.{during-joined, during-light}
-use Rattle.scan.specs.Scans.{badScan, scanMore, recordsIn, scanOf, Light}
+use Rattle.checks.specs.Values.{allValuesOk}
+use Rattle.slices.proofs.Sums.{during-joined, during-light, even-part}
+use Rattle.scan.specs.Scans.{allFit, badScan, scanMore, recordsIn, scanOf, Light}
 use Rattle.scan.proofs.Judging.{Answers, judged-on}
+use Rattle.scan.proofs.Summing.{fit-joined}
 
--- a scan's answers, with whether the days are in range, totals and blocks
-abbrev pub scans : Answers (Bool × Totals × ℕ) Scan
+-- a scan's answers, with totals and blocks
+abbrev pub scans : Answers (Totals × ℕ) Scan
 scans =
     record {
       flag = λ (s : Scan). s .good;
-      value = λ (s : Scan). (s .dated, s .totals, s .blocks);
-      yes = λ (v : Bool × Totals × ℕ). record { good = true; dated = v .0; totals = v .1; blocks = v .2 };
+      value = λ (s : Scan). (s .totals, s .blocks);
+      yes = λ (v : Totals × ℕ). record { good = true; totals = v .0; blocks = v .1 };
       no = badScan;
-      flag-yes = λ (v : Bool × Totals × ℕ). refl;
+      flag-yes = λ (v : Totals × ℕ). refl;
       flag-no = refl;
-      value-yes = λ (v : Bool × Totals × ℕ). refl;
+      value-yes = λ (v : Totals × ℕ). refl;
     }
 
 -- Partitions, one after the other.
 
 module _ (b : ℕ) (ns : List ℕ) (p lo hi : ℕ) (z : Span) (ds : List Delivery) where
-  scan-none : _≡_ {A = Scan} (record { good = true; dated = true; totals = noTotals; blocks = 0 }) (scanOf b ns p 0 lo hi z ds)
+  scan-none : _≡_ {A = Scan} (record { good = true; totals = noTotals; blocks = 0 }) (scanOf b ns p 0 lo hi z ds)
   unfolding scanOf every keep totalsOf sumOf flatten
   scan-none = refl
 
@@ -73,9 +76,9 @@ module _ (b : ℕ) (ns : List ℕ) (p lo hi : ℕ) (z : Span) (ds : List Deliver
   scan-next n h room =
       let rs : List Delivery = recordsIn ns p n ds in
       let ps : List Delivery = part (p + n) (parts ns ds) in
-      rw (records-next n h, every-joined inRange rs ps, every-joined dayOk rs ps, during-joined lo hi z rs ps, blocks-next n h, sym (length-part (p + n) ns ds h room))
-      (judged-on scans (every inRange rs) (every inRange ps) (every dayOk rs, totalsDuring lo hi z rs, sumOf (map (blocksOf b) (take n (drop p ns))))
-      (λ (v : Bool × Totals × ℕ). (v .0 && every dayOk ps, plusTotals (v .1) (totalsDuring lo hi z ps), v .2 + blocksOf b (length ps))))
+      rw (records-next n h, fit-joined rs ps, during-joined lo hi z rs ps, blocks-next n h, sym (length-part (p + n) ns ds h room))
+      (judged-on scans (allFit rs) (allFit ps) (totalsDuring lo hi z rs, sumOf (map (blocksOf b) (take n (drop p ns))))
+      (λ (v : Totals × ℕ). (plusTotals (v .0) (totalsDuring lo hi z ps), v .1 + blocksOf b (length ps))))
 
   -- an empty partition leaves a scan as it was
   scan-empty : (n : ℕ) → p + n < length ns → 1 ≤ b → getD ns (p + n) 0 ≡ 0 → scanOf b ns p (n + 1) lo hi z ds ≡ scanOf b ns p n lo hi z ds
@@ -96,7 +99,7 @@ blocks-sum b (n ∷ l) h = omega (arith, blocks-most b n h, blocks-sum b l h)
 scan-light : (b : ℕ) (ns : List ℕ) (p n lo hi : ℕ) (z : Span) (ds : List Delivery) → 1 ≤ b → sumOf ns ≤ length ds → length ds ≤ mostSlots
     → Light mostSlots (scanOf b ns p n lo hi z ds)
 unfolding scanOf
-scan-light b ns p n lo hi z ds h room few = go (every inRange (recordsIn ns p n ds)) refl
+scan-light b ns p n lo hi z ds h room few = go (allFit (recordsIn ns p n ds)) refl
   where
     len : length (recordsIn ns p n ds) ≤ length ds
     len = rw (drop-parts, take-parts, flatten-parts, length-take, length-drop) (omega arith)
@@ -104,15 +107,11 @@ scan-light b ns p n lo hi z ds h room few = go (every inRange (recordsIn ns p n 
     sum : sumOf (take n (drop p ns)) ≤ mostSlots
     sum = omega (arith, sum-take-le (drop p ns) n, sum-cut p ns)
 
-    go : (t : Bool) → every inRange (recordsIn ns p n ds) ≡ t
-        → Light mostSlots (cond t (record {
-          good = true;
-          dated = every dayOk (recordsIn ns p n ds);
-          totals = totalsDuring lo hi z (recordsIn ns p n ds);
-          blocks = sumOf (map (blocksOf b) (take n (drop p ns)));
-        }) badScan)
+    go : (t : Bool) → allFit (recordsIn ns p n ds) ≡ t
+        → Light mostSlots (cond t (record { good = true; totals = totalsDuring lo hi z (recordsIn ns p n ds); blocks = sumOf (map (blocksOf b) (take n (drop p ns))) }) badScan)
     go true e =
-        record { light = during-light lo hi z mostSlots (recordsIn ns p n ds) (of-true _ e) (omega (arith, len)); short = omega (arith, sum, blocks-sum b (take n (drop p ns)) h) }
+        let v : T (every inRange (recordsIn ns p n ds)) = and-fst (every inRange (recordsIn ns p n ds)) (every dayOk (recordsIn ns p n ds)) (of-true _ e) in
+        record { light = during-light lo hi z mostSlots (recordsIn ns p n ds) v (omega (arith, len)); short = omega (arith, sum, blocks-sum b (take n (drop p ns)) h) }
     go false e = record { light = record { few = omega arith; light = omega arith; little = omega arith }; short = omega arith }
 
 -- The loop.
@@ -124,7 +123,7 @@ pub record Scanning (b : ℕ) (ns : List ℕ) (p q lo hi : ℕ) (z : Span) (ds :
   pub so-far : s ≡ scanOf b ns p (i - p) lo hi z ds
 
 pub scanning-start : (b : ℕ) (ns : List ℕ) (p q lo hi : ℕ) (z : Span) (ds : List Delivery) (at : ℕ) → p ≤ q → at ≡ startOf ns p
-    → Scanning b ns p q lo hi z ds at p (record { good = true; dated = true; totals = noTotals; blocks = 0 })
+    → Scanning b ns p q lo hi z ds at p (record { good = true; totals = noTotals; blocks = 0 })
 scanning-start b ns p q lo hi z ds at h e =
     let o : 0 ≡ p - p = omega arith in
     record { from = omega arith; till = omega arith; here = e; so-far = scan-none b ns p lo hi z ds ∙ ap (λ (n : ℕ). scanOf b ns p n lo hi z ds) o }
@@ -172,3 +171,19 @@ module _ (b : ℕ) (ns : List ℕ) (p q lo hi : ℕ) (z : Span) (ss : Slices) (a
 
   pub scanning-end : q < i → s ≡ scanOf b ns p (q + 1 - p) lo hi z (rows ss)
   scanning-end h = w₀ .so-far ∙ ap (λ (n : ℕ). scanOf b ns p n lo hi z (rows ss)) (omega (arith, w₀ .till))
+
+-- Partitions p to q are one part of each slice, which lies inside and whose values are theirs.
+
+module _ (ns : List ℕ) (p n a : ℕ) (e : a ≡ startOf ns p) where
+  pub parts-end : a + sumOf (take n (drop p ns)) ≤ sumOf ns
+  unfolding startOf
+  parts-end = omega (arith, e, sum-take-le (drop p ns) n, sum-cut p ns)
+
+  pub parts-values : (ss : Slices) → Even ss → (m : ℕ) → m ≡ sumOf (take n (drop p ns))
+      → every inRange (recordsIn ns p n (rows ss)) ≡ allValuesOk (take (a + m - a) (drop a (ss .weights))) (take (a + m - a) (drop a (ss .yields)))
+  unfolding startOf
+  parts-values ss v m f =
+      let k : a + m - a ≡ m = omega arith in
+      let r : recordsIn ns p n (rows ss) ≡ take m (drop a (rows ss)) = rw (drop-parts, take-parts, flatten-parts, f, e) in
+      ap (every inRange) (r ∙ sym (rows-part m a ss)) ∙ values-rows (eachSlice (λ (l : List ℕ). take m (drop a l)) ss) (even-part ss m a v)
+      ∙ ap (λ (i : ℕ). allValuesOk (take i (drop a (ss .weights))) (take i (drop a (ss .yields)))) (sym k)

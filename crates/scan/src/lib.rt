@@ -2,20 +2,23 @@
 ghost use mathlib.Core.Path.{_≡_};
 ghost use Prim.Native.Nat.{_+_, _-_, _≤_, _<_};
 ghost use lib.ListN.{length};
-ghost use mathlib.Core.Bool.{true, _&&_};
+ghost use mathlib.Core.Bool.{true, cond, _&&_};
 ghost use Rattle.model.specs.Bounds.{mostSlots, mostDay};
 ghost use Rattle.model.specs.Calendar.{span};
 ghost use Rattle.model.specs.Lent.{slicesAt, slicesIn};
-ghost use Rattle.model.specs.Lists.{sumOf};
-ghost use Rattle.model.specs.Deliveries.{rows, Even, LightTotals};
+ghost use Rattle.model.specs.Lists.{sumOf, every};
+ghost use Rattle.model.specs.Deliveries.{rows, Even, LightTotals, inRange};
 ghost use Rattle.model.specs.Partitions.{startOf};
 ghost use Rattle.model.specs.Accesses.{blocksOf, readsOf};
-ghost use Rattle.scan.specs.Scans.{badSum, sumDatedMore, sumDated, sumMore, sumAll, badScan, scanMore, scanOf, Light, badSought, seekMore, seekAll};
+ghost use Rattle.scan.specs.Scans.{allFit, everyDay, badSum, sumMore, sumAll, badScan, scanMore, recordsIn, scanOf, Light, badSought, seekMore, seekAll};
 use model::Counts;
 use model::Delivery;
 use model::MOST_DAY;
 use model::STRIDE;
 use model::Totals;
+
+// Records that a search judges and passes over at a time: with four slices it is bound by what a stride takes beside its loops.
+const LONG_STRIDE: usize = 2 * STRIDE;
 
 // How many blocks a partition of this many records counts as; an empty one counts none.
 pub fn blocks_of(records: usize, block: u32) -> u64
@@ -64,10 +67,17 @@ fn is_every_day(first: u32, last: u32) -> bool
     last == MOST_DAY
 }
 
-// Are all values in range, are all days, and the totals of lo to hi on the days first to last.
+// Whether all records pass checks 8 and 19. The growers are lent to name the records.
+fn all_fit(g: &[u32], w: &[u32], y: &[u32], n: &[u32]) -> bool
+    requires { ⌜ Even (slicesAt g w y n) ⌝ }
+    ensures { λ r. ⌜ r ≡ allFit (rows (slicesIn g w y n)) ⌝ }
+{
+    both(checks::values_ok(w, y), checks::days_ok(n))
+}
+
+// Do all records pass checks 8 and 19, and the totals of lo to hi on the days of a span.
 struct Sum {
     good: bool,
-    dated: bool,
     totals: Totals,
 }
 
@@ -77,43 +87,34 @@ fn bad_sum() -> Sum
     let totals = Totals::none();
     Sum {
         good: false,
-        dated: false,
         totals,
     }
 }
 
-// A sum over all days goes on to more records. They are judged, counted and added while they are at hand.
+// A sum over all days goes on to more records. They are judged, counted and added while they are at hand; no day is tested twice.
 fn sum_more(s: Sum, g: &[u32], w: &[u32], y: &[u32], n: &[u32], lo: u32, hi: u32) -> Sum
     requires { ⌜ (length (now g) ≤ mostSlots) × Even (slicesAt g w y n) × LightTotals mostSlots (s .totals) ⌝ }
-    ensures { λ r. ⌜ r ≡ sumDatedMore lo hi s (rows (slicesIn g w y n)) ⌝ }
+    ensures { λ r. ⌜ r ≡ sumMore lo hi everyDay s (rows (slicesIn g w y n)) ⌝ }
 {
     if !s.good {
         return bad_sum();
     }
-    if !checks::values_ok(w, y) {
-        return bad_sum();
-    }
-    if !checks::days_ok(n) {
+    if !all_fit(g, w, y, n) {
         return bad_sum();
     }
     let more = slices::total_stride(g, w, y, n, lo, hi);
     let totals = s.totals.plus(more);
-    Sum {
-        good: true,
-        dated: true,
-        totals,
-    }
+    Sum { good: true, totals }
 }
 
-// The records of the slices over all days, a stride at a time. Bad also where a day is out of range.
+// The records of the slices over all days, a stride at a time.
 fn sum_all(g: &[u32], w: &[u32], y: &[u32], n: &[u32], lo: u32, hi: u32) -> Sum
     requires { ⌜ (length (now g) ≤ mostSlots) × Even (slicesAt g w y n) ⌝ }
-    ensures { λ r. ⌜ r ≡ sumDated lo hi (rows (slicesIn g w y n)) ⌝ }
+    ensures { λ r. ⌜ r ≡ sumAll lo hi everyDay (rows (slicesIn g w y n)) ⌝ }
 {
     let none = Totals::none();
     let mut s = Sum {
         good: true,
-        dated: true,
         totals: none,
     };
     let mut i = 0;
@@ -126,7 +127,7 @@ fn sum_all(g: &[u32], w: &[u32], y: &[u32], n: &[u32], lo: u32, hi: u32) -> Sum
     sum_more(s, &g[i..end], &w[i..end], &y[i..end], &n[i..end], lo, hi)
 }
 
-// A sum over the days first to last goes on to more records. They are judged, counted and added while they are at hand.
+// A sum over the days first to last goes on to more records.
 fn sum_more_during(
     s: Sum,
     g: &[u32],
@@ -144,17 +145,12 @@ fn sum_more_during(
     if !s.good {
         return bad_sum();
     }
-    if !checks::values_ok(w, y) {
+    if !all_fit(g, w, y, n) {
         return bad_sum();
     }
-    let dated = both(s.dated, checks::days_ok(n));
     let more = slices::total_stride_days(g, w, y, n, lo, hi, first, last);
     let totals = s.totals.plus(more);
-    Sum {
-        good: true,
-        dated,
-        totals,
-    }
+    Sum { good: true, totals }
 }
 
 // The records of the slices over the days first to last, a stride at a time.
@@ -174,7 +170,6 @@ fn sum_during(
     let none = Totals::none();
     let mut s = Sum {
         good: true,
-        dated: true,
         totals: none,
     };
     let mut i = 0;
@@ -207,7 +202,7 @@ fn sum_during(
     )
 }
 
-// The records of one partition. All days are summed with no day tested twice; only where that is bad, which is rare, are they summed again.
+// The records of one partition. Which of the two loops it takes is chosen once, so that each is short enough to be laid out in its caller.
 fn sum_part(
     g: &[u32],
     w: &[u32],
@@ -222,18 +217,14 @@ fn sum_part(
     ensures { λ r. ⌜ r ≡ sumAll lo hi (span first last) (rows (slicesIn g w y n)) ⌝ }
 {
     if is_every_day(first, last) {
-        let s = sum_all(g, w, y, n, lo, hi);
-        if s.good {
-            return s;
-        }
+        return sum_all(g, w, y, n, lo, hi);
     }
     sum_during(g, w, y, n, lo, hi, first, last)
 }
 
-// What a scan says: are all values in range, are all days, the totals of lo to hi on the days first to last, and the blocks.
+// What a scan says: do all records pass checks 8 and 19, the totals of lo to hi on the days first to last, and the blocks.
 pub struct Scan {
     pub good: bool,
-    pub dated: bool,
     pub totals: Totals,
     pub blocks: u64,
 }
@@ -244,7 +235,6 @@ fn bad_scan() -> Scan
     let totals = Totals::none();
     Scan {
         good: false,
-        dated: false,
         totals,
         blocks: 0,
     }
@@ -275,10 +265,8 @@ fn scan_more(
     }
     let totals = s.totals.plus(more.totals);
     let blocks = s.blocks + blocks_of(g.len(), block);
-    let dated = both(s.dated, more.dated);
     Scan {
         good: true,
-        dated,
         totals,
         blocks,
     }
@@ -310,7 +298,6 @@ pub fn scan_parts(
     let none = Totals::none();
     let mut s = Scan {
         good: true,
-        dated: true,
         totals: none,
         blocks: 0,
     };
@@ -337,10 +324,32 @@ pub fn scan_parts(
     s
 }
 
-// Are all values in range, are all days, and the first record that is a delivery, or how many records there are.
+// Which check the partitions of a bad scan fail: 8 if a value is out of range anywhere in them, and else 19. They are one part of each slice.
+pub fn failed_check(
+    g: &[u32],
+    w: &[u32],
+    y: &[u32],
+    n: &[u32],
+    lens: &[u32],
+    from: usize,
+    to: usize,
+    start: usize,
+) -> u32
+    requires { ⌜ (from ≤ to) × (to < length (now lens)) × (length (now lens) ≤ mostSlots) × (sumOf (now lens) ≤ length (now g))
+        × (start ≡ startOf (now lens) from) × (length (now g) ≤ mostSlots) × Even (slicesAt g w y n) ⌝ }
+    ensures { λ r. ⌜ r ≡ cond (every inRange (recordsIn (now (lens .entry)) from (to + 1 - from) (rows (slicesIn g w y n)))) 19 8 ⌝ }
+{
+    let end = to + 1;
+    let stop = start + slices::total(&lens[from..end]) as usize;
+    if checks::values_ok(&w[start..stop], &y[start..stop]) {
+        return 19;
+    }
+    8
+}
+
+// Do all records pass checks 8 and 19, and the first record that is a delivery, or how many records there are.
 pub struct Sought {
     pub good: bool,
-    pub dated: bool,
     pub slot: usize,
 }
 
@@ -349,7 +358,6 @@ fn bad_sought() -> Sought
 {
     Sought {
         good: false,
-        dated: false,
         slot: 0,
     }
 }
@@ -362,39 +370,32 @@ fn seek_more(s: Sought, g: &[u32], w: &[u32], y: &[u32], n: &[u32], i: usize, d:
     if !s.good {
         return bad_sought();
     }
-    if !checks::values_ok(w, y) {
+    if !all_fit(g, w, y, n) {
         return bad_sought();
     }
-    let dated = both(s.dated, checks::days_ok(n));
     let found = s.slot;
     if found < i {
         return Sought {
             good: true,
-            dated,
             slot: found,
         };
     }
     let slot = i + slices::first_in_stride(g, w, y, n, d);
-    Sought {
-        good: true,
-        dated,
-        slot,
-    }
+    Sought { good: true, slot }
 }
 
-// The records of the slices, a stride at a time.
+// The records of the slices, LONG_STRIDE at a time.
 pub fn seek_all(g: &[u32], w: &[u32], y: &[u32], n: &[u32], d: Delivery) -> Sought
     requires { ⌜ (length (now g) ≤ mostSlots) × Even (slicesAt g w y n) ⌝ }
     ensures { λ r. ⌜ r ≡ seekAll d (rows (slicesIn g w y n)) ⌝ }
 {
     let mut s = Sought {
         good: true,
-        dated: true,
         slot: 0,
     };
     let mut i = 0;
-    while STRIDE <= g.len() - i {
-        let e = i + STRIDE;
+    while LONG_STRIDE <= g.len() - i {
+        let e = i + LONG_STRIDE;
         s = seek_more(s, &g[i..e], &w[i..e], &y[i..e], &n[i..e], i, d);
         i = e;
     }

@@ -2,7 +2,7 @@
 use Prim.Native.Nat.{ℕ, _+_, _*_, _≤_, _<_}
 use mathlib.Core.Path.{_≡_, refl, sym, ap, _∙_, subst}
 use mathlib.Core.Bool.{Bool, true, false, cond, _&&_, and-false}
-use mathlib.Core.List.{List, [], _∷_, _++_}
+use mathlib.Core.List.{List, [], _++_}
 use native.Mathlib.Omega.{arith}
 use borrow.Author.Tests.{ne-eqb, le-leb, lt-leb}
 use lib.Dec.{T, leb, leb→le}
@@ -11,7 +11,7 @@ use lib.Seq.{length-take-le, take-at}
 use Rattle.model.specs.declared.Delivery.{Delivery}
 use Rattle.model.specs.Bounds.{mostSlots}
 use Rattle.model.specs.Lists.{sumOf, every, keep}
-use Rattle.model.specs.Checks.{Check, ask, firstFailed}
+use Rattle.model.specs.Checks.{Check, firstFailed}
 use Rattle.model.specs.Calendar.{Span, isIn}
 use Rattle.model.specs.Deliveries.{Slices, rows, eachSlice, inRange, dayOk, onDays}
 use Rattle.model.specs.Column.{Column, lengthsOf, allRecords}
@@ -27,7 +27,7 @@ use Rattle.fields.specs.Writing.{placed}
 use Rattle.fields.proofs.Placing.{placed-first}
 use Rattle.snapshot.specs.declared.Checked.{Checked}
 use Rattle.snapshot.specs.Answers.{soundChecks, checkedColumn}
-use Rattle.snapshot.proofs.WriteAnswers.{Passed, passed, records-are}
+use Rattle.snapshot.proofs.WriteAnswers.{passed, records-are}
 use Rattle.slot_order.specs.Passes.{slotsIn}
 use Rattle.slot_order.proofs.Groups.{by-grower-length, by-grower-in, by-grower-falls-not, by-grower-growers}
 use Rattle.slot_order.proofs.Picking.{picked-few, picked-in}

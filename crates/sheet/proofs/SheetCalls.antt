@@ -1,6 +1,6 @@
 -- The whole sheet is the one of all days, and a term's is the one of the term's days. Assumes nothing.
 use Prim.Native.Nat.{ℕ, zero, suc, _≤_, _<_}
-use mathlib.Core.Path.{_≡_, refl, sym, ap, ap₂, _∙_, subst}
+use mathlib.Core.Path.{_≡_, refl, sym, ap, _∙_}
 use mathlib.Core.Bool.{Bool, true, false, cond, _&&_}
 use mathlib.Core.List.{List, [], _∷_, _++_}
 use native.Mathlib.Omega.{arith}
@@ -22,7 +22,6 @@ use Rattle.model.specs.Sheet.{sheetOf, sheetText, byGrower, slotsInOrder}
 use Rattle.model.specs.SheetCalls.{SheetResult, written, notWritten, sheetCall, termSheetCall}
 use Rattle.model.proofs.Tests.{and-fst, and-snd, is-true, of-true}
 use Rattle.model.proofs.ListLaws.{length-upFrom}
-use Rattle.model.proofs.MovesKeep.{All}
 use Rattle.model.proofs.GrowerLaws.{all-imply, keep-whole}
 use Rattle.checks.proofs.Answers.{failed-first, numbered, passed-first}
 use Rattle.dates.specs.declared.TermAnswer.{TermAnswer}

@@ -6,3 +6,4 @@ pub mod Sums
 pub mod Strides
 pub mod Matching
 pub mod Clearing
+pub mod Keeping

@@ -125,22 +125,6 @@ is-below lo hi x l = rw (lt-leb lo x l)
 pub is-above : (lo hi x : ℕ) → lo ≤ x → hi < x → inside lo hi x ≡ false
 is-above lo hi x l m = rw (le-leb lo x l, lt-leb x hi m)
 
-pub up-to : (lo hi x : ℕ) → lo ≤ x → leb x hi ≡ inside lo hi x
-up-to lo hi x l = rw (le-leb lo x l)
-
--- two tests, one of the records that pass the other
-pub keep-both : (p q : Delivery → Bool) (l : List Delivery) → keep p (keep q l) ≡ keep (λ (d : Delivery). q d && p d) l
-unfolding keep
-keep-both p q [] = refl
-keep-both p q (d ∷ l) = go (q d) (keep-both p q l)
-  where
-    kept : List Delivery
-    kept = keep (λ (x : Delivery). q x && p x) l
-
-    go : (a : Bool) → keep p (keep q l) ≡ kept → keep p (cond a (d ∷ keep q l) (keep q l)) ≡ cond (a && p d) (d ∷ kept) kept
-    go true e = ap (λ (t : List Delivery). cond (p d) (d ∷ t) t) e
-    go false e = e
-
 pub is-equal : (q x : ℕ) → x ≡ q → inside q q x ≡ true
 is-equal q x e = is-inside q q x (omega arith) (omega arith)
 
@@ -162,8 +146,12 @@ is-during lo hi first last d e f = rw (e, f)
 pub other-day : (lo hi first last : ℕ) (d : Delivery) → inside first last (d .day) ≡ false → during lo hi first last d ≡ false
 other-day lo hi first last d e = rw e
 
-pub not-wanted : (lo hi first last : ℕ) (d : Delivery) → inside first last (d .day) ≡ true → inside lo hi (d .grower) ≡ false → during lo hi first last d ≡ false
-not-wanted lo hi first last d e f = rw (e, f)
+pub not-wanted : (lo hi first last : ℕ) (d : Delivery) → inside lo hi (d .grower) ≡ false → during lo hi first last d ≡ false
+not-wanted lo hi first last d f = go (inside first last (d .day))
+  where
+    go : (b : Bool) → b && inside lo hi (d .grower) ≡ false
+    go true = f
+    go false = refl
 
 -- Growers counted.
 

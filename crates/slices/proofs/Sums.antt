@@ -1,7 +1,7 @@
 -- Totals: of joined records, of records in range, of parts. Assumes nothing.
 use Prim.Native.Nat.{ℕ, suc, _+_, _*_, _≤_, _<_}
 use mathlib.Core.Path.{_≡_, refl, sym, ap, _∙_, subst}
-use mathlib.Core.Bool.{Bool, true, false, cond}
+use mathlib.Core.Bool.{Bool, true, false, cond, _&&_}
 use mathlib.Core.List.{List, [], _∷_, _++_, map, map-append}
 use native.Mathlib.Omega.{arith}
 use native.Mathlib.Nat.{mul-le-mul}
@@ -17,6 +17,19 @@ use Rattle.model.proofs.Tests.{and-fst, and-snd, and-mk}
 use Rattle.model.proofs.ListLaws.{sum-append, keep-append, keep-fewer, every-kept}
 use Rattle.model.proofs.Deliveries.{slices-for, values-rows, length-rows}
 use Rattle.slices.specs.Slices.{allWithin, countBetween, Measured}
+
+-- two tests, one of the records that pass the other
+pub keep-both : (p q : Delivery → Bool) (l : List Delivery) → keep p (keep q l) ≡ keep (λ (d : Delivery). q d && p d) l
+unfolding keep
+keep-both p q [] = refl
+keep-both p q (d ∷ l) = go (q d) (keep-both p q l)
+  where
+    kept : List Delivery
+    kept = keep (λ (x : Delivery). q x && p x) l
+
+    go : (a : Bool) → keep p (keep q l) ≡ kept → keep p (cond a (d ∷ keep q l) (keep q l)) ≡ cond (a && p d) (d ∷ kept) kept
+    go true e = ap (λ (t : List Delivery). cond (p d) (d ∷ t) t) e
+    go false e = e
 
 -- Totals of records that were joined.
 
@@ -113,18 +126,35 @@ module _ (lo hi : ℕ) (s : Slices) (m : Measured s) where
   pub measured-light : (t : Totals) → t ≡ totalsBetween lo hi (rows s) → LightTotals mostSlots t
   measured-light t e = subst (LightTotals mostSlots) (sym e) (totals-light lo hi mostSlots (rows s) (values s m) (rows-few s m))
 
--- Records of days that were counted.
+-- Records of growers and days that were counted.
+
+and-comm : (a b : Bool) → a && b ≡ b && a
+and-comm true true = refl
+and-comm true false = refl
+and-comm false true = refl
+and-comm false false = refl
+
 module _ (lo hi first last : ℕ) (s : Slices) (m : Measured s) where
-  dated : countBetween first last (s .days) ≡ length (keep (onDays (span first last)) (rows s))
+  pub dated : countBetween first last (s .days) ≡ length (keep (onDays (span first last)) (rows s))
   dated = ap (λ (t : Slices). countBetween first last (t .days)) (sym (slices-for s (m .even))) ∙ keep-by dayOf (isIn (span first last)) (rows s)
 
-  pub none-during : countBetween first last (s .days) < 1 → noTotals ≡ totalsDuring lo hi (span first last) (rows s)
-  unfolding totalsOf sumOf keep
-  none-during h = rw (keep-none (onDays (span first last)) (rows s) (omega (arith, dated)))
+  -- growers and days are tested in either order
+  kept-either : keep (onDays (span first last)) (keep (matches lo hi) (rows s)) ≡ keep (matches lo hi) (keep (onDays (span first last)) (rows s))
+  kept-either =
+      keep-both (onDays (span first last)) (matches lo hi) (rows s) ∙ (λ i. keep (λ (d : Delivery). and-comm (matches lo hi d) (onDays (span first last) d) i) (rows s))
+      ∙ sym (keep-both (matches lo hi) (onDays (span first last)) (rows s))
 
-  pub all-during : countBetween first last (s .days) ≡ length (s .growers) → totalsBetween lo hi (rows s) ≡ totalsDuring lo hi (span first last) (rows s)
+  -- where no grower is wanted nothing is added, and where all are only the days decide
+  pub none-during : countBetween lo hi (s .growers) < 1 → noTotals ≡ totalsDuring lo hi (span first last) (rows s)
+  unfolding totalsOf sumOf keep
+  none-during h =
+      let e : keep (matches lo hi) (rows s) ≡ [] = keep-none (matches lo hi) (rows s) (omega (arith, counted lo hi s m)) in
+      ap totalsOf (ap (keep (onDays (span first last))) (sym e) ∙ kept-either)
+
+  pub all-during : countBetween lo hi (s .growers) ≡ length (s .growers) → totalsOf (keep (onDays (span first last)) (rows s)) ≡ totalsDuring lo hi (span first last) (rows s)
   all-during h =
-      rw (keep-full (onDays (span first last)) (rows s) (omega (arith, dated, length-rows s (m .even))))
+      let e : keep (matches lo hi) (rows s) ≡ rows s = keep-full (matches lo hi) (rows s) (omega (arith, counted lo hi s m, length-rows s (m .even))) in
+      ap totalsOf (ap (keep (onDays (span first last))) (sym e) ∙ kept-either)
 
   pub during-measured : (t : Totals) → t ≡ totalsDuring lo hi (span first last) (rows s) → LightTotals mostSlots t
   during-measured t e = subst (LightTotals mostSlots) (sym e) (during-light lo hi (span first last) mostSlots (rows s) (values s m) (rows-few s m))

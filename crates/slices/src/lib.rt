@@ -1,17 +1,17 @@
 // Loops over slices of numbers that several crates share. Each flag loop has one test and no early return, so that it is vectorised.
 ghost use mathlib.Core.Path.{_≡_};
-ghost use mathlib.Core.Bool.{_&&_};
+ghost use mathlib.Core.Bool.{cond, _&&_};
 ghost use Prim.Native.Nat.{_+_, _≤_, _<_};
 ghost use lib.ListN.{length, replicate};
 ghost use lib.Dec.{T};
 ghost use Rattle.model.specs.Bounds.{blockLimit, mostSlots};
-ghost use Rattle.model.specs.Lists.{sumOf, rising, neverFalls};
+ghost use Rattle.model.specs.Lists.{sumOf, keep, rising, neverFalls};
 ghost use Rattle.model.specs.Lent.{slicesAt, slicesIn};
 ghost use Rattle.model.specs.Place.{place};
 ghost use Rattle.model.specs.Partitions.{startOf};
 ghost use Rattle.model.specs.Calendar.{span, isIn};
-ghost use Rattle.model.specs.Deliveries.{Even, rows, totalsOf, totalsBetween, totalsDuring, firstMatch};
-ghost use Rattle.slices.specs.Slices.{allWithin, allZero, sameAt, countBetween, Measured};
+ghost use Rattle.model.specs.Deliveries.{Even, rows, onDays, totalsOf, totalsBetween, totalsDuring, firstMatch};
+ghost use Rattle.slices.specs.Slices.{allWithin, allZero, sameAt, countBetween, keptWeights, Measured};
 use model::Delivery;
 use model::STRIDE;
 use model::Totals;
@@ -185,15 +185,15 @@ pub fn count_equal(g: &[u32], q: u32) -> usize
     n as usize
 }
 
-// How many growers are lo to hi.
-fn count_between(g: &[u32], lo: u32, hi: u32) -> usize
-    requires { ⌜ length (now g) ≤ mostSlots ⌝ }
-    ensures { λ r. ⌜ r ≡ countBetween lo hi (now (g .entry)) ⌝ }
+// How many of s are lo to hi.
+pub fn count_between(s: &[u32], lo: u32, hi: u32) -> usize
+    requires { ⌜ length (now s) ≤ mostSlots ⌝ }
+    ensures { λ r. ⌜ r ≡ countBetween lo hi (now (s .entry)) ⌝ }
 {
     let mut n: u32 = 0;
     let mut i = 0;
-    while i < g.len() {
-        let x = g[i];
+    while i < s.len() {
+        let x = s[i];
         i += 1;
         if lo <= x {
             if x <= hi {
@@ -283,16 +283,6 @@ pub fn total_stride(g: &[u32], w: &[u32], y: &[u32], n: &[u32], lo: u32, hi: u32
     total_tested(g, w, y, n, lo, hi)
 }
 
-// Whether a number is lo to hi.
-fn is_between(x: u32, lo: u32, hi: u32) -> bool
-    ensures { λ r. ⌜ r ≡ isIn (span lo hi) x ⌝ }
-{
-    if x < lo {
-        return false;
-    }
-    x <= hi
-}
-
 // The records whose grower is lo to hi and whose day is first to last, each tested.
 fn total_tested_days(
     g: &[u32],
@@ -318,11 +308,15 @@ fn total_tested_days(
         let b = y[i] as u64;
         let c = a * b;
         i += 1;
-        if is_between(t, first, last) {
-            if is_between(x, lo, hi) {
-                records += 1;
-                weight += a;
-                oil += c;
+        if lo <= x {
+            if x <= hi {
+                if first <= t {
+                    if t <= last {
+                        records += 1;
+                        weight += a;
+                        oil += c;
+                    }
+                }
             }
         }
     }
@@ -333,7 +327,57 @@ fn total_tested_days(
     }
 }
 
-// The records whose grower is lo to hi and whose day is first to last. Where every day is, only the growers are tested.
+// A weight if its day t is first to last, and else 0.
+fn weight_on(x: u32, t: u32, first: u32, last: u32) -> u32
+    ensures { λ r. ⌜ r ≡ cond (isIn (span first last) t) x 0 ⌝ }
+{
+    if first <= t {
+        if t <= last {
+            return x;
+        }
+    }
+    0
+}
+
+// The weight of each record whose day is first to last, and 0 for each other; how many those days have.
+fn keep_weights(w: &[u32], n: &[u32], first: u32, last: u32, kept: &mut [u32]) -> usize
+    requires { ⌜ (length (now n) ≡ length (now w)) × (length (now kept) ≡ length (now w)) × (length (now w) ≤ mostSlots) ⌝ }
+    ensures { λ r. ⌜ (now (kept .exit) ≡ keptWeights (span first last) (now (w .entry)) (now (n .entry)))
+        × (r ≡ countBetween first last (now (n .entry))) ⌝ }
+{
+    let mut k: u32 = 0;
+    let mut i = 0;
+    while i < n.len() {
+        let t = n[i];
+        kept[i] = weight_on(w[i], t, first, last);
+        i += 1;
+        if first <= t {
+            if t <= last {
+                k += 1;
+            }
+        }
+    }
+    k as usize
+}
+
+// The records of a stride whose day is first to last, whoever their grower is: their weights are kept first, four at a time, and then added
+// without a test.
+fn total_days(g: &[u32], w: &[u32], y: &[u32], n: &[u32], first: u32, last: u32) -> Totals
+    requires { ⌜ Measured (slicesAt g w y n) × (length (now g) ≡ 64) ⌝ }
+    ensures { λ r. ⌜ r ≡ totalsOf (keep (onDays (span first last)) (rows (slicesIn g w y n))) ⌝ }
+{
+    let mut kept = [0u32; STRIDE];
+    let k = keep_weights(w, n, first, last, &mut kept[..]);
+    let t = total_all(g, &kept[..], y, n);
+    Totals {
+        records: k as u64,
+        weight: t.weight,
+        oil: t.oil,
+    }
+}
+
+// The records whose grower is lo to hi and whose day is first to last. Where no grower is, nothing is added; where a whole stride's are, only
+// the days are tested.
 pub fn total_stride_days(
     g: &[u32],
     w: &[u32],
@@ -347,12 +391,14 @@ pub fn total_stride_days(
     requires { ⌜ Measured (slicesAt g w y n) ⌝ }
     ensures { λ r. ⌜ r ≡ totalsDuring lo hi (span first last) (rows (slicesIn g w y n)) ⌝ }
 {
-    let m = count(n, first, last);
-    if m < 1 {
+    let wanted = count(g, lo, hi);
+    if wanted < 1 {
         return Totals::none();
     }
-    if m == g.len() {
-        return total_stride(g, w, y, n, lo, hi);
+    if g.len() == STRIDE {
+        if wanted == STRIDE {
+            return total_days(g, w, y, n, first, last);
+        }
     }
     total_tested_days(g, w, y, n, lo, hi, first, last)
 }

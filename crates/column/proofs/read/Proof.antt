@@ -1,16 +1,21 @@
--- `column::read`: one scan of the partitions from lo's to hi's answers the range (`scanned`): values out of range are 8, days 19, and else it has totals and blocks. Assumes nothing.
+-- `column::read`: one scan of the partitions from lo's to hi's answers the range (`scanned`): where it is bad, values out of range are 8 and else days 19,
+-- and where it is good it has totals and blocks. Assumes nothing.
 use Prim.Native.Nat.{_+_, _-_}
 use mathlib.Core.Path.{_≡_, _∙_}
+use mathlib.Core.Bool.{cond}
+use native.Mathlib.Omega.{arith}
 use borrow.Author.Tests.{not-true, not-false}
 use borrow.Author.Needs.{needs}
 use lib.ListN.{getD}
 use Rattle.model.specs.Bounds.{blockLimit}
 use Rattle.model.specs.Column.{Column, slots, lengthsOf, target}
 use Rattle.model.specs.Calendar.{span}
+use Rattle.model.specs.Lists.{every}
+use Rattle.model.specs.Deliveries.{inRange}
 use Rattle.model.specs.Lent.{columnOf}
-use Rattle.directory.proofs.LentColumns.{LentColumn, lent-column, numbered, most-shaped}
+use Rattle.directory.proofs.LentColumns.{LentColumn, lent-column, count-lengths, numbered, most-shaped}
 use Rattle.directory.proofs.Numbers.{block-is}
-use Rattle.scan.specs.Scans.{scanOf}
+use Rattle.scan.specs.Scans.{recordsIn, scanOf}
 use Rattle.column.proofs.Reading.{targets-ordered, target-there, range-bad, range-undated, range-good}
 use Rattle.column.proofs.read.Statement.{statement}
 use Rattle.column.proofs.read.Tie as tie
@@ -51,30 +56,55 @@ scan-parts-requires c κs =
       (l .most, l .even),
     )
 
+-- the lengths that a bad scan is asked about again are the same
+failed-check-requires : tie.Need-failed-check-requires
+failed-check-requires c κs =
+    let r = c .before .before .before in
+    let s = start r in
+    let p = s .pre in
+    let l = lent s in
+    rw (c .lengths2 .ensures, r .before .before .before .last-scanned .ensures) (
+      rw (p .2) (targets-ordered blockLimit _ (p .0) _ _ (p .1)),
+      target-there blockLimit _ (p .0) _,
+      omega (arith, count-lengths blockLimit _ l, l .shape .few),
+      l .shape .room,
+      p .3,
+      l .most,
+      l .even,
+    )
+
+failed : (c : tie.After-failed-check)
+    → (let s = start (c .before .before .before .before) in let k = the-column s in let lo = target blockLimit k (s .args .lo) in
+    c .failed-check .result ≡ cond (every inRange (recordsIn (lengthsOf blockLimit k) lo (target blockLimit k (s .args .hi) + 1 - lo) (slots k))) 19 8)
+failed c =
+    let r = c .before .before .before .before in
+    let s = start r in
+    let from = s .pre .2 in
+    let to = r .before .before .before .last-scanned .ensures in
+    let ns = c .before .lengths2 .ensures in
+    c .failed-check .ensures ∙ (λ i. cond (every inRange (recordsIn (ns i) (from i) (to i + 1 - from i) (slots (the-column s)))) 19 8)
+
 returns : tie.Need-returns
 returns c =
-    let r = c .before .before .before in
+    let f = c .before in
+    let r = f .before .before .before .before in
     let p = start r .pre in
-    c .refused .ensures ∙ range-bad blockLimit _ (p .0) _ _ _ (p .1) _ (scanned r) (not-true _ (c .before .if1 .taken))
+    c .refused .ensures ∙ range-bad blockLimit _ (p .0) _ _ _ (p .1) _ (scanned r) (not-true _ (f .before .before .if1 .taken)) _ (failed f)
 
 returns-2 : tie.Need-returns-2
 returns-2 c =
-    let b = c .before .before in
-    let v = b .before .span-ok in
-    let g = b .before .before in
-    let r = g .before .before in
+    let v = c .before .before in
+    let r = v .before .before .before in
     let p = start r .pre in
     c .refused2 .ensures
-    ∙ range-undated blockLimit _ (p .0) _ _ _ (p .1) _ (scanned r) (v .result) (b .both .result) (v .ensures) (b .both .ensures) (not-false _ (g .if1 .left)) (not-true _ (c .before .if2 .taken))
+    ∙ range-undated blockLimit _ (p .0) _ _ _ (p .1) _ (scanned r) (not-false _ (v .before .if1 .left)) (v .span-ok .result) (v .span-ok .ensures) (not-true _ (c .before .if2 .taken))
 
 returns-3 : tie.Need-returns-3
 returns-3 c =
-    let b = c .before .before .before in
-    let v = b .before .span-ok in
-    let g = b .before .before in
-    let r = g .before .before in
+    let v = c .before .before .before in
+    let r = v .before .before .before in
     let p = start r .pre in
-    range-good blockLimit _ (p .0) _ _ _ (p .1) _ (scanned r) (v .result) (b .both .result) (v .ensures) (b .both .ensures) (not-false _ (g .if1 .left)) _
+    range-good blockLimit _ (p .0) _ _ _ (p .1) _ (scanned r) (not-false _ (v .before .if1 .left)) (v .span-ok .result) (v .span-ok .ensures) _
     (not-false _ (c .before .before .if2 .left)) (c .before .reads-of .ensures)
 
 pub read-spec : {M : Type 1} → statement M
@@ -85,9 +115,10 @@ read-spec =
     (λ c κs. numbered blockLimit _ (lent (c .before .before .before .before .before .before)))
     (λ c κs. lent (c .before .before .before .before .before .before .before) .shape .size)
     scan-parts-requires
+    (λ c κs. numbered blockLimit _ (lent (start (c .before .before))))
+    failed-check-requires
     (λ c κs. search needs)
     returns
-    (λ c κs. search needs)
     (λ c κs. search needs)
     (λ c κs. search needs)
     returns-2

@@ -13,9 +13,9 @@ use Rattle.model.specs.Deliveries.{Slices, inRange, rows}
 use Rattle.model.specs.Growers.{nearestOf, growersOf}
 use Rattle.model.proofs.ListLaws.{keep-fewer}
 use Rattle.model.proofs.MovesKeep.{All}
-use Rattle.model.proofs.Deliveries.{slices-for}
+use Rattle.model.proofs.Deliveries.{slices-for, values-rows}
 use Rattle.slices.proofs.Scans.{inside}
-use Rattle.scan.proofs.Judging.{values-say, good-on}
+use Rattle.scan.proofs.Judging.{good-on}
 use Rattle.growers.specs.declared.Nearest.{Nearest}
 use Rattle.growers.specs.Searches.{directionOf, joinedCount, badNearest, goodNearest, countIn, nearMore}
 use Rattle.growers.proofs.Joining.{good-is, wanted-past, all-fit, passed-over, first-joins}
@@ -36,7 +36,7 @@ g-fits c = omega arith
 
 -- whether the new records are in range
 in-range : (c : tie.After-values-ok) (b : Bool) → c .values-ok .result ≡ b → let a = start c .args in every inRange (rows (slicesAt (a .g) (a .w) (a .y) (a .n))) ≡ b
-in-range c = let a = start c .args in values-say (slicesAt (a .g) (a .w) (a .y) (a .n)) (start c .pre .1) (c .values-ok .result) (c .values-ok .ensures)
+in-range c b e = let a = start c .args in values-rows (slicesAt (a .g) (a .w) (a .y) (a .n)) (start c .pre .1) ∙ sym (c .values-ok .ensures) ∙ e
 
 -- their growers
 growers : (c : tie.After-values-ok) → let a = start c .args in growersOf (rows (slicesAt (a .g) (a .w) (a .y) (a .n))) ≡ a .g .now

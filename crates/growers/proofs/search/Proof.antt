@@ -2,8 +2,8 @@
 -- answers (`Searching`). Each partition lies in the slices, since the lengths sum to no more (`stops`). An empty one answers nothing (`searching-skip`).
 -- Assumes nothing.
 use Prim.Native.Nat.{ℕ, _+_, _-_, _≤_, _<_}
-use mathlib.Core.Path.{_≡_, _∙_}
-use mathlib.Core.Bool.{_&&_}
+use mathlib.Core.Path.{_≡_, sym, ap, _∙_}
+use mathlib.Core.Bool.{Bool, _&&_}
 use mathlib.Core.List.{List}
 use native.Mathlib.Omega.{arith}
 use borrow.Author.Needs.{needs}
@@ -16,9 +16,8 @@ use Rattle.model.specs.Deliveries.{Slices, slicesOf, eachSlice, rows, Even, day
 use Rattle.model.specs.Partitions.{startOf}
 use Rattle.model.proofs.AccessLaws.{blocks-most}
 use Rattle.model.proofs.Parts.{stop-le}
-use Rattle.model.proofs.Deliveries.{length-rows}
+use Rattle.model.proofs.Deliveries.{length-rows, days-rows}
 use Rattle.slices.proofs.Sums.{even-part}
-use Rattle.scan.proofs.Judging.{days-say}
 use Rattle.growers.proofs.Searching.{stepsOf, steps-most, steps-back, Met, met, Searching, searching-start, searching-end, searching-skip, searching-bad, searching-hit, searching-next}
 use Rattle.growers.proofs.search.Statement.{statement}
 use Rattle.growers.proofs.search.Tie as tie
@@ -102,7 +101,7 @@ entered c = c .before .before .before .before .before .before .before .before .b
 days : (c : tie.After-both Inv-loop μ-loop) → let b = entered c in c .both .result ≡ head b .loop .dated && every dayOk (rows (part-of b))
 days c =
     let b = entered c in
-    days-say (part-of b) (even b) (head b .loop .dated) (c .before .days-ok .result) (c .both .result) (c .both .ensures) (c .before .days-ok .ensures)
+    c .both .ensures ∙ ap (λ (t : Bool). head b .loop .dated && t) (c .before .days-ok .ensures ∙ sym (days-rows (part-of b) (even b)))
 
 near-all-requires : tie.Need-near-all-requires Inv-loop μ-loop
 near-all-requires c κs =

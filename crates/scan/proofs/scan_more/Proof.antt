@@ -1,6 +1,6 @@
 -- `scan::scan_more`: bad after a bad scan and after a bad sum of the partition; else its totals and its blocks are added, both small enough. Assumes nothing.
 use mathlib.Core.Path.{_≡_, sym, ap, subst, _∙_}
-use mathlib.Core.Bool.{Bool, true, false, _&&_}
+use mathlib.Core.Bool.{Bool, true, false}
 use mathlib.Core.List.{List}
 use Prim.Native.Nat.{_+_}
 use native.Mathlib.Omega.{arith}
@@ -10,15 +10,14 @@ use lib.ListN.{length}
 use Rattle.model.specs.declared.Delivery.{Delivery}
 use Rattle.model.specs.declared.Totals.{Totals}
 use Rattle.model.specs.Bounds.{mostSlots}
-use Rattle.model.specs.Lists.{every}
-use Rattle.model.specs.Deliveries.{LightTotals, inRange, dayOk, plusTotals, totalsDuring, rows}
+use Rattle.model.specs.Deliveries.{LightTotals, plusTotals, totalsDuring, rows}
 use Rattle.model.specs.Calendar.{span}
 use Rattle.model.specs.Lent.{slicesAt}
 use Rattle.model.specs.Accesses.{blocksOf}
 use Rattle.model.proofs.AccessLaws.{blocks-most}
 use Rattle.model.proofs.Deliveries.{length-rows}
 use Rattle.scan.specs.declared.Sum.{Sum}
-use Rattle.scan.specs.Scans.{badScan, scanMore, sumAll}
+use Rattle.scan.specs.Scans.{allFit, badScan, scanMore, sumAll}
 use Rattle.scan.proofs.Judging.{good-on, judged-says, judged-value}
 use Rattle.scan.proofs.Summing.{sums, sum-light}
 use Rattle.scan.proofs.scan_more.Statement.{statement}
@@ -37,13 +36,13 @@ abbrev totals : tie.After-sum-part → Totals
 totals c = let a = start c .args in totalsDuring (a .lo) (a .hi) (span (a .first) (a .last)) (records c)
 
 -- what the sum of the partition's records says
-in-range : (c : tie.After-sum-part) (b : Bool) → c .sum-part .result .good ≡ b → every inRange (records c) ≡ b
+fits : (c : tie.After-sum-part) (b : Bool) → c .sum-part .result .good ≡ b → allFit (records c) ≡ b
 unfolding sumAll
-in-range c = judged-says sums (every inRange (records c)) (every dayOk (records c), totals c) (c .sum-part .result) (c .sum-part .ensures)
+fits c = judged-says sums (allFit (records c)) (totals c) (c .sum-part .result) (c .sum-part .ensures)
 
-summed : (c : tie.After-sum-part) → c .sum-part .result .good ≡ true → _≡_ {A = Bool × Totals} (c .sum-part .result .dated, c .sum-part .result .totals) (every dayOk (records c), totals c)
+summed : (c : tie.After-sum-part) → c .sum-part .result .good ≡ true → c .sum-part .result .totals ≡ totals c
 unfolding sumAll
-summed c = judged-value sums (every inRange (records c)) (every dayOk (records c), totals c) (c .sum-part .result) (c .sum-part .ensures)
+summed c = judged-value sums (allFit (records c)) (totals c) (c .sum-part .result) (c .sum-part .ensures)
 
 returns : tie.Need-returns
 unfolding scanMore
@@ -53,7 +52,7 @@ returns-2 : tie.Need-returns-2
 unfolding scanMore
 returns-2 c =
     let m = c .before .before .before in
-    c .bad-scan2 .ensures ∙ rw (not-false (start m .args .s .good) (m .before .if1 .left), in-range m false (not-true _ (c .before .if2 .taken)))
+    c .bad-scan2 .ensures ∙ rw (not-false (start m .args .s .good) (m .before .if1 .left), fits m false (not-true _ (c .before .if2 .taken)))
 
 plus-requires : tie.Need-plus-requires
 plus-requires c κs =
@@ -70,15 +69,12 @@ add-blocks c =
 returns-3 : tie.Need-returns-3
 unfolding scanMore
 returns-3 c =
-    let m = c .before .before .before .before .before .before in
+    let m = c .before .before .before .before .before in
     let a = start m .args in
-    let good = not-false _ (c .before .before .before .before .if2 .left) in
-    let v = summed m good in
-    let t = c .before .before .before .plus .ensures ∙ ap (λ (x : Bool × Totals). plusTotals (a .s .totals) (x .1)) v in
-    let k = c .before .before .blocks-of .ensures ∙ ap (blocksOf (a .block)) (sym (size m)) in
-    let e = c .both .ensures ∙ ap (λ (x : Bool × Totals). a .s .dated && x .0) v in
-    good-on badScan (not-false (a .s .good) (m .before .if1 .left)) (in-range m true good)
-    (λ i. record { good = true; dated = e i; totals = t i; blocks = a .s .blocks + k i })
+    let good = not-false _ (c .before .before .before .if2 .left) in
+    let t = c .before .before .plus .ensures ∙ ap (plusTotals (a .s .totals)) (summed m good) in
+    let k = c .before .blocks-of .ensures ∙ ap (blocksOf (a .block)) (sym (size m)) in
+    good-on badScan (not-false (a .s .good) (m .before .if1 .left)) (fits m true good) (λ i. record { good = true; totals = t i; blocks = a .s .blocks + k i })
 
 pub scan-more-spec : {M : Type 1} → statement M
 scan-more-spec =
@@ -92,5 +88,4 @@ scan-more-spec =
     plus-requires
     (λ c κs. search needs)
     add-blocks
-    (λ c κs. search needs)
     returns-3)

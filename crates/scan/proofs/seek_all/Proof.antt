@@ -26,15 +26,15 @@ seek-more-requires c κs =
     let l = c .before .before .before .before .before in
     let a = start l .args in
     let i = l .loop .i in
-    (simp (length-take, length-drop) (omega arith), even-part (slicesAt (a .g) (a .w) (a .y) (a .n)) (i + 64 - i) i (start l .pre .1), omega arith)
+    (simp (length-take, length-drop) (omega arith), even-part (slicesAt (a .g) (a .w) (a .y) (a .n)) (i + 128 - i) i (start l .pre .1), omega arith)
 
 loop-again : tie.Need-loop-again Inv-loop μ-loop
 loop-again c =
     let l = c .before .before .before .before .before .before in
     let a = start l .args in
     let i = l .loop .i in
-    let e : i + 64 - i ≡ 64 = omega arith in
-    seeking-next (a .d) (slicesAt (a .g) (a .w) (a .y) (a .n)) (start l .pre .1) (l .loop .s) i (l .loop .inv) 64 _ (omega arith) (rw e at (c .seek-more .ensures))
+    let e : i + 128 - i ≡ 128 = omega arith in
+    seeking-next (a .d) (slicesAt (a .g) (a .w) (a .y) (a .n)) (start l .pre .1) (l .loop .s) i (l .loop .inv) 128 _ (omega arith) (rw e at (c .seek-more .ensures))
 
 seek-more-requires-2 : tie.Need-seek-more-requires-2 Inv-loop μ-loop
 seek-more-requires-2 c κs =

@@ -117,6 +117,12 @@ returns-3 c =
 slice-aggregate-count-during : tie.Need-slice-aggregate-count-during
 slice-aggregate-count-during c = sym (length-take-le _ _ (days-room (good (c .before))))
 
+count-during-requires : tie.Need-count-during-requires
+count-during-requires c κs =
+    let e = good (c .before) in
+    let k = checked e in
+    omega (arith, length-take-le (k .check-column .result .used) (lent k .slices .days) (days-room e), growers-room e, known e .lent .most)
+
 returns-4 : tie.Need-returns-4
 returns-4 c =
     let n = c .before .before in
@@ -177,5 +183,5 @@ check-sheet-spec =
     tie.close
     (tie.spec
     (λ c κs. search needs) (λ c κs. search needs) returns (λ c κs. search needs) returns-2 slice-aggregate-days-ok (λ c κs. search needs)
-    (λ c κs. search needs) returns-3 slice-aggregate-count-during (λ c κs. search needs) (λ c κs. search needs) returns-4 (λ c κs. search needs) returns-5
+    (λ c κs. search needs) returns-3 slice-aggregate-count-during count-during-requires (λ c κs. search needs) returns-4 (λ c κs. search needs) returns-5
     slice-aggregate-lines-fit slice-aggregate-lines-fit-2 lines-fit-requires (λ c κs. search needs) returns-6 returns-7)

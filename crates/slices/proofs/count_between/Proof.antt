@@ -1,4 +1,4 @@
--- `slices::count_between`: so many so far, and those among the growers from i on, are those of all; each of the three ways through a turn keeps that. Assumes nothing.
+-- `slices::count_between`: so many so far, and those among the numbers from i on, are those of all; each of the three ways through a turn keeps that. Assumes nothing.
 use Prim.Native.Nat.{_-_}
 use native.Mathlib.Omega.{arith}
 use borrow.Author.Needs.{needs}
@@ -8,10 +8,10 @@ use Rattle.slices.proofs.count_between.Statement.{statement}
 use Rattle.slices.proofs.count_between.Tie as tie
 
 abbrev Inv-loop : tie.InvT-loop
-Inv-loop g lo hi n₀ i₀ n i = Counting (inside lo hi) g n i
+Inv-loop s lo hi n₀ i₀ n i = Counting (inside lo hi) s n i
 
 abbrev μ-loop : tie.MeasureT-loop
-μ-loop g lo hi n₀ i₀ n i = length g - i
+μ-loop s lo hi n₀ i₀ n i = length s - i
 
 loop-holds : tie.Need-loop-holds Inv-loop μ-loop
 loop-holds c = counting-start _ _
