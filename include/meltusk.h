@@ -6,9 +6,9 @@
  *
  * Every call takes numbers and slices. A slice is a pointer and a count of
  * elements; a null pointer with count 0 is allowed. Nothing is allocated and
- * nothing is kept between calls; the planner takes some 90 kB of stack, the
- * settlement sheet some 220 kB, every other call a few. A call reads and writes
- * only inside the slices that it is lent, and ends on every input.
+ * nothing is kept between calls; the planner takes some 90 kB of stack, a
+ * settlement sheet some 210 kB, every other call less than 6 kB. A call reads
+ * and writes only inside the slices that it is lent, and ends on every input.
  *
  * This is version 2: since version 1 every call that is lent the slots is lent
  * a fourth slice of them, the days, and a delivery has a day. A host that keeps
