@@ -1,10 +1,11 @@
 //! The calls on a column of 262,144 slots.
 
+use crate::allocator::together;
 use crate::sets::{delivery, drawn, Layouts, HARVEST};
 use crate::timing::{timed, Times, REPETITIONS, ROUNDS};
 use meltusk::{call_second, even_ends, spread_growers, Answer, Call, Column, Empty, Library};
 use second::random::{case_seed, Random};
-use second::{Delivery, Span, BLOCK_LENGTH_LIMIT, SLOT_LIMIT};
+use second::{Delivery, Span, BLOCK_LENGTH_LIMIT, BLOCK_LIMIT, SLOT_LIMIT};
 
 /// Slots left free.
 const FREE: usize = 256;
@@ -13,6 +14,9 @@ pub const USED: usize = SLOT_LIMIT - FREE;
 const WRITES: usize = 32;
 /// Finds and ranges of a batch.
 const READS: usize = 8;
+/// Pairs of columns on which inserts alone are timed. The second cache takes its
+/// sets by physical pages, and which of these a column gets is drawn by the system.
+const PAIRS: usize = 8;
 
 pub const LIBRARY: Library = Library {
     empty: Empty::Place,
@@ -35,9 +39,14 @@ pub fn make(side: usize, c: &mut Column, calls: &[Call], answers: &mut Vec<Answe
 
 /// Growers spread evenly over all numbers, in the order of the unpartitioned
 /// set, laid in partitions of equal blocks.
-pub fn laid(r: &mut Random, partitions: usize, used: usize) -> Column {
+fn laid_in(r: &mut Random, block: u32, partitions: usize, used: usize) -> Column {
     let growers = spread_growers(r, used);
-    drawn(r, BLOCK_LENGTH_LIMIT, growers, SLOT_LIMIT).column(&even_ends(partitions))
+    drawn(r, block, growers, SLOT_LIMIT).column(&even_ends(partitions))
+}
+
+/// The same in the longest blocks.
+pub fn laid(r: &mut Random, partitions: usize, used: usize) -> Column {
+    laid_in(r, BLOCK_LENGTH_LIMIT, partitions, used)
 }
 
 /// A column for each side, and the answers to its last batch.
@@ -190,5 +199,26 @@ pub fn run(partitions: usize) {
     ];
     for (times, name) in times.iter().zip(names) {
         times.print(name, partitions);
+    }
+}
+
+/// Inserts at 64 partitions, with a column's four slices at different places of a
+/// page and with all at the same.
+pub fn inserts(block: u32) {
+    let r = &mut Random::new(case_seed(110, u64::from(block)));
+    let used = BLOCK_LIMIT * block as usize - FREE;
+    let column = laid_in(r, block, BLOCK_LIMIT, used);
+    let pairs = || -> Vec<Bench<Answer>> {
+        let pair = |_| Bench::new(column.clone(), WRITES);
+        (0..PAIRS).map(pair).collect()
+    };
+    for (name, pairs) in [("apart", pairs()), ("together", together(pairs))] {
+        let mut times: [Times; 2] = Default::default();
+        for mut bench in pairs {
+            bench.repeat(&mut times, |bench, first, [insert, delete]| {
+                bench.inserts(first, r, insert, delete);
+            });
+        }
+        times[0].print(name, block as usize);
     }
 }

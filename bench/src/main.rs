@@ -2,6 +2,7 @@
 //! a price card for the machine, and weeks of calls beside other structures.
 //! What stands side by side is checked to answer the same.
 
+mod allocator;
 mod calibrate;
 mod columns;
 mod csv;
@@ -21,6 +22,9 @@ mod week;
 mod weeks;
 
 use second::BLOCK_LENGTH_LIMIT;
+
+#[global_allocator]
+static ALLOCATOR: allocator::Allocator = allocator::Allocator;
 
 fn heading(call: &str, size: &str, other: &str) {
     println!(
@@ -76,6 +80,12 @@ fn calls() {
     layouts_listed();
 }
 
+/// Inserts at K 64, by the block length and by where the slices lie.
+fn inserts() {
+    heading("insert, K 64", "B", "second");
+    [4_096, 4_032].into_iter().for_each(columns::inserts);
+}
+
 /// The planner, by the count of blocks.
 fn planner() {
     heading("call", "N", "second");
@@ -93,6 +103,7 @@ fn main() {
     let arguments: Vec<&str> = arguments.iter().map(String::as_str).collect();
     match arguments[..] {
         [] | ["calls"] => calls(),
+        ["inserts"] => inserts(),
         ["growers"] => steps(),
         ["empty"] => gaps(),
         ["sheets"] => settlements(),
@@ -107,7 +118,7 @@ fn main() {
         ["weeks"] => weeks::run(),
         ["cards"] => weeks::cards(),
         _ => fail(
-            "bench [calls | growers | empty | sheets | csv | plans | listings | calibrate [BLOCK_LENGTH] | weeks | cards]",
+            "bench [calls | inserts | growers | empty | sheets | csv | plans | listings | calibrate [BLOCK_LENGTH] | weeks | cards]",
         ),
     }
 }
