@@ -58,6 +58,16 @@ pub fn ensure(yes: bool, number: u32) -> Checked<()> {
     }
 }
 
+/// A text's answer: the bytes written, or the first check that fails.
+impl From<Checked<usize>> for TextAnswer {
+    fn from(outcome: Checked<usize>) -> TextAnswer {
+        TextAnswer {
+            refusal: outcome.err().unwrap_or(ACCEPTED),
+            written: outcome.unwrap_or(0),
+        }
+    }
+}
+
 /// Check 1, prices only.
 pub fn prices(card: &PriceCard) -> Checked<()> {
     let good = |p: u32| (1..=PRICE_LIMIT).contains(&p);

@@ -261,14 +261,5 @@ pub fn csv_export(
     days: &[u32],
     out: &mut [u8],
 ) -> TextAnswer {
-    match try_export(used, growers, weights, yields, days, out) {
-        Ok(written) => TextAnswer {
-            refusal: check::ACCEPTED,
-            written,
-        },
-        Err(refusal) => TextAnswer {
-            refusal,
-            written: 0,
-        },
-    }
+    try_export(used, growers, weights, yields, days, out).into()
 }

@@ -87,19 +87,6 @@ fn try_write(
     ))
 }
 
-fn answer(outcome: Checked<usize>) -> TextAnswer {
-    match outcome {
-        Ok(written) => TextAnswer {
-            refusal: check::ACCEPTED,
-            written,
-        },
-        Err(refusal) => TextAnswer {
-            refusal,
-            written: 0,
-        },
-    }
-}
-
 /// Checks 2 3 6 (shape, then soundness) 8 19 15, then the text, the used slots in
 /// the order of the sheet, and as many zeros. What lies past them stays as it
 /// was.
@@ -114,9 +101,7 @@ pub fn sheet_write(
     work: &mut [u32],
 ) -> TextAnswer {
     let lists = [order, work];
-    answer(try_write(
-        growers, weights, yields, days, directory, None, out, lists,
-    ))
+    try_write(growers, weights, yields, days, directory, None, out, lists).into()
 }
 
 /// The sheet of the term that holds the day, from that term's records alone.
@@ -134,9 +119,7 @@ pub fn term_sheet_write(
     work: &mut [u32],
 ) -> TextAnswer {
     let (day, lists) = (Some(day), [order, work]);
-    answer(try_write(
-        growers, weights, yields, days, directory, day, out, lists,
-    ))
+    try_write(growers, weights, yields, days, directory, day, out, lists).into()
 }
 
 fn run(text: &[u8]) -> Checked<Vec<u8>> {

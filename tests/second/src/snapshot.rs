@@ -70,16 +70,7 @@ pub fn snapshot_write(
     directory: &[u32],
     out: &mut [u8],
 ) -> TextAnswer {
-    match try_write(growers, weights, yields, days, directory, out) {
-        Ok(written) => TextAnswer {
-            refusal: check::ACCEPTED,
-            written,
-        },
-        Err(refusal) => TextAnswer {
-            refusal,
-            written: 0,
-        },
-    }
+    try_write(growers, weights, yields, days, directory, out).into()
 }
 
 /// Line 1 if it is three numbers in range, its LF included: B, M, K and the
