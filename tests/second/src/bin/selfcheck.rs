@@ -27,6 +27,8 @@ mod random;
 mod sheets;
 #[path = "selfcheck/subject.rs"]
 mod subject;
+#[path = "selfcheck/terms.rs"]
+mod terms;
 #[path = "selfcheck/wrong_days.rs"]
 mod wrong_days;
 #[path = "selfcheck/wrong_listings.rs"]
@@ -148,11 +150,13 @@ const GROUPS: &[(&str, Group, u64)] = &[
     ("every date of the century", days::calendar_century, 1),
     ("example: ranges over days", days::range_examples, 1),
     ("example: 8 of all, then 19 of all", days::order_examples, 1),
+    ("example: the same of a set", days::set_examples, 1),
     ("example: days in moves", days::match_examples, 1),
     ("ranges over days against ranges", days::range_spans, 20_000),
-    ("example: sheets of terms", days::term_examples, 1),
-    ("sheet of a term against a map", days::term_sheets, 10_000),
-    ("sheet of a term of any column", days::term_refused, 40_000),
+    ("example: sheets of terms", terms::term_examples, 1),
+    ("sheet of a term against a map", terms::term_sheets, 10_000),
+    ("sheets of every term of four years", terms::term_years, 500),
+    ("sheet of a term of any column", terms::term_refused, 40_000),
     ("books and days", days::book_days, 20_000),
     ("weighbridge files and days", days::export_days, 20_000),
     ("example: weighbridge files", csv::csv_examples, 1),

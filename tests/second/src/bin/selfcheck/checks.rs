@@ -1497,6 +1497,13 @@ fn recorder_checks() -> Vec<(&'static str, Box<dyn Fn() -> Outcome>)> {
             }),
         ),
         (
+            "recorder move of a delivery on another day",
+            Box::new(move || {
+                let call = |w: &Work| Call::Move(w.d.on(w.d.day - 1), w.new_grower);
+                recorder(call, &[at(PQ, 2)], Given::Grower)
+            }),
+        ),
+        (
             "recorder move forward",
             Box::new(move || {
                 let full = [at(UDF, 2), at(UTF, 6)];

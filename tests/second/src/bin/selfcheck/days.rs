@@ -1,9 +1,9 @@
-//! Days and terms: the calendar against known dates and another count of days,
-//! the marked rules of days on small columns, and the sheet of a term.
+//! Days: the calendar against known dates and another count of days, the rules of
+//! days on small columns and sets, and books and files without days.
 
-use crate::groups::Outcome;
-use crate::growers::{any_column, sound_column};
-use crate::model::{sheet_of, snapshot_text};
+use crate::groups::{main_set, Outcome};
+use crate::growers::any_column;
+use crate::model::snapshot_text;
 use crate::random;
 use crate::require;
 use crate::subject::*;
@@ -182,7 +182,7 @@ pub fn calendar_century(s: &dyn Subject, _: u64) -> Outcome {
 }
 
 /// Three partitions; growers 10, 10, 10 on three days, then none, then 50 and 60.
-fn dated_column() -> Column {
+pub fn dated_column() -> Column {
     let mut c = Column {
         growers: vec![10, 10, 10, 50, 60, 0, 0],
         weights: vec![1, 10, 100, 1_000, 10_000, 0, 0],
@@ -237,39 +237,112 @@ pub fn range_examples(s: &dyn Subject, _: u64) -> Outcome {
     Ok(())
 }
 
-/// A bad day in one record and a bad weight in another, in each order: 8 goes
-/// ahead; a bad day alone is 19; one in a partition that is not scanned is nothing.
+/// Calls about a delivery and growers lo to hi: each kind as it is, with days
+/// above the limit and, where a delivery is offered, with a bad weight too.
+fn each_call((lo, hi): (u32, u32), d: Delivery) -> Vec<Call> {
+    let heavy = Delivery {
+        weight: 100_001,
+        ..d
+    };
+    let spans = [(0, 36_524), (36_524, 0), (36_525, 0), (0, u32::MAX)];
+    let mut calls = vec![Call::Find(d.grower), Call::Range(lo, hi)];
+    calls.extend(spans.map(|(first, last)| Call::RangeDays(lo, hi, Span::new(first, last))));
+    for d in [d, d.on(36_525), heavy, heavy.on(u32::MAX)] {
+        calls.extend([Call::Insert(d), Call::Delete(d), Call::Move(d, hi)]);
+    }
+    calls
+}
+
+/// 8 if a weight that the call is given or meets is bad, else 19 if such a day is.
+fn number(call: &Call, meets_heavy: bool, meets_late: bool) -> u32 {
+    let (is_heavy, is_late) = match call {
+        Call::Insert(d) | Call::Delete(d) | Call::Move(d, _) => {
+            (d.weight > 100_000, d.day > 36_524)
+        }
+        Call::RangeDays(_, _, span) => (false, span.first.max(span.last) > 36_524),
+        Call::Find(_) | Call::Range(..) => (false, false),
+    };
+    match () {
+        () if is_heavy || meets_heavy => 8,
+        () if is_late || meets_late => 19,
+        () => 0,
+    }
+}
+
+/// Where a bad day and a bad weight are: each in every record and in none.
+fn faults(records: usize) -> impl Iterator<Item = [Option<usize>; 2]> {
+    let places = move || std::iter::once(None).chain((0..records).map(Some));
+    places().flat_map(move |late| places().map(move |heavy| [late, heavy]))
+}
+
+fn put(fault: Option<usize>, numbers: &mut [u32], bad: u32) {
+    fault.into_iter().for_each(|at| numbers[at] = bad);
+}
+
+/// Of what a call is given and of all records that it scans 8, then of all 19. A
+/// record that is not scanned is not asked.
 pub fn order_examples(s: &dyn Subject, _: u64) -> Outcome {
-    let wide = Call::Range(0, 90);
-    let dated = Call::RangeDays(0, 90, Span::new(0, 36_524));
-    for day_at in 0..5 {
-        let mut c = dated_column();
-        c.days[day_at] = 36_525;
-        for call in [wide, dated] {
-            let a = s.call(&mut c, &call);
-            require!(a == Answer::refused(19), "{call:?}, day {day_at}: {a:?}");
+    let calls = each_call((0, 90), Delivery::new(10, 1, 1));
+    for [late, heavy] in faults(5) {
+        let mut bad = dated_column();
+        put(late, &mut bad.days, 36_525);
+        put(heavy, &mut bad.weights, 100_001);
+        for call in &calls {
+            let scanned = match call {
+                Call::Insert(_) => 0..0,
+                Call::Find(_) | Call::Delete(_) | Call::Move(..) => 0..3,
+                Call::Range(..) | Call::RangeDays(..) => 0..5,
+            };
+            let meets = |fault: Option<usize>| fault.is_some_and(|at| scanned.contains(&at));
+            let number = number(call, meets(heavy), meets(late));
+            let mut c = bad.clone();
+            let a = s.call(&mut c, call);
+            let right = match number {
+                0 => a.refusal == 0,
+                _ => a == Answer::refused(number) && c == bad,
+            };
+            require!(right, "{call:?}: {a:?}, not {number}; {bad:?}");
         }
-        let near = s.call(&mut c, &Call::Find(10));
-        require!((near.refusal == 19) == (day_at < 3), "find 10: {near:?}");
-        let d = Delivery::new(10, 1, 1);
-        let gone = s.call(&mut c.clone(), &Call::Delete(d));
-        require!((gone.refusal == 19) == (day_at < 3), "delete: {gone:?}");
-        let heavy = s.call(&mut c.clone(), &Call::Delete(Delivery::new(10, 100_001, 1)));
-        require!(heavy == Answer::refused(8), "delete: {heavy:?}");
-        let put = s.call(&mut c.clone(), &Call::Insert(d));
-        require!(put.refusal == 0, "insert: {put:?}");
-        for weight_at in 0..5 {
-            let mut c = c.clone();
-            c.weights[weight_at] = 100_001;
-            for call in [wide, dated, Call::RangeDays(0, 90, Span::new(36_525, 0))] {
-                let a = s.call(&mut c, &call);
-                require!(a == Answer::refused(8), "{day_at} {weight_at}: {a:?}");
-            }
-            // The offered day is bad and so is a weight of the partition.
-            let late = s.call(&mut c.clone(), &Call::Delete(d.on(36_525)));
-            let number = if weight_at < 3 { 8 } else { 19 };
-            require!(late == Answer::refused(number), "offered: {late:?}");
+    }
+    Ok(())
+}
+
+/// The same of a set, of which all records are asked.
+pub fn set_examples(s: &dyn Subject, _: u64) -> Outcome {
+    let mut good = main_set();
+    good.days = vec![0, 14, 15, 8_825, 36_524, 0, 0, 0, u32::MAX];
+    let calls = each_call((20, 60), good.records()[2]);
+    let (card, limits) = (PriceCard::FACTORY, Limits::new(1_000, 1_000));
+    let zeros = vec![0; HISTOGRAM_LEN];
+    for [late, heavy] in faults(good.m) {
+        let mut set = good.clone();
+        put(late, &mut set.days, 36_525);
+        put(heavy, &mut set.weights, 100_001);
+        for call in &calls {
+            let number = number(call, heavy.is_some(), late.is_some());
+            let mut h = zeros.clone();
+            let refusal = s.record(&set.view(), &mut h, call);
+            let right = refusal == number && (h == zeros) == (number != 0);
+            require!(right, "{call:?}: {refusal}, not {number}; {set:?}");
         }
+        let case = Case {
+            card,
+            limits,
+            set,
+            histograms: zeros.clone(),
+        };
+        let set = case.set.view();
+        let refusals = [
+            s.cost(&card, &set, &zeros, &[1, 3]).refusal,
+            s.plan(&card, &limits, &set, &zeros, &mut [0; 4]).refusal,
+            s.list(&case, &mut [0; 1_000]).refusal,
+            s.apply(&set, &[1, 3]).refusal,
+        ];
+        let number = number(&Call::Find(0), heavy.is_some(), late.is_some());
+        require!(
+            refusals == [number; 4],
+            "{refusals:?}, not {number}; {set:?}"
+        );
     }
     Ok(())
 }
@@ -322,156 +395,6 @@ pub fn range_spans(s: &dyn Subject, cases: u64) -> Outcome {
         }
         require!(sum == whole.totals, "{sum:?}, not {whole:?}; {c:?}");
     }
-    Ok(())
-}
-
-fn lent(text: usize, order: usize, work: usize) -> Room {
-    Room {
-        text: vec![b'#'; text],
-        order: vec![u32::MAX; order],
-        work: vec![u32::MAX; work],
-    }
-}
-
-/// The sheet of the term of a day in rooms of these lengths: what is written and
-/// what is left.
-fn term_is(
-    s: &dyn Subject,
-    c: &Column,
-    day: u32,
-    rooms: [usize; 3],
-    expected: Result<(&[u8], &[u32]), u32>,
-) -> Outcome {
-    let mut room = lent(rooms[0], rooms[1], rooms[2]);
-    let mut after = room.clone();
-    let number = expected.err().unwrap_or(0);
-    let (text, order) = expected.unwrap_or((&[], &[]));
-    after.text[..text.len()].copy_from_slice(text);
-    after.order[..order.len()].copy_from_slice(order);
-    after.work[..order.len()].fill(0);
-    let a = s.term_sheet(c, day, &mut room);
-    let right = a.refusal == number && a.written == text.len();
-    require!(right, "the term of {day}: {a:?}, not {number}; {c:?}");
-    let shown = room.text.escape_ascii();
-    require!(room == after, "the term of {day}: \"{shown}\"; {c:?}");
-    Ok(())
-}
-
-const EMPTY: &str = "                   0                   0                   0\n";
-
-/// The two terms of January 2000, of which the second holds one record.
-pub fn term_examples(s: &dyn Subject, _: u64) -> Outcome {
-    let c = dated_column();
-    let two = "                  10                   2                  11                  11
-                   2                  11                  11
-";
-    let one = "                  10                   1                 100                 100
-                   1                 100                 100
-";
-    for (day, text, order) in [
-        (0, two, &[0, 1][..]),
-        (14, two, &[0, 1]),
-        (15, one, &[2]),
-        (30, one, &[2]),
-        (31, EMPTY, &[]),
-    ] {
-        let m = order.len();
-        let bytes = text.len();
-        let written = Ok((text.as_bytes(), order));
-        term_is(s, &c, day, [bytes, m, m], written)?;
-        term_is(s, &c, day, [bytes + 81, m + 3, m + 1], written)?;
-        term_is(s, &c, day, [bytes - 1, m, m], Err(15))?;
-    }
-    for day in [36_525, u32::MAX] {
-        term_is(s, &c, day, [1_000, 5, 5], Err(19))?;
-        term_is(s, &c, day, [0, 0, 0], Err(19))?;
-    }
-    // What is wrong outside the term is wrong all the same.
-    let mut bad = c.clone();
-    bad.weights[4] = 100_001;
-    term_is(s, &bad, 0, [1_000, 5, 5], Err(8))?;
-    term_is(s, &bad, 36_525, [1_000, 5, 5], Err(8))?;
-    let mut bad = c.clone();
-    bad.days[4] = 36_525;
-    term_is(s, &bad, 0, [1_000, 5, 5], Err(19))?;
-    let mut bad = c;
-    bad.growers[4] = 10;
-    term_is(s, &bad, 36_525, [1_000, 5, 5], Err(6))
-}
-
-/// Terms of random columns against the model; every record is in one term.
-pub fn term_sheets(s: &dyn Subject, cases: u64) -> Outcome {
-    let r = &mut Random::new(32);
-    for _ in 0..cases {
-        let mut c = sound_column(r);
-        for _ in 0..r.below(8) {
-            let call = random::call(r, &c.records());
-            s.call(&mut c, &call);
-        }
-        let mut left = c.used();
-        let mut days: Vec<u32> = c.records().iter().map(|d| d.day).collect();
-        days.push(r.below(36_525) as u32);
-        let mut done: Vec<(u32, u32)> = Vec::new();
-        for day in days {
-            let term = s.term_of(day);
-            let (text, order) = sheet_of(&c, |n| (term.first..=term.last).contains(&n));
-            let (bytes, m) = (text.len(), order.len());
-            let written = Ok((&text[..], &order[..]));
-            let more = [r.below(3) * r.below(90), r.below(3), r.below(3)];
-            term_is(
-                s,
-                &c,
-                day,
-                [bytes + more[0], m + more[1], m + more[2]],
-                written,
-            )?;
-            term_is(s, &c, day, [bytes - 1, m, m], Err(15))?;
-            if m > 0 {
-                term_is(s, &c, day, [bytes, m - 1, m], Err(15))?;
-                term_is(s, &c, day, [bytes, m, m - 1], Err(15))?;
-            }
-            if !done.contains(&(term.first, term.last)) {
-                done.push((term.first, term.last));
-                left -= m;
-            }
-        }
-        require!(left == 0, "{left} records are in no term; {c:?}");
-    }
-    Ok(())
-}
-
-/// Columns of any kind: 6, 8, 19 or 15, asked of the whole column.
-pub fn term_refused(s: &dyn Subject, cases: u64) -> Outcome {
-    let r = &mut Random::new(33);
-    let mut met = [0u32; 20];
-    for _ in 0..cases {
-        let c = any_column(r);
-        let day = match r.below(4) {
-            0 => r.pick(&[36_525, u32::MAX]),
-            _ => random::day(r),
-        };
-        let term = s.term_of(day);
-        let (text, order) = sheet_of(&c, |n| (term.first..=term.last).contains(&n));
-        let (bytes, m) = (text.len(), order.len());
-        let short = r.one_in(3);
-        let records = c.records();
-        let number = match () {
-            () if !c.is_sound() => 6,
-            () if records.iter().any(|d| !d.in_range()) => 8,
-            () if day > 36_524 || records.iter().any(|d| d.day > 36_524) => 19,
-            () if short => 15,
-            () => 0,
-        };
-        met[number as usize] += 1;
-        let expected = match number {
-            0 => Ok((&text[..], &order[..])),
-            _ => Err(number),
-        };
-        let rooms = [bytes - usize::from(short), m, m];
-        term_is(s, &c, day, rooms, expected)?;
-    }
-    let every = [0, 6, 8, 15, 19].iter().all(|&number| met[number] > 0);
-    require!(every || cases < 500, "not every outcome was met: {met:?}");
     Ok(())
 }
 

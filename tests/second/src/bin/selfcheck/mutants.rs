@@ -9,6 +9,7 @@ use crate::increases;
 use crate::model::text_in;
 use crate::sheets;
 use crate::subject::*;
+use crate::terms;
 use crate::wrong_days::*;
 use crate::wrong_listings::{self, List};
 use second::planner::layout_of_bits;
@@ -1512,6 +1513,7 @@ fn termed(f: fn(u32) -> TermAnswer) -> Mutant {
 fn of_days() -> Vec<(&'static str, Mutant, &'static [Group])> {
     use days::*;
     use groups::{column_ledger, column_slots, laid_ledger, recorder_model};
+    use terms::{term_examples, term_refused, term_sheets, term_years};
     vec![
         (
             "day left behind",
@@ -1549,6 +1551,11 @@ fn of_days() -> Vec<(&'static str, Mutant, &'static [Group])> {
             &[range_examples, range_spans, column_ledger, column_slots],
         ),
         (
+            "range cut at the end of a term",
+            call(one_term_only),
+            &[range_examples, range_spans, column_ledger, column_slots],
+        ),
+        (
             "days of a range exchanged",
             call(days_exchanged),
             &[range_examples, column_ledger, column_slots],
@@ -1579,14 +1586,44 @@ fn of_days() -> Vec<(&'static str, Mutant, &'static [Group])> {
             &[order_examples, column_slots],
         ),
         (
-            "19 not asked of records",
-            call(records_not_asked),
+            "19 not asked of records by a find",
+            call(|c, k| records_not_asked(c, k, |k| matches!(k, Call::Find(_)))),
             &[order_examples, column_slots],
         ),
         (
-            "19 not asked of the delivery",
-            call(offered_not_asked),
-            &[order_examples, column_ledger, column_slots],
+            "19 not asked of records by a range",
+            call(|c, k| records_not_asked(c, k, |k| matches!(k, Call::Range(..)))),
+            &[order_examples, range_spans, column_slots],
+        ),
+        (
+            "19 not asked of records by a range over days",
+            call(|c, k| records_not_asked(c, k, |k| matches!(k, Call::RangeDays(..)))),
+            &[order_examples, range_spans, column_slots],
+        ),
+        (
+            "19 not asked of records by a delete",
+            call(|c, k| records_not_asked(c, k, |k| matches!(k, Call::Delete(_)))),
+            &[order_examples, column_slots],
+        ),
+        (
+            "19 not asked of records by a move",
+            call(|c, k| records_not_asked(c, k, |k| matches!(k, Call::Move(..)))),
+            &[order_examples, column_slots],
+        ),
+        (
+            "19 not asked of an insert's delivery",
+            call(inserted_not_asked),
+            &[order_examples, column_ledger, laid_ledger, column_slots],
+        ),
+        (
+            "19 not asked of a delete's delivery",
+            call(deleted_not_asked),
+            &[order_examples, column_ledger, laid_ledger, column_slots],
+        ),
+        (
+            "19 not asked of a move's delivery",
+            call(moved_not_asked),
+            &[order_examples, column_ledger, laid_ledger, column_slots],
         ),
         (
             "19 not asked by steps",
@@ -1606,12 +1643,50 @@ fn of_days() -> Vec<(&'static str, Mutant, &'static [Group])> {
         (
             "recorder does not ask for the days named",
             record(recorded_span_not_asked),
-            &[recorder_model],
+            &[recorder_model, set_examples],
         ),
         (
-            "recorder does not ask for the offered day",
-            record(recorded_day_not_asked),
-            &[recorder_model],
+            "recorder does not ask for an insert's day",
+            record(recorded_insert_not_asked),
+            &[recorder_model, set_examples],
+        ),
+        (
+            "recorder does not ask for the day of a delete or a move",
+            record(recorded_removal_not_asked),
+            &[recorder_model, set_examples],
+        ),
+        (
+            "recorder does not ask for the set's days",
+            record(recorded_set_not_asked),
+            &[set_examples],
+        ),
+        (
+            "recorder puts 19 of the set ahead of 8",
+            record(recorded_days_first),
+            &[set_examples],
+        ),
+        (
+            "19 not asked by the cost",
+            priced(cost_not_asked),
+            &[set_examples],
+        ),
+        (
+            "19 not asked by the planner",
+            plan(plan_not_asked),
+            &[set_examples],
+        ),
+        (
+            "19 not asked by the listing",
+            listed(list_not_asked),
+            &[set_examples],
+        ),
+        (
+            "19 not asked by applying a layout",
+            Mutant {
+                apply: Some(apply_not_asked),
+                ..Mutant::default()
+            },
+            &[set_examples],
         ),
         (
             "book of any days written",
@@ -1649,9 +1724,34 @@ fn of_days() -> Vec<(&'static str, Mutant, &'static [Group])> {
             &[export_days, csv::csv_round_trip],
         ),
         (
+            "19 not asked by the sheet",
+            sheet(sheet_not_asked),
+            &[sheets::sheet_refused],
+        ),
+        (
             "sheet of a term has every record",
             of_term(term_of_all),
-            &[term_examples, term_sheets, term_refused],
+            &[term_examples, term_sheets, term_years, term_refused],
+        ),
+        (
+            "sheet of a term without its first day",
+            of_term(term_without_first),
+            &[term_examples, term_sheets, term_years, term_refused],
+        ),
+        (
+            "sheet of a term without its last day",
+            of_term(term_without_last),
+            &[term_examples, term_sheets, term_years, term_refused],
+        ),
+        (
+            "sheet of a term has that of every year",
+            of_term(term_of_every_year),
+            &[term_sheets, term_years],
+        ),
+        (
+            "sheet of a term has the whole month",
+            of_term(term_of_month),
+            &[term_examples, term_sheets, term_years, term_refused],
         ),
         (
             "records outside the term not asked",
@@ -1666,7 +1766,7 @@ fn of_days() -> Vec<(&'static str, Mutant, &'static [Group])> {
         (
             "room for the records of every term",
             of_term(term_room_of_all),
-            &[term_examples, term_sheets, term_refused],
+            &[term_examples, term_sheets, term_years, term_refused],
         ),
         (
             "2000 no leap year",
@@ -1687,6 +1787,16 @@ fn of_days() -> Vec<(&'static str, Mutant, &'static [Group])> {
             "refused date with a day",
             numbered(refused_with_day),
             &[calendar_examples, calendar_century],
+        ),
+        (
+            "refused day with a date",
+            dated(refused_with_date),
+            &[calendar_examples],
+        ),
+        (
+            "refused day with a term",
+            termed(refused_with_term),
+            &[calendar_examples],
         ),
         (
             "days of the month from 0",

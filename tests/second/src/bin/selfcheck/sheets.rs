@@ -3,15 +3,16 @@
 
 use crate::groups::{damage, expected_read, main_column, Outcome};
 use crate::growers::{any_column, sound_column};
-use crate::model::{sheet, snapshot_text};
+use crate::model::{sheet, sheet_of, snapshot_text};
 use crate::random;
 use crate::require;
 use crate::subject::*;
 use second::random::Random;
 use second::*;
 
-/// Slices lent with so many elements; none is what an accepted call writes.
-fn lent(text: usize, order: usize, work: usize) -> Room {
+/// Text, order and work lent with so many elements; none is what an accepted call
+/// writes.
+fn lent([text, order, work]: [usize; 3]) -> Room {
     Room {
         text: vec![b'#'; text],
         order: vec![u32::MAX; order],
@@ -19,8 +20,36 @@ fn lent(text: usize, order: usize, work: usize) -> Room {
     }
 }
 
-/// An accepted column gives this text and this order in slices that are so much
-/// longer, and nothing else is written.
+/// The sheet of a column, or that of a day's term, in rooms of these lengths gives
+/// this text and this order and nothing else; refused, it leaves all that it was
+/// lent.
+pub fn sheet_is(
+    s: &dyn Subject,
+    (c, day): (&Column, Option<u32>),
+    rooms: [usize; 3],
+    expected: Result<(&[u8], &[u32]), u32>,
+) -> Outcome {
+    let mut room = lent(rooms);
+    let mut after = room.clone();
+    let number = expected.err().unwrap_or(0);
+    let (text, order) = expected.unwrap_or((&[], &[]));
+    after.text[..text.len()].copy_from_slice(text);
+    after.order[..order.len()].copy_from_slice(order);
+    after.work[..order.len()].fill(0);
+    let a = match day {
+        None => s.sheet(c, &mut room),
+        Some(day) => s.term_sheet(c, day, &mut room),
+    };
+    let right = a.refusal == number && a.written == text.len();
+    require!(right, "{a:?}, not {number}; day {day:?} of {c:?}");
+    let shown = room.text.escape_ascii();
+    require!(room.text == after.text, "text \"{shown}\"; {c:?}");
+    require!(room.order == after.order, "order {:?}; {c:?}", room.order);
+    require!(room.work == after.work, "work {:?}; {c:?}", room.work);
+    Ok(())
+}
+
+/// An accepted column in rooms that are so much longer.
 fn written(
     s: &dyn Subject,
     c: &Column,
@@ -28,34 +57,12 @@ fn written(
     more: [usize; 3],
 ) -> Outcome {
     let m = order.len();
-    let mut room = lent(text.len() + more[0], m + more[1], m + more[2]);
-    let mut expected = room.clone();
-    expected.text[..text.len()].copy_from_slice(text);
-    expected.order[..m].copy_from_slice(order);
-    expected.work[..m].fill(0);
-    let a = s.sheet(c, &mut room);
-    require!(
-        a.refusal == 0 && a.written == text.len(),
-        "{a:?}, not {} bytes; {c:?}",
-        text.len()
-    );
-    let shown = room.text.escape_ascii();
-    require!(room.text == expected.text, "text \"{shown}\"; {c:?}");
-    require!(room.order == expected.order, "order {:?}", room.order);
-    require!(room.work == expected.work, "work {:?}", room.work);
-    Ok(())
+    let rooms = [text.len() + more[0], m + more[1], m + more[2]];
+    sheet_is(s, (c, None), rooms, Ok((text, order)))
 }
 
-/// A refused column leaves all that it was lent.
-fn refused(s: &dyn Subject, c: &Column, mut room: Room, number: u32) -> Outcome {
-    let before = room.clone();
-    let a = s.sheet(c, &mut room);
-    require!(
-        a.refusal == number && a.written == 0,
-        "{a:?}, not {number}; {c:?}"
-    );
-    require!(room == before, "refused by {number}, but a slice changed");
-    Ok(())
+fn refused(s: &dyn Subject, c: &Column, rooms: [usize; 3], number: u32) -> Outcome {
+    sheet_is(s, (c, None), rooms, Err(number))
 }
 
 /// The sheet of 01's main column.
@@ -80,7 +87,7 @@ const MIXED: &str =
                    6              100308          1001170001
 ";
 
-const EMPTY: &str = "                   0                   0                   0\n";
+pub const EMPTY: &str = "                   0                   0                   0\n";
 
 fn mixed_column() -> Column {
     let mut c = Column {
@@ -105,14 +112,14 @@ pub fn sheet_examples(s: &dyn Subject, _: u64) -> Outcome {
     written(s, &c, mixed, [81, 1, 2])?;
     // Grower 50 is not in the partition of 20.
     c.growers[0] = 50;
-    refused(s, &c, lent(1_000, 6, 6), 6)?;
+    refused(s, &c, [1_000, 6, 6], 6)?;
     c.directory[LENGTHS..FENCES].fill(0);
     written(s, &c, (EMPTY.as_bytes(), &[]), [0; 3])?;
-    refused(s, &c, lent(60, 0, 0), 15)
+    refused(s, &c, [60, 0, 0], 15)
 }
 
 /// A sound column, in some cases after calls.
-fn settled_column(s: &dyn Subject, r: &mut Random) -> Column {
+pub fn settled_column(s: &dyn Subject, r: &mut Random) -> Column {
     let mut c = sound_column(r);
     for _ in 0..r.below(8) {
         let call = random::call(r, &c.records());
@@ -131,17 +138,17 @@ pub fn sheet_columns(s: &dyn Subject, cases: u64) -> Outcome {
         let more = [r.below(3) * r.below(90), r.below(3), r.below(3)];
         written(s, &c, (&text, &order), more)?;
         let m = order.len();
-        refused(s, &c, lent(text.len() - 1, m, m), 15)?;
+        refused(s, &c, [text.len() - 1, m, m], 15)?;
         if m > 0 {
-            refused(s, &c, lent(text.len(), m - 1, m + 1), 15)?;
-            refused(s, &c, lent(text.len(), m + 1, m - 1), 15)?;
+            refused(s, &c, [text.len(), m - 1, m + 1], 15)?;
+            refused(s, &c, [text.len(), m + 1, m - 1], 15)?;
         }
     }
     Ok(())
 }
 
 /// The numbers of a sheet's line.
-fn numbers(line: &str) -> Vec<u64> {
+pub fn numbers(line: &str) -> Vec<u64> {
     let fields = line.as_bytes().chunks(20);
     fields
         .map(|f| {
@@ -160,7 +167,7 @@ pub fn sheet_finds(s: &dyn Subject, cases: u64) -> Outcome {
     for _ in 0..cases {
         let mut c = settled_column(s, r);
         let m = c.used();
-        let mut room = lent(sheet_size(m), m, m);
+        let mut room = lent([sheet_size(m), m, m]);
         let a = s.sheet(&c, &mut room);
         require!(a.refusal == 0, "{a:?}; {c:?}");
         let text = String::from_utf8_lossy(&room.text[..a.written]);
@@ -186,43 +193,50 @@ pub fn sheet_finds(s: &dyn Subject, cases: u64) -> Outcome {
     Ok(())
 }
 
-/// Columns of any kind: 6 if one is unsound, 8 if a value is out of range, 19 if
-/// a day is, 15 if a room is short.
-pub fn sheet_refused(s: &dyn Subject, cases: u64) -> Outcome {
-    let r = &mut Random::new(21);
+/// Columns of any kind and a drawn day, none for the whole sheet: 6 if the column
+/// is unsound, 8 if a value is out of range, 19 if a day is, that of the term too,
+/// 15 if a room is short.
+pub fn any_sheet(
+    s: &dyn Subject,
+    (seed, cases): (u64, u64),
+    drawn: impl Fn(&mut Random) -> Option<u32>,
+) -> Outcome {
+    let r = &mut Random::new(seed);
     let mut met = [0u32; 20];
     for _ in 0..cases {
-        let c = any_column(r);
-        let m = c.used();
-        let is_bad = c.records().iter().any(|d| !d.in_range());
-        let is_late = c.records().iter().any(|d| d.day > 36_524);
-        let (text, order) = sheet(&c);
-        let exact = [text.len(), m, m];
+        let (c, day) = (any_column(r), drawn(r));
+        let records = c.records();
+        let is_late = |day: u32| day > 36_524;
+        let term = day.map(|day| s.term_of(day));
+        let chosen = |n: u32| term.is_none_or(|t| (t.first..=t.last).contains(&n));
+        let (text, order) = sheet_of(&c, chosen);
+        let exact = [text.len(), order.len(), order.len()];
         let mut rooms = exact.map(|n| n + r.below(2));
         if r.one_in(3) {
             let i = r.below(3);
             rooms[i] = r.below(exact[i] + 1);
         }
-        let is_short = rooms.iter().zip(exact).any(|(&n, least)| n < least);
-        let number = match (c.is_sound(), is_bad, is_late, is_short) {
-            (false, ..) => 6,
-            (true, true, ..) => 8,
-            (true, false, true, _) => 19,
-            (true, false, false, true) => 15,
-            _ => 0,
+        let number = match () {
+            () if !c.is_sound() => 6,
+            () if records.iter().any(|d| !d.in_range()) => 8,
+            () if day.is_some_and(is_late) || records.iter().any(|d| is_late(d.day)) => 19,
+            () if rooms.iter().zip(exact).any(|(&n, least)| n < least) => 15,
+            () => 0,
         };
         met[number as usize] += 1;
-        match number {
-            0 => {
-                let more = [0, 1, 2].map(|i| rooms[i] - exact[i]);
-                written(s, &c, (&text, &order), more)?;
-            }
-            _ => refused(s, &c, lent(rooms[0], rooms[1], rooms[2]), number)?,
-        }
+        let expected = match number {
+            0 => Ok((&text[..], &order[..])),
+            _ => Err(number),
+        };
+        sheet_is(s, (&c, day), rooms, expected)?;
     }
     let every = [0, 6, 8, 15, 19].iter().all(|&number| met[number] > 0);
     require!(every || cases < 500, "not every outcome was met: {met:?}");
     Ok(())
+}
+
+pub fn sheet_refused(s: &dyn Subject, cases: u64) -> Outcome {
+    any_sheet(s, (21, cases), |_| None)
 }
 
 /// A column of one partition, and of 64 with so many growers each.

@@ -85,6 +85,13 @@ pub fn days_ignored(c: &mut Column, call: &Call) -> Answer {
     respanned(c, call, |_| Span::ALL)
 }
 
+/// The range ends with the term of its first day.
+pub fn one_term_only(c: &mut Column, call: &Call) -> Answer {
+    respanned(c, call, |span| {
+        Span::new(span.first, span.last.min(term_of(span.first).last))
+    })
+}
+
 /// A last day that is earlier is taken as the first.
 pub fn days_exchanged(c: &mut Column, call: &Call) -> Answer {
     respanned(c, call, |span| {
@@ -164,24 +171,45 @@ pub fn days_first(c: &mut Column, call: &Call) -> Answer {
     }
 }
 
-/// The days of records are not asked.
-pub fn records_not_asked(c: &mut Column, call: &Call) -> Answer {
-    let days = c.days.clone();
-    let late: Vec<usize> = (0..c.used()).filter(|&s| days[s] > DAY_LIMIT).collect();
-    if late.is_empty() || matches!(call, Call::Insert(_) | Call::Delete(_) | Call::Move(..)) {
+/// The days of records are not asked by some calls.
+pub fn records_not_asked(c: &mut Column, call: &Call, by: fn(&Call) -> bool) -> Answer {
+    if !by(call) {
         return library_call(c, call);
     }
-    late.iter().for_each(|&s| c.days[s] = DAY_LIMIT);
+    let (days, used) = (c.days.clone(), c.used());
+    let early = |day: &mut u32| *day = (*day).min(DAY_LIMIT);
+    c.days[..used].iter_mut().for_each(early);
     let a = library_call(c, call);
-    c.days = days;
+    if a.refusal != 0 || !matches!(call, Call::Delete(_) | Call::Move(..)) {
+        c.days = days;
+    }
     a
 }
 
-/// The offered day is not asked.
-pub fn offered_not_asked(c: &mut Column, call: &Call) -> Answer {
+fn early(d: Delivery) -> Delivery {
+    d.on(d.day.min(DAY_LIMIT))
+}
+
+/// The offered day is not asked by an insert.
+pub fn inserted_not_asked(c: &mut Column, call: &Call) -> Answer {
     match *call {
-        Call::Insert(d) => library_call(c, &Call::Insert(d.on(d.day.min(DAY_LIMIT)))),
-        Call::Delete(d) => library_call(c, &Call::Delete(d.on(d.day.min(DAY_LIMIT)))),
+        Call::Insert(d) => library_call(c, &Call::Insert(early(d))),
+        _ => library_call(c, call),
+    }
+}
+
+/// The offered day is not asked by a delete.
+pub fn deleted_not_asked(c: &mut Column, call: &Call) -> Answer {
+    match *call {
+        Call::Delete(d) => library_call(c, &Call::Delete(early(d))),
+        _ => library_call(c, call),
+    }
+}
+
+/// The offered day is not asked by a move.
+pub fn moved_not_asked(c: &mut Column, call: &Call) -> Answer {
+    match *call {
+        Call::Move(d, g) => library_call(c, &Call::Move(early(d), g)),
         _ => library_call(c, call),
     }
 }
@@ -193,15 +221,14 @@ pub fn steps_not_asked(c: &Column, step: &Step) -> GrowerAnswer {
 
 /// A delivery of the set on another day is entered as if it were the one.
 pub fn recorded_any_day(set: &UnlaidSet, h: &mut [u32], call: &Call) -> u32 {
-    let equal = |d: &Delivery| {
-        (0..set.m)
-            .map(|s| Delivery::new(set.growers[s], set.weights[s], set.yields[s]).on(set.days[s]))
-            .find(|held| held.on(d.day) == *d)
+    let held = |d: Delivery| {
+        let of = |s: usize| Delivery::new(set.growers[s], set.weights[s], set.yields[s]);
+        let own = (0..set.m).find(|&s| of(s).on(d.day) == d && d.day_in_range());
+        own.map_or(d, |s| d.on(set.days[s]))
     };
     match *call {
-        Call::Delete(d) if d.day_in_range() => {
-            library_record(set, h, &Call::Delete(equal(&d).unwrap_or(d)))
-        }
+        Call::Delete(d) => library_record(set, h, &Call::Delete(held(d))),
+        Call::Move(d, g) => library_record(set, h, &Call::Move(held(d), g)),
         _ => library_record(set, h, call),
     }
 }
@@ -224,12 +251,72 @@ pub fn recorded_span_not_asked(set: &UnlaidSet, h: &mut [u32], call: &Call) -> u
     }
 }
 
-/// The recorder does not ask for the offered day.
-pub fn recorded_day_not_asked(set: &UnlaidSet, h: &mut [u32], call: &Call) -> u32 {
+/// The recorder does not ask for the day of an insert.
+pub fn recorded_insert_not_asked(set: &UnlaidSet, h: &mut [u32], call: &Call) -> u32 {
     match *call {
-        Call::Insert(d) => library_record(set, h, &Call::Insert(d.on(0))),
+        Call::Insert(d) => library_record(set, h, &Call::Insert(early(d))),
         _ => library_record(set, h, call),
     }
+}
+
+/// The recorder does not ask for the day of a delete or a move.
+pub fn recorded_removal_not_asked(set: &UnlaidSet, h: &mut [u32], call: &Call) -> u32 {
+    match *call {
+        Call::Delete(d) => library_record(set, h, &Call::Delete(early(d))),
+        Call::Move(d, g) => library_record(set, h, &Call::Move(early(d), g)),
+        _ => library_record(set, h, call),
+    }
+}
+
+/// Asks with the days of a set that are above the limit at it.
+fn with_early<A>(set: &UnlaidSet, ask: impl FnOnce(&UnlaidSet) -> A) -> A {
+    let days: Vec<u32> = set.days.iter().map(|&day| day.min(DAY_LIMIT)).collect();
+    ask(&UnlaidSet {
+        days: &days,
+        ..*set
+    })
+}
+
+/// The recorder does not ask for the days of the set.
+pub fn recorded_set_not_asked(set: &UnlaidSet, h: &mut [u32], call: &Call) -> u32 {
+    with_early(set, |set| library_record(set, h, call))
+}
+
+/// The recorder asks for the days of the set ahead of weights and yields.
+pub fn recorded_days_first(set: &UnlaidSet, h: &mut [u32], call: &Call) -> u32 {
+    let late = set.days.iter().take(set.m).any(|&day| day > DAY_LIMIT);
+    match library_record(set, &mut h.to_vec(), call) {
+        8 if late => 19,
+        _ => library_record(set, h, call),
+    }
+}
+
+/// The cost of a layout does not ask for days.
+pub fn cost_not_asked(card: &PriceCard, set: &UnlaidSet, h: &[u32], ends: &[u32]) -> CostAnswer {
+    with_early(set, |set| cost(card, set, h, ends))
+}
+
+/// The planner does not ask for days.
+pub fn plan_not_asked(
+    card: &PriceCard,
+    limits: &Limits,
+    set: &UnlaidSet,
+    h: &[u32],
+    out: &mut [u32],
+) -> PlanAnswer {
+    with_early(set, |set| plan_by_table(card, limits, set, h, out))
+}
+
+/// The listing does not ask for days.
+pub fn list_not_asked(case: &Case, out: &mut [u8]) -> ListAnswer {
+    let mut early = case.clone();
+    early.set.days.fill(0);
+    library_list(&early, out)
+}
+
+/// Applying a layout does not ask for days.
+pub fn apply_not_asked(set: &UnlaidSet, ends: &[u32]) -> DirectoryAnswer {
+    with_early(set, |set| apply_layout(set, ends))
 }
 
 /// A book is written whatever the days.
@@ -290,6 +377,11 @@ pub fn export_without_days(used: usize, c: &Column, out: &mut [u8]) -> TextAnswe
     }
 }
 
+/// The sheet does not ask for days.
+pub fn sheet_not_asked(c: &Column, room: &mut Room) -> TextAnswer {
+    library_sheet(&c.clone().undated(), room)
+}
+
 /// The sheet of a term is the column's.
 pub fn term_of_all(c: &Column, day: u32, room: &mut Room) -> TextAnswer {
     match term_of(day).refusal {
@@ -310,6 +402,50 @@ pub fn term_asked_alone(c: &Column, day: u32, room: &mut Room) -> TextAnswer {
         }
     }
     library_term_sheet(&good, day, room)
+}
+
+/// The sheet of a term with some of the records, by their days and the term.
+fn of_records(
+    c: &Column,
+    day: u32,
+    room: &mut Room,
+    chosen: impl Fn(u32, &TermAnswer) -> bool,
+) -> TextAnswer {
+    let term = term_of(day);
+    let outside = if term.first > 0 { 0 } else { DAY_LIMIT };
+    let mut other = c.clone();
+    for held in other.days[..c.used()].iter_mut() {
+        if *held <= DAY_LIMIT && term.refusal == 0 {
+            *held = if chosen(*held, &term) { day } else { outside };
+        }
+    }
+    library_term_sheet(&other, day, room)
+}
+
+/// The sheet of a term lacks its first day.
+pub fn term_without_first(c: &Column, day: u32, room: &mut Room) -> TextAnswer {
+    of_records(c, day, room, |n, term| term.first < n && n <= term.last)
+}
+
+/// The sheet of a term lacks its last day.
+pub fn term_without_last(c: &Column, day: u32, room: &mut Room) -> TextAnswer {
+    of_records(c, day, room, |n, term| term.first <= n && n < term.last)
+}
+
+/// The sheet of a term has the same term of every year.
+pub fn term_of_every_year(c: &Column, day: u32, room: &mut Room) -> TextAnswer {
+    of_records(c, day, room, |n, term| {
+        let [own, other] = [term.first, n].map(date_of);
+        (own.month, own.day > 15) == (other.month, other.day > 15)
+    })
+}
+
+/// The sheet of a term has the whole month.
+pub fn term_of_month(c: &Column, day: u32, room: &mut Room) -> TextAnswer {
+    of_records(c, day, room, |n, term| {
+        let [own, other] = [term.first, n].map(date_of);
+        (own.year, own.month) == (other.year, other.month)
+    })
 }
 
 /// A day above the limit has an empty sheet.
@@ -389,7 +525,25 @@ pub fn refused_with_day(year: u32, month: u32, day: u32) -> DayAnswer {
     a
 }
 
-/// Months and days are counted from 0.
+/// A refused day has a date all the same.
+pub fn refused_with_date(day: u32) -> DateAnswer {
+    let mut a = date_of(day);
+    if a.refusal != 0 {
+        (a.year, a.month, a.day) = (2100, 1, 1);
+    }
+    a
+}
+
+/// A refused day has a term all the same.
+pub fn refused_with_term(day: u32) -> TermAnswer {
+    let mut a = term_of(day);
+    if a.refusal != 0 {
+        (a.first, a.last) = (DAY_LIMIT + 1, DAY_LIMIT + 15);
+    }
+    a
+}
+
+/// Days of the month are counted from 0.
 pub fn date_from_zero(day: u32) -> DateAnswer {
     let mut a = date_of(day);
     if a.refusal == 0 {
