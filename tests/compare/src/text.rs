@@ -2,6 +2,7 @@
 
 use crate::memory::Memory;
 use second::random::Random;
+use second::SLOT_LIMIT;
 
 /// The name of a text among the slices of a call.
 pub const TEXT: [&str; 1] = ["text"];
@@ -79,6 +80,22 @@ impl Lent {
         }
     }
 }
+
+/// Lengths of the four slices that are refused: none, unequal, and past the limit.
+pub const REFUSED: [[usize; 4]; 12] = [
+    [0; 4],
+    [0, 9, 9, 9],
+    [9, 0, 9, 9],
+    [9, 9, 0, 9],
+    [9, 9, 9, 0],
+    [9, 9, 9, 8],
+    [9, 9, 8, 9],
+    [8, 9, 9, 9],
+    [9, 10, 9, 9],
+    [SLOT_LIMIT + 1; 4],
+    [SLOT_LIMIT, SLOT_LIMIT, SLOT_LIMIT + 1, SLOT_LIMIT],
+    [SLOT_LIMIT, SLOT_LIMIT, SLOT_LIMIT, SLOT_LIMIT + 1],
+];
 
 /// Slots as they may be before reading; none is 0.
 pub fn old_slots<const N: usize>(r: &mut Random, lengths: [usize; N]) -> [Vec<u32>; N] {

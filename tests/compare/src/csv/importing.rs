@@ -5,7 +5,7 @@ use super::damage::{damages, Damage};
 use super::file::{number_text, quoted, File, LIMITS, LONG, NAMES, ZEROS};
 use super::seen;
 use crate::inputs::{self, EDGE_COUNTS};
-use crate::text::{old_slots, Lent, Text, LENT};
+use crate::text::{old_slots, Lent, Text, LENT, REFUSED};
 use crate::Run;
 use meltusk::{Library, LIBRARIES};
 use second::random::Random;
@@ -428,32 +428,17 @@ pub fn long(run: &mut Run) -> Result<(), String> {
 /// Slices of no slot, of unequal lengths and past the limit, whatever the
 /// text; and the longest that are accepted.
 pub fn slice_lengths(run: &mut Run) -> Result<(), String> {
-    let limit = SLOT_LIMIT;
-    let refused = [
-        [0; 4],
-        [0, 9, 9, 9],
-        [9, 0, 9, 9],
-        [9, 9, 0, 9],
-        [9, 9, 9, 0],
-        [9, 9, 9, 8],
-        [9, 9, 8, 9],
-        [8, 9, 9, 9],
-        [9, 10, 9, 9],
-        [limit + 1; 4],
-        [limit, limit, limit + 1, limit],
-        [limit, limit, limit, limit + 1],
-    ];
     let rows = deliveries(&[[12, 3, 4], [5, 6, 7]]);
     run.cases(89, 1, |run, r| {
         let whole = Text::whole(SMALL[0]);
         for library in LIBRARIES {
             for text in [SMALL[0], &SMALL[0][1..], &SMALL[0][..25], &[]] {
                 let text = Text::whole(text);
-                for lengths in refused {
+                for lengths in REFUSED {
                     import_is(run, r, &library, &text, lengths, Err(3))?;
                 }
             }
-            import_is(run, r, &library, &whole, [limit; 4], Ok(&rows))?;
+            import_is(run, r, &library, &whole, [SLOT_LIMIT; 4], Ok(&rows))?;
         }
         Ok(())
     })

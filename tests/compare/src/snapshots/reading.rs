@@ -6,7 +6,7 @@ use super::seen;
 use super::writing::{lines, same_column};
 use crate::inputs::{self, Kind, EDGE_COUNTS};
 use crate::lists;
-use crate::text::{old_slots, Lent, Text, LENT};
+use crate::text::{old_slots, Lent, Text, LENT, REFUSED};
 use crate::Run;
 use meltusk::{spread_growers, Column, Library, LIBRARIES};
 use second::random::Random;
@@ -292,27 +292,12 @@ pub fn line1(run: &mut Run) -> Result<(), String> {
 /// Slices of no slot, of unequal lengths and past the limit, whatever the
 /// text.
 pub fn slice_lengths(run: &mut Run) -> Result<(), String> {
-    let limit = SLOT_LIMIT;
-    let refused = [
-        [0; 4],
-        [0, 9, 9, 9],
-        [9, 0, 9, 9],
-        [9, 9, 0, 9],
-        [9, 9, 9, 0],
-        [9, 9, 9, 8],
-        [9, 9, 8, 9],
-        [8, 9, 9, 9],
-        [9, 10, 9, 9],
-        [limit + 1; 4],
-        [limit, limit, limit + 1, limit],
-        [limit, limit, limit, limit + 1],
-    ];
     run.cases(71, 2, |run, r| {
         let text = text_of(&lists::main_column())?;
         for library in LIBRARIES {
             for text in [&text[..], &text[1..], &[]] {
                 let text = Text::whole(text);
-                for lengths in refused {
+                for lengths in REFUSED {
                     let old = old_slots(r, lengths);
                     let (refusal, _) = read_back(r, &mut run.seen, &library, &text, &old)?;
                     if refusal != 3 {
