@@ -2,7 +2,7 @@
  * A C host: first the marked examples, each call on a fresh column of growers
  * 10 to 80; then a week at a mill, from the recorded calls to the next plan, with
  * a payment screen that steps from grower to grower, a settlement sheet and those
- * of two terms; then a weighbridge file.
+ * of terms; then a weighbridge file.
  * Prints each step, and exits nonzero if an answer is not the expected one.
  *
  *   cc -std=c11 -Wall -Wextra -Werror -Iinclude examples/host.c \

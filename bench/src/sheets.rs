@@ -3,7 +3,7 @@
 use crate::columns::{LIBRARY, OURS, SECOND};
 use crate::sets::{drawn, Layouts, HARVEST};
 use crate::timing::{timed, Times, REPETITIONS};
-use meltusk::{even_ends, sheet_second, spread_growers, term_sheet_second, Column, Slots};
+use meltusk::{even_ends, sheet_second, spread_growers, Column, Slots};
 use second::random::{case_seed, Random};
 use second::{sheet_size, BLOCK_LIMIT, SLOT_LIMIT};
 
@@ -89,11 +89,9 @@ impl Side {
     /// The refusal of the whole sheet, or of that of a day's term.
     fn write(&mut self, side: usize, c: &Column, day: Option<u32>) -> u32 {
         let Side { text, order, work } = self;
-        let a = match (side, day) {
-            (OURS, None) => LIBRARY.write_sheet(&c.view(), text, order, work),
-            (OURS, Some(day)) => LIBRARY.write_term_sheet(&c.view(), day, text, order, work),
-            (_, None) => sheet_second(&c.view(), text, order, work),
-            (_, Some(day)) => term_sheet_second(&c.view(), day, text, order, work),
+        let a = match side {
+            OURS => LIBRARY.sheet(&c.view(), day, text, order, work),
+            _ => sheet_second(&c.view(), day, text, order, work),
         };
         a.refusal
     }

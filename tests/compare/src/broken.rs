@@ -126,7 +126,7 @@ pub fn stepped_over(step: &Step, view: &View) -> (usize, usize) {
 }
 
 /// The partitions that a call scans, first and last.
-fn scanned(asked: &Asked, c: &Column) -> Option<(usize, usize)> {
+pub fn scanned(asked: &Asked, c: &Column) -> Option<(usize, usize)> {
     let view = c.view();
     let call = match asked {
         Asked::Call(call) => *call,
@@ -339,10 +339,11 @@ pub fn base(r: &mut Random) -> Column {
     }
 }
 
-/// Of two refusals the one whose check is put first: they are in the order of
-/// their numbers, but 19 comes just after 8.
+/// Of two refusals, 0 for none, the one whose check is put first: they are in the
+/// order of their numbers, but 19 comes just after 8.
 pub fn asked_first(a: u32, b: u32) -> u32 {
     let place = |number: u32| match number {
+        0 => u32::MAX,
         19 => 17,
         n => 2 * n,
     };

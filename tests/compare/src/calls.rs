@@ -52,7 +52,8 @@ pub const NAMES: [&str; 5] = ["growers", "weights", "yields", "days", "directory
 /// Those of the slots.
 pub const SLOT_NAMES: [&str; 4] = ["growers", "weights", "yields", "days"];
 
-fn slices([growers, weights, yields, days, directory]: [&mut [u32]; 5]) -> ColumnSlices<'_> {
+/// The column in slices lent in this order.
+pub fn slices([growers, weights, yields, days, directory]: [&mut [u32]; 5]) -> ColumnSlices<'_> {
     ColumnSlices {
         directory,
         growers,

@@ -1,12 +1,12 @@
-//! Days: dates and terms over the whole century, check 19 beside check 8 in each
-//! position, deliveries that differ in the day alone, and what a day leaves as it
-//! was.
+//! Days: dates and terms over the whole century, check 19 beside check 8 in every
+//! place, deliveries that differ in the day alone, and what a day leaves as it was.
 
-use crate::broken;
+use crate::bad::{self, Bad};
+use crate::broken::{self, asked_first};
 use crate::calls::{Asked, Outcome, Pair};
 use crate::inputs::{self, Kind};
 use crate::{Run, Test};
-use meltusk::{Call, Column, DateAnswer, DayAnswer, Step, TermAnswer};
+use meltusk::{Call, Column, DateAnswer, DayAnswer, Slots, Step, TermAnswer, Totals};
 use second::random::Random;
 use second::{Delivery, Span, DAY_LIMIT, WEIGHT_LIMIT, YIELD_LIMIT};
 
@@ -97,9 +97,9 @@ fn odd_dates(run: &mut Run) -> Result<(), String> {
     })
 }
 
-/// What is asked of a delivery's grower; ranges over all growers.
-fn each_call(r: &mut Random, d: Delivery) -> [Asked; 9] {
-    [
+/// What is asked about a delivery that a column holds; ranges over all growers.
+fn each_call(r: &mut Random, d: Delivery) -> Vec<Asked> {
+    vec![
         Call::Find(d.grower).into(),
         Call::Range(0, u32::MAX).into(),
         Call::RangeDays(0, u32::MAX, Span::ALL).into(),
@@ -112,108 +112,53 @@ fn each_call(r: &mut Random, d: Delivery) -> [Asked; 9] {
     ]
 }
 
-/// The slots that a call scans.
-fn scanned(c: &Column, asked: &Asked) -> std::ops::Range<usize> {
-    let view = c.view();
-    let span = |p: usize, q: usize| view.start(p)..view.start(q + 1);
-    match asked {
-        Asked::Call(Call::Insert(_)) | Asked::Partition(_) => 0..0,
-        Asked::Call(Call::Range(..) | Call::RangeDays(..)) => 0..view.used(),
-        Asked::Call(Call::Find(g)) => span(view.partition_of(*g), view.partition_of(*g)),
-        Asked::Call(Call::Delete(d) | Call::Move(d, _)) => {
-            span(view.partition_of(d.grower), view.partition_of(d.grower))
-        }
-        Asked::Step(step) => {
-            let (low, high) = broken::stepped_over(step, &view);
-            span(low, high)
-        }
+/// The same, accepted; then with days that are out of range, and with a weight or
+/// a yield of the delivery offered. Each with its refusal.
+fn each_fault(r: &mut Random, d: Delivery) -> Vec<(Asked, u32)> {
+    let accepted = each_call(r, d).into_iter().map(|asked| (asked, 0));
+    let mut all: Vec<(Asked, u32)> = accepted.collect();
+    let (day, late) = (inputs::day(r), inputs::day_out(r));
+    for span in [Span::new(late, day), Span::new(day, late)] {
+        all.push((Call::RangeDays(0, u32::MAX, span).into(), 19));
     }
+    let mut bad = d;
+    match r.one_in(2) {
+        true => bad.weight = inputs::weight_out(r),
+        false => bad.oil_yield = inputs::oil_yield_out(r),
+    }
+    let grower = r.next() as u32;
+    for (d, number) in [(d.on(late), 19), (bad, 8), (bad.on(late), 8)] {
+        let calls = [Call::Insert(d), Call::Delete(d), Call::Move(d, grower)];
+        all.extend(calls.map(|call| (call.into(), number)));
+    }
+    all
 }
 
-/// A bad day in one record and a bad weight or yield in another, or in the same,
-/// before it or behind it: 8 if a bad value is scanned, else 19 if a bad day is.
-fn beside_values(run: &mut Run) -> Result<(), String> {
-    run.cases(141, 400, |run, r| {
+/// The slots that a call scans.
+fn scanned(c: &Column, asked: &Asked) -> std::ops::Range<usize> {
+    let slots = |(p, q)| c.view().start(p)..c.view().start(q + 1);
+    broken::scanned(asked, c).map_or(0..0, slots)
+}
+
+/// Days out of range beside weights and yields out of range, offered, named and in
+/// every record: 8 of all that is offered and scanned, then 19.
+fn every_place(run: &mut Run) -> Result<(), String> {
+    run.cases(141, 60, |run, r| {
         let library = inputs::library(r);
-        let clean = broken::base(r);
+        let clean = bad::column(r);
         let used = clean.view().used();
         let d = clean.view().slot(r.below(used));
-        for asked in each_call(r, d) {
+        for (asked, number) in each_fault(r, d) {
             let near = scanned(&clean, &asked);
-            for day_at in 0..used {
+            for bad in Bad::every(r, used) {
                 let mut c = clean.clone();
-                c.days[day_at] = inputs::day_out(r);
-                let value_at = (!r.one_in(3)).then(|| r.below(used));
-                match value_at {
-                    Some(at) if r.one_in(2) => c.weights[at] = inputs::weight_out(r),
-                    Some(at) => c.yields[at] = inputs::oil_yield_out(r),
-                    None => {}
-                }
-                let expected = match () {
-                    () if value_at.is_some_and(|at| near.contains(&at)) => 8,
-                    () if near.contains(&day_at) => 19,
-                    () => 0,
-                };
+                bad.put(r, c.slices());
+                let expected = asked_first(number, bad.refusal(&near));
                 let outcome = Pair::new(r, &c).ask(&mut run.seen, &library, asked)?;
                 if outcome.refusal() != expected {
                     return Err(format!(
-                        "{asked:?}, day of {day_at}, value of {value_at:?}: {outcome:?} of {c:?}"
+                        "{asked:?}, {bad:?}: {outcome:?}, not {expected}; {c:?}"
                     ));
-                }
-            }
-        }
-        Ok(())
-    })
-}
-
-/// The delivery offered has a bad day, a bad weight or both, and so has a record
-/// of its partition: 8 of both ahead of 19 of both.
-fn offered(run: &mut Run) -> Result<(), String> {
-    run.cases(142, 1_500, |run, r| {
-        let library = inputs::library(r);
-        let clean = broken::base(r);
-        let used = clean.view().used();
-        let at = r.below(used);
-        let d = clean.view().slot(at);
-        for (offered, held) in [
-            (0, 1),
-            (1, 0),
-            (0, 2),
-            (2, 0),
-            (1, 1),
-            (1, 2),
-            (2, 1),
-            (3, 3),
-        ] {
-            // 1 a bad day, 2 a bad weight, 3 both.
-            let mut c = clean.clone();
-            let mut given = d;
-            if held & 1 == 1 {
-                c.days[at] = inputs::day_out(r);
-            }
-            if held & 2 == 2 {
-                c.weights[at] = inputs::weight_out(r);
-            }
-            if offered & 1 == 1 {
-                given.day = inputs::day_out(r);
-            }
-            if offered & 2 == 2 {
-                given.weight = inputs::weight_out(r);
-            }
-            let of = |faults: u32| match faults {
-                0 => 0,
-                1 => 19,
-                _ => 8,
-            };
-            let grower = inputs::near(r, &c.view(), used);
-            for (call, expected) in [
-                (Call::Insert(given), of(offered)),
-                (Call::Delete(given), of(offered | held)),
-                (Call::Move(given, grower), of(offered | held)),
-            ] {
-                let outcome = Pair::new(r, &c).ask(&mut run.seen, &library, call)?;
-                if outcome.refusal() != expected {
-                    return Err(format!("{call:?} of {c:?}: {outcome:?}, not {expected}"));
                 }
             }
         }
@@ -253,47 +198,92 @@ fn another_day(run: &mut Run) -> Result<(), String> {
     })
 }
 
-/// A range over every day is the range; one over no day has its counts and no
-/// record; and of the days cut in two the parts have together what the whole has.
+/// Puts the days of the records into runs of one day each.
+fn put_runs(r: &mut Random, c: &mut Column) {
+    let (mut at, used) = (0, c.view().used());
+    while at < used {
+        let past = used.min(at + r.within(1, 200));
+        c.days[at..past].fill(inputs::day(r));
+        at = past;
+    }
+}
+
+/// The totals of growers lo to hi on some days, slot by slot.
+fn totals(c: &Column, (lo, hi): (u32, u32), span: Span) -> Totals {
+    let mut t = second::Totals::ZERO;
+    for i in scanned(c, &Call::Range(lo, hi).into()) {
+        let d = c.view().slot(i);
+        if lo <= d.grower && d.grower <= hi && span.holds(d.day) {
+            t.records += 1;
+            t.weight += u64::from(d.weight);
+            t.oil += u64::from(d.weight) * u64::from(d.oil_yield);
+        }
+    }
+    t.into()
+}
+
+/// Ranges over one day, a term, days of two terms, no day, every day and the days
+/// cut in two: each has the scan of the range over the growers and the totals of
+/// the records on its days. With a day past the last it is refused.
 fn spans(run: &mut Run) -> Result<(), String> {
     run.cases(144, 4_000, |run, r| {
         let library = inputs::library(r);
         let kind = r.pick(&[Kind::Sound, Kind::Unsound, Kind::Full, Kind::Large]);
-        let c = inputs::column(r, kind);
-        let mut pair = Pair::new(r, &c);
-        let used = c.view().used();
-        let (x, y) = (
-            inputs::near(r, &c.view(), used),
-            inputs::near(r, &c.view(), used),
-        );
+        let mut c = inputs::clean_column(r, kind);
+        if r.one_in(2) {
+            put_runs(r, &mut c);
+        }
+        let (view, used) = (c.view(), c.view().used());
+        let [x, y] = [0; 2].map(|_| inputs::near(r, &view, used));
         let (lo, hi) = (x.min(y), x.max(y));
+        let day = match used {
+            0 => inputs::day(r),
+            _ => c.days[r.below(used)],
+        };
+        let (term, cut) = (second::term_of(day), inputs::day(r).min(DAY_LIMIT - 1));
+        let mut pair = Pair::new(r, &c);
         let mut ask = |run: &mut Run, call: Call| match pair.ask(&mut run.seen, &library, call)? {
             Outcome::Answer(a) => Ok(a),
             other => Err(format!("{call:?}: {other:?}")),
         };
         let whole = ask(run, Call::Range(lo, hi))?;
-        let all = ask(run, Call::RangeDays(lo, hi, Span::ALL))?;
-        let none = ask(run, Call::RangeDays(lo, hi, Span::new(1, 0)))?;
-        let cut = inputs::day(r).min(DAY_LIMIT - 1);
-        let one = ask(run, Call::RangeDays(lo, hi, Span::new(0, cut)))?;
-        let two = ask(run, Call::RangeDays(lo, hi, Span::new(cut + 1, DAY_LIMIT)))?;
-        let same = [none, one, two]
-            .iter()
-            .all(|a| (a.refusal, a.counts) == (whole.refusal, whole.counts));
-        let sums = one.totals.records + two.totals.records == whole.totals.records
-            && one.totals.weight + two.totals.weight == whole.totals.weight
-            && one.totals.oil + two.totals.oil == whole.totals.oil;
-        match all == whole && same && sums && none.totals.records == 0 {
-            true => Ok(()),
-            false => Err(format!(
-                "{lo} to {hi} cut at {cut}: {whole:?}, {all:?}, {none:?}, {one:?}, {two:?} of {c:?}"
-            )),
+        for (first, last) in [
+            (day, day),
+            (term.first, term.last),
+            (term.first.saturating_sub(1), term.last),
+            (term.first, DAY_LIMIT.min(term.last + 1)),
+            (day.max(1), day.max(1) - 1),
+            (DAY_LIMIT, 0),
+            (0, cut),
+            (cut + 1, DAY_LIMIT),
+            (0, DAY_LIMIT),
+        ] {
+            let span = Span::new(first, last);
+            let a = ask(run, Call::RangeDays(lo, hi, span))?;
+            let totals = totals(&c, (lo, hi), span);
+            let same = (a.refusal, a.counts) == (whole.refusal, whole.counts);
+            if !same || a.totals != totals {
+                return Err(format!(
+                    "{lo} to {hi}, {span:?}: {a:?}, not {totals:?} of {whole:?}; {c:?}"
+                ));
+            }
         }
+        for span in [
+            Span::new(inputs::day_out(r), day),
+            Span::new(day, inputs::day_out(r)),
+            Span::new(inputs::day_out(r), inputs::day_out(r)),
+        ] {
+            let a = ask(run, Call::RangeDays(lo, hi, span))?;
+            if (a.refusal, a.counts.rr, a.totals.records) != (19, 0, 0) {
+                return Err(format!("{lo} to {hi}, {span:?}: {a:?} of {c:?}"));
+            }
+        }
+        Ok(())
     })
 }
 
-/// The days alone do not change what else a call does: a column and the same
-/// without days answer alike, but for 13 where only the day differs.
+/// Finds, ranges, inserts and steps do not look at the days of records: a column
+/// and the same without days answer alike, and keep all but the days alike.
 fn undated(run: &mut Run) -> Result<(), String> {
     run.cases(145, 3_000, |run, r| {
         let library = inputs::library(r);
@@ -350,10 +340,15 @@ fn every_answer(run: &mut Run) -> Result<(), String> {
 pub const TESTS: &[(&str, Test)] = &[
     ("days: every day and date of the century", century),
     ("days: numbers around every range of a date", odd_dates),
-    ("days: 19 beside 8, each record", beside_values),
-    ("days: 19 beside 8, offered and held", offered),
+    (
+        "days: 19 beside 8, offered and in every record",
+        every_place,
+    ),
     ("days: equal but for the day", another_day),
-    ("days: ranges over days against ranges", spans),
+    (
+        "days: ranges over one day, terms, no day, past the last",
+        spans,
+    ),
     ("days: a column and the same without days", undated),
     ("days: all at their limits", at_limits),
     ("days: every answer has occurred", every_answer),

@@ -2,12 +2,13 @@
 //! ledger too; whole columns stepped through; values out of range that are
 //! scanned and that are not.
 
+use crate::bad::Bad;
 use crate::broken::{self, stepped_over};
 use crate::calls::{Asked, Outcome, Pair};
 use crate::inputs::{self, Kind, MIXES};
 use crate::lists;
 use crate::{Run, Test};
-use meltusk::{Call, Column, Counts, Library, Seen, Step, Stepped, Totals, View};
+use meltusk::{Call, Column, Counts, Library, Seen, Slots, Step, Stepped, Totals, View};
 use second::random::Random;
 use second::{Ledger, DIRECTORY_LEN, FENCES, LENGTHS};
 use std::collections::BTreeMap;
@@ -256,25 +257,13 @@ fn values(run: &mut Run) -> Result<(), String> {
             let (low, high) = stepped_over(&way, &view);
             let scanned = view.start(low)..view.start(high + 1);
             let at = r.below(used);
-            let mut bad = clean.clone();
-            let number = match r.below(3) {
-                0 => {
-                    bad.weights[at] = inputs::weight_out(r);
-                    8
-                }
-                1 => {
-                    bad.yields[at] = inputs::oil_yield_out(r);
-                    8
-                }
-                _ => {
-                    bad.days[at] = inputs::day_out(r);
-                    19
-                }
-            };
-            let a = step(run, &library, &mut Pair::new(r, &bad), way)?;
-            let good = match scanned.contains(&at) {
-                true => a.refusal == number,
-                false => a == right,
+            let mut c = clean.clone();
+            let bad = Bad::one(r, at);
+            bad.put(r, c.slices());
+            let a = step(run, &library, &mut Pair::new(r, &c), way)?;
+            let good = match bad.refusal(&scanned) {
+                0 => a == right,
+                number => a.refusal == number,
             };
             if !good {
                 return Err(format!("{way:?}, slot {at} of {scanned:?}: {a:?}"));

@@ -205,6 +205,16 @@ pub fn clean_column(r: &mut Random, kind: Kind) -> Column {
     c
 }
 
+/// A sound column: in one of four no free slot or one, in few some thousand slots.
+pub fn sound_column(r: &mut Random) -> Column {
+    let kind = match r.below(40) {
+        0 => Kind::Large,
+        1..=9 => Kind::Full,
+        _ => Kind::Sound,
+    };
+    clean_column(r, kind)
+}
+
 /// A column of proper shape; in some a weight or a yield is out of range, in
 /// some a day, in some both.
 pub fn column(r: &mut Random, kind: Kind) -> Column {

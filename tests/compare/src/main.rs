@@ -15,6 +15,7 @@
 //!
 //! valgrind --quiet --error-exitcode=1 target/compare/release/compare 0.1
 
+mod bad;
 mod broken;
 mod calls;
 mod csv;

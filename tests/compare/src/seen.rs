@@ -41,6 +41,15 @@ const SCANS: [&str; 4] = [
     "match past the last whole stride",
 ];
 
+/// The same of a range over days, where some of the growers' records are on them
+/// and some are not.
+const DATED_SCANS: [&str; 4] = [
+    "range over days: stride without a match",
+    "range over days: stride with some matches",
+    "range over days: stride of matches alone",
+    "range over days: match past the last whole stride",
+];
+
 /// What is scanned where partitions are empty.
 const GAPS: [&str; 6] = [
     "scan of empty partitions alone",
@@ -54,7 +63,7 @@ const GAPS: [&str; 6] = [
 /// What a range over days met.
 const DAYS: [&str; 7] = [
     "range over days: the last earlier than the first",
-    "range over days: one day",
+    "range over days: one day, with a record",
     "range over days: every day",
     "range over days: some of the growers' records, not all",
     "range over days: a record on the first day",
@@ -76,30 +85,22 @@ pub fn name(asked: &Asked) -> &'static str {
     }
 }
 
-/// The growers of each partition.
-fn parts<'a>(growers: &'a [u32], lengths: &[u32]) -> Vec<&'a [u32]> {
-    let mut rest = growers;
-    let mut parts = Vec::with_capacity(lengths.len());
+/// Notes the strides of partitions of these lengths; `matches` says it of the
+/// slots from the first partition's first on.
+fn note_scans(seen: &mut Seen, kinds: &[&'static str; 4], lengths: &[u32], matches: &[bool]) {
+    let mut rest = matches;
     for &n in lengths {
         let (part, later) = rest.split_at(n as usize);
-        parts.push(part);
-        rest = later;
-    }
-    parts
-}
-
-/// Notes the strides of the partitions that are scanned for lo to hi.
-fn note_scans(seen: &mut Seen, parts: &[&[u32]], lo: u32, hi: u32) {
-    for part in parts {
         for stride in part.chunks(STRIDE) {
-            let matches = stride.iter().filter(|&&g| lo <= g && g <= hi).count();
+            let matches = stride.iter().filter(|&&is| is).count();
             match (stride.len() == STRIDE, matches) {
-                (true, 0) => seen.kind(true, SCANS[0]),
-                (true, STRIDE) => seen.kind(true, SCANS[2]),
-                (true, _) => seen.kind(true, SCANS[1]),
-                (false, n) => seen.kind(n > 0 && part.len() > STRIDE, SCANS[3]),
+                (true, 0) => seen.kind(true, kinds[0]),
+                (true, STRIDE) => seen.kind(true, kinds[2]),
+                (true, _) => seen.kind(true, kinds[1]),
+                (false, n) => seen.kind(n > 0 && part.len() > STRIDE, kinds[3]),
             }
         }
+        rest = later;
     }
 }
 
@@ -122,7 +123,7 @@ fn note_days(seen: &mut Seen, held: &[u32], span: Span) {
     let terms = inside.map(|&day| second::term_of(day).first);
     let there = [
         span.last < span.first,
-        span.last == span.first,
+        span.last == span.first && count > 0,
         span == Span::ALL,
         0 < count && count < held.len(),
         span.first > 0 && span.first <= span.last && held.contains(&span.first),
@@ -134,13 +135,51 @@ fn note_days(seen: &mut Seen, held: &[u32], span: Span) {
     }
 }
 
-/// Notes what was asked and its refusal; growers, days and directory are those
-/// before the call.
+/// Notes the scan of a range over the days of a span, or over every day.
+fn note_range(
+    seen: &mut Seen,
+    (growers, days): (&[u32], &[u32]),
+    directory: &[u32],
+    (lo, hi): (u32, u32),
+    span: Option<Span>,
+) {
+    let k = directory[1] as usize;
+    let lengths = &directory[LENGTHS..LENGTHS + k];
+    let partition = |g: u32| partition_of(directory, g);
+    let start = |p: usize| lengths[..p].iter().map(|&n| n as usize).sum::<usize>();
+    let scanned = &lengths[partition(lo)..=partition(hi)];
+    let slots = start(partition(lo))..start(partition(hi) + 1);
+    let is_own = |&i: &usize| lo <= growers[i] && growers[i] <= hi;
+    note_gaps(seen, scanned);
+    let Some(span) = span else {
+        let matches: Vec<bool> = slots.map(|i| is_own(&i)).collect();
+        return note_scans(seen, &SCANS, scanned, &matches);
+    };
+    let held: Vec<u32> = slots.clone().filter(is_own).map(|i| days[i]).collect();
+    note_days(seen, &held, span);
+    if held
+        .iter()
+        .any(|&day| span.holds(day) != span.holds(held[0]))
+    {
+        let is_match = |i: usize| is_own(&i) && span.holds(days[i]);
+        let matches: Vec<bool> = slots.map(is_match).collect();
+        note_scans(seen, &DATED_SCANS, scanned, &matches);
+    }
+}
+
+fn partition_of(directory: &[u32], g: u32) -> usize {
+    let k = directory[1] as usize;
+    let fences = &directory[FENCES..FENCES + k];
+    fences.partition_point(|&f| f < g).min(k - 1)
+}
+
+/// Notes what was asked and its refusal; the slots' growers and days and the
+/// directory are those before the call.
 pub fn note(
     seen: &mut Seen,
     asked: &Asked,
     refusal: u32,
-    (growers, days): (&[u32], &[u32]),
+    slots: (&[u32], &[u32]),
     directory: &[u32],
 ) {
     seen.answer(name(asked), refusal);
@@ -150,8 +189,7 @@ pub fn note(
     }
     let k = directory[1] as usize;
     let lengths = &directory[LENGTHS..LENGTHS + k];
-    let fences = &directory[FENCES..FENCES + k];
-    let partition = |g: u32| fences.partition_point(|&f| f < g).min(k - 1);
+    let partition = |g: u32| partition_of(directory, g);
     if refusal == 13 {
         match call {
             Call::Delete(d) => seen.kind(lengths[partition(d.grower)] == 0, GAPS[4]),
@@ -160,26 +198,15 @@ pub fn note(
         }
         return;
     }
-    let parts = parts(growers, lengths);
     let past = |seen: &mut Seen, lengths: &[u32], empty: usize, records: usize| {
         seen.kind(lengths.contains(&0), MOVES[empty]);
         seen.kind(lengths.iter().any(|&n| n > 0), MOVES[records]);
     };
     match *call {
-        Call::Find(g) => {
-            note_scans(seen, &parts[partition(g)..=partition(g)], g, g);
-            note_gaps(seen, &lengths[partition(g)..=partition(g)]);
-        }
-        Call::Range(lo, hi) => {
-            note_scans(seen, &parts[partition(lo)..=partition(hi)], lo, hi);
-            note_gaps(seen, &lengths[partition(lo)..=partition(hi)]);
-        }
+        Call::Find(g) => note_range(seen, slots, directory, (g, g), None),
+        Call::Range(lo, hi) => note_range(seen, slots, directory, (lo, hi), None),
         Call::RangeDays(lo, hi, span) => {
-            note_gaps(seen, &lengths[partition(lo)..=partition(hi)]);
-            let start = |p: usize| lengths[..p].iter().map(|&n| n as usize).sum::<usize>();
-            let slots = start(partition(lo))..start(partition(hi) + 1);
-            let own = slots.filter(|&i| lo <= growers[i] && growers[i] <= hi);
-            note_days(seen, &own.map(|i| days[i]).collect::<Vec<u32>>(), span);
+            note_range(seen, slots, directory, (lo, hi), Some(span));
         }
         Call::Insert(d) => past(seen, &lengths[partition(d.grower) + 1..], 0, 1),
         Call::Delete(d) => past(seen, &lengths[partition(d.grower) + 1..], 2, 3),
@@ -198,6 +225,6 @@ pub fn note(
 
 /// An error if an answer or a kind of move or scan has not occurred.
 pub fn complete(seen: &Seen) -> Result<(), String> {
-    let kinds = [&MOVES[..], &SCANS, &GAPS, &DAYS].concat();
+    let kinds = [&MOVES[..], &SCANS, &DATED_SCANS, &GAPS, &DAYS].concat();
     seen.complete(&ANSWERS, &kinds)
 }

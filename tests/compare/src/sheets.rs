@@ -1,17 +1,20 @@
-//! Settlement sheets: columns good and bad, with every kind of room for the
-//! text, the order and the work.
+//! Settlement sheets, of whole columns and of terms: columns good and bad, with
+//! every kind of room for the text, the order and the work.
 
+use crate::bad::{self, Bad};
 use crate::broken;
-use crate::calls::{column_memory, column_text, Pair, NAMES};
-use crate::inputs::{self, Kind, EDGE_COUNTS, MIXES};
+use crate::calls::{column_memory, column_text, slices, Pair, NAMES};
+use crate::inputs::{self, EDGE_COUNTS, MIXES};
 use crate::lists;
 use crate::memory::Memory;
 use crate::snapshots::writing::{self, any_column, replace_some, WriteFault};
 use crate::text::{old_bytes, old_slots, shown, TEXT};
-use crate::{Run, Test};
-use meltusk::{sheet_second, spread_growers, Column, Empty, Library, Seen, Slots, View, LIBRARIES};
+use crate::{terms, Run, Test};
+use meltusk::{sheet_second, spread_growers, Column, Empty, Library, Seen, Slots, LIBRARIES};
 use second::random::Random;
-use second::{sheet_size, BLOCK_LIMIT, DIRECTORY_LEN, FENCES, LENGTHS, SLOT_LIMIT, WEIGHT_LIMIT};
+use second::{
+    sheet_size, Span, BLOCK_LIMIT, DIRECTORY_LEN, FENCES, LENGTHS, SLOT_LIMIT, WEIGHT_LIMIT,
+};
 use std::collections::{BTreeMap, BTreeSet};
 use std::fmt::Write;
 
@@ -68,60 +71,95 @@ pub struct Room {
     pub work: usize,
 }
 
-/// The sheet of the records on chosen days and the order of their slots by
-/// another writer than those compared, of a column whose directory has its shape.
-pub fn sheet_of(c: &Column, chosen: impl Fn(u32) -> bool) -> (Vec<u8>, Vec<u32>) {
-    let mut growers: BTreeMap<u32, ([u64; 3], Vec<u32>)> = BTreeMap::new();
-    let mut all = [0; 3];
-    for i in (0..c.view().used()).filter(|&i| chosen(c.days[i])) {
-        let d = c.view().slot(i);
-        let (sums, slots) = growers.entry(d.grower).or_default();
-        let (weight, oil_yield) = (u64::from(d.weight), u64::from(d.oil_yield));
-        for sums in [sums, &mut all] {
-            for (sum, more) in sums.iter_mut().zip([1, weight, weight * oil_yield]) {
-                *sum += more;
-            }
+/// The sheet of a column, of all records or of those of the term that holds a day.
+#[derive(Clone, Copy, Debug)]
+pub struct Sheet<'a> {
+    pub c: &'a Column,
+    pub day: Option<u32>,
+}
+
+/// The days of the term that holds a day.
+pub fn term(day: u32) -> Span {
+    let a = second::term_of(day);
+    Span::new(a.first, a.last)
+}
+
+/// Text and order of the slots.
+type Written = (Vec<u8>, Vec<u32>);
+
+/// Of a column whose directory has its shape.
+impl Sheet<'_> {
+    fn call(&self) -> &'static str {
+        match self.day {
+            None => "write_sheet",
+            Some(_) => "write_term_sheet",
         }
-        slots.push(i as u32);
     }
-    let mut text = String::new();
-    for (grower, ([records, weight, oil], _)) in &growers {
-        let _ = writeln!(text, "{grower:>20}{records:>20}{weight:>20}{oil:>20}");
+
+    /// The slots whose records are on the sheet.
+    fn slots(&self) -> impl Iterator<Item = usize> + '_ {
+        let span = self.day.map(term);
+        let is_on = move |&i: &usize| span.is_none_or(|span| span.holds(self.c.days[i]));
+        (0..self.c.view().used()).filter(is_on)
     }
-    let _ = writeln!(text, "{:>20}{:>20}{:>20}", all[0], all[1], all[2]);
-    let order = growers.into_values().flat_map(|(_, slots)| slots);
-    (text.into_bytes(), order.collect())
+
+    /// The sheet by another writer than those compared.
+    pub fn by_slots(&self) -> Written {
+        let mut growers: BTreeMap<u32, ([u64; 3], Vec<u32>)> = BTreeMap::new();
+        let mut all = [0; 3];
+        for i in self.slots() {
+            let d = self.c.view().slot(i);
+            let (sums, slots) = growers.entry(d.grower).or_default();
+            let (weight, oil_yield) = (u64::from(d.weight), u64::from(d.oil_yield));
+            for sums in [sums, &mut all] {
+                for (sum, more) in sums.iter_mut().zip([1, weight, weight * oil_yield]) {
+                    *sum += more;
+                }
+            }
+            slots.push(i as u32);
+        }
+        let mut text = String::new();
+        for (grower, ([records, weight, oil], _)) in &growers {
+            let _ = writeln!(text, "{grower:>20}{records:>20}{weight:>20}{oil:>20}");
+        }
+        let _ = writeln!(text, "{:>20}{:>20}{:>20}", all[0], all[1], all[2]);
+        let order = growers.into_values().flat_map(|(_, slots)| slots);
+        (text.into_bytes(), order.collect())
+    }
+
+    /// The room that it needs.
+    pub fn need(&self) -> Room {
+        let mut growers: Vec<u32> = self.slots().map(|i| self.c.growers[i]).collect();
+        let records = growers.len();
+        growers.sort_unstable();
+        growers.dedup();
+        Room {
+            text: sheet_size(growers.len()),
+            order: records,
+            work: records,
+        }
+    }
 }
 
-fn sheet(c: &Column) -> (Vec<u8>, Vec<u32>) {
-    sheet_of(c, |_| true)
-}
+/// The day whose term a test takes of a column; none for the whole sheet.
+pub type Drawn = fn(&mut Random, &Column) -> Option<u32>;
 
-/// The room that a column of proper shape needs.
-fn exact(c: &Column) -> Room {
-    let used = c.view().used();
-    let mut growers = c.growers[..used].to_vec();
-    growers.sort_unstable();
-    growers.dedup();
-    Room {
-        text: sheet_size(growers.len()),
-        order: used,
-        work: used,
-    }
+fn whole(_: &mut Random, _: &Column) -> Option<u32> {
+    None
 }
 
 /// What the call is lent to write.
 #[derive(Clone)]
-pub struct Lent {
-    pub text: Memory<u8>,
+struct Lent {
+    text: Memory<u8>,
     /// Order and work.
-    pub lists: Memory,
+    lists: Memory,
 }
 
-pub const LISTS: [&str; 2] = ["order", "work"];
+const LISTS: [&str; 2] = ["order", "work"];
 
 impl Lent {
-    pub fn new(r: &mut Random, room: Room) -> Lent {
+    fn new(r: &mut Random, room: Room) -> Lent {
         let [order, work] = old_slots(r, [room.order, room.work]);
         let text = old_bytes(r, room.text);
         Lent {
@@ -130,18 +168,18 @@ impl Lent {
         }
     }
 
-    pub fn lend<A>(&mut self, call: impl FnOnce(&mut [u8], &mut [u32], &mut [u32]) -> A) -> A {
+    fn lend<A>(&mut self, call: impl FnOnce(&mut [u8], &mut [u32], &mut [u32]) -> A) -> A {
         let Lent { text, lists } = self;
         text.lend(|[text]| lists.lend(|[order, work]| call(text, order, work)))
     }
 
-    pub fn equals(&self, other: &Lent) -> bool {
+    fn equals(&self, other: &Lent) -> bool {
         self.text.equals(&other.text) && self.lists.equals(&other.lists)
     }
 
     /// Whether an accepted column left its sheet, its order and zeros, and past
     /// them what was there before.
-    pub fn holds(&self, before: &Lent, (text, order): (&[u8], &[u32])) -> bool {
+    fn holds(&self, before: &Lent, (text, order): (&[u8], &[u32])) -> bool {
         fn is<T: PartialEq>(after: &[T], before: &[T], front: &[T]) -> bool {
             after.starts_with(front) && after[front.len()..] == before[front.len()..]
         }
@@ -152,16 +190,15 @@ impl Lent {
     }
 }
 
-/// Notes a column that was to be written as a sheet.
+/// Notes a column that was to be written as a whole sheet.
 fn note(seen: &mut Seen, c: &Column, room: Room, refusal: u32) {
-    seen.answer("write_sheet", refusal);
     if !matches!(refusal, 0 | 15) {
         return;
     }
     let (k, used) = (c.view().partitions(), c.view().used());
     let lengths = &c.directory[LENGTHS..LENGTHS + k];
     let growers = &c.growers[..used];
-    let need = exact(c);
+    let need = Sheet { c, day: None }.need();
     let lines = (need.text - sheet_size(0)) / 81;
     if refusal == 15 {
         let enough = room.order >= used && room.work >= used;
@@ -212,42 +249,40 @@ fn note(seen: &mut Seen, c: &Column, room: Room, refusal: u32) {
         .for_each(|(kind, there)| seen.kind(there, kind));
 }
 
-/// Writes the sheet of a column by both; compares answers, texts, lists, slices
-/// and guards, and what is left with a third writer. Answers the refusal.
+/// Writes a sheet by both; compares answers, texts, lists, slices and guards, and
+/// what is left with a third writer. Answers the refusal.
 fn write(
     r: &mut Random,
     seen: &mut Seen,
     library: &Library,
-    c: &Column,
+    sheet: Sheet,
     room: Room,
 ) -> Result<u32, String> {
+    let Sheet { c, day } = sheet;
     let before = Lent::new(r, room);
     let (mut compiled_lent, mut second_lent) = (before.clone(), before.clone());
     let mut slots = column_memory(r, c);
     let slots_before = slots.clone();
-    let compiled = slots.lend(|[growers, weights, yields, days, directory]| {
-        let column = View {
-            directory,
-            growers,
-            weights,
-            yields,
-            days,
-        };
-        compiled_lent.lend(|text, order, work| library.write_sheet(&column, text, order, work))
+    let compiled = slots.lend(|lent| {
+        let column = slices(lent);
+        compiled_lent
+            .lend(|text, order, work| library.sheet(&column.view(), day, text, order, work))
     });
-    let second = second_lent.lend(|text, order, work| sheet_second(&c.view(), text, order, work));
-    note(seen, c, room, second.refusal);
-    let slices = slots.counts(&NAMES).chain(before.text.counts(&TEXT));
-    seen.lent(
-        "write_sheet",
-        library,
-        slices.chain(before.lists.counts(&LISTS)),
-    );
+    let second =
+        second_lent.lend(|text, order, work| sheet_second(&c.view(), day, text, order, work));
+    seen.answer(sheet.call(), second.refusal);
+    match day {
+        None => note(seen, c, room, second.refusal),
+        Some(day) => terms::note(seen, c, day, room, second.refusal),
+    }
+    let lent = slots.counts(&NAMES).chain(before.text.counts(&TEXT));
+    let lent = lent.chain(before.lists.counts(&LISTS));
+    seen.lent(sheet.call(), library, lent);
     let same =
         compiled == second && compiled_lent.equals(&second_lent) && slots.equals(&slots_before);
     let left = match second.refusal {
         0 => {
-            let (text, order) = sheet(c);
+            let (text, order) = sheet.by_slots();
             second.bytes == text.len() as u64 && compiled_lent.holds(&before, (&text, &order))
         }
         _ => second.bytes == 0 && compiled_lent.equals(&before),
@@ -256,8 +291,9 @@ fn write(
         return Ok(second.refusal);
     }
     Err(format!(
-        "write_sheet: compiled {compiled:?}, second {second:?}, left as it has to be {left}; {}; {}; {}; \
-         text {}, {room:?}, {}",
+        "{}, day {day:?}: compiled {compiled:?}, second {second:?}, left as it has to be {left}; \
+         {}; {}; {}; text {}, {room:?}, {}",
+        sheet.call(),
         compiled_lent.text.compared(&second_lent.text, &TEXT),
         compiled_lent.lists.compared(&second_lent.lists, &LISTS),
         slots.compared(&slots_before, &NAMES),
@@ -266,37 +302,50 @@ fn write(
     ))
 }
 
-/// A column of proper shape is accepted, or refused by 15.
-fn accepted(
+/// An error if the refusal is not the expected one.
+fn is(
     run: &mut Run,
     r: &mut Random,
     library: &Library,
-    c: &Column,
-    room: Room,
+    (sheet, room): (Sheet, Room),
+    expected: u32,
 ) -> Result<(), String> {
-    let need = exact(c);
-    let enough = room.text >= need.text && room.order >= need.order && room.work >= need.work;
-    let expected = if enough { 0 } else { 15 };
-    match write(r, &mut run.seen, library, c, room)? {
+    match write(r, &mut run.seen, library, sheet, room)? {
         refusal if refusal == expected => Ok(()),
-        refusal => Err(format!("{room:?} of {need:?}: refusal {refusal}")),
+        refusal => Err(format!(
+            "{room:?}, day {:?}: {refusal}, not {expected}",
+            sheet.day
+        )),
     }
 }
 
-/// A column with each room exact, each alone one short, and some to spare.
-fn rooms(run: &mut Run, r: &mut Random, library: &Library, c: &Column) -> Result<(), String> {
-    let need = exact(c);
-    let (text, used) = (need.text, need.order);
+/// A column of proper shape is accepted, or refused by 15.
+pub fn accepted(
+    run: &mut Run,
+    r: &mut Random,
+    library: &Library,
+    sheet: Sheet,
+    room: Room,
+) -> Result<(), String> {
+    let need = sheet.need();
+    let enough = room.text >= need.text && room.order >= need.order && room.work >= need.work;
+    is(run, r, library, (sheet, room), if enough { 0 } else { 15 })
+}
+
+/// A sheet with each room exact, each alone one short, and some to spare.
+pub fn rooms(run: &mut Run, r: &mut Random, library: &Library, sheet: Sheet) -> Result<(), String> {
+    let need = sheet.need();
+    let (text, records, slots) = (need.text, need.order, sheet.c.growers.len());
     let spare = |r: &mut Random, n: usize| n + r.pick(&[0, 1, 3, 200]);
     let all = Room {
-        text: sheet_size(c.growers.len()),
-        order: c.growers.len(),
-        work: c.growers.len(),
+        text: sheet_size(slots),
+        order: slots,
+        work: slots,
     };
     let any = Room {
         text: spare(r, text),
-        order: spare(r, used),
-        work: spare(r, used),
+        order: spare(r, records),
+        work: spare(r, records),
     };
     let short = |n: usize| n.saturating_sub(1);
     let few = r.below(text);
@@ -315,25 +364,25 @@ fn rooms(run: &mut Run, r: &mut Random, library: &Library, c: &Column) -> Result
         Room { text: few, ..any },
         Room { text: 0, ..need },
         Room {
-            order: short(used),
+            order: short(records),
             ..any
         },
         Room {
-            work: short(used),
+            work: short(records),
             ..any
         },
         Room {
-            order: short(used),
+            order: short(records),
             ..need
         },
         Room {
-            work: short(used),
+            work: short(records),
             ..need
         },
         Room { order: 0, ..any },
         Room { work: 0, ..any },
     ] {
-        accepted(run, r, library, c, room)?;
+        accepted(run, r, library, sheet, room)?;
     }
     Ok(())
 }
@@ -360,7 +409,10 @@ fn main_sheet(run: &mut Run) -> Result<(), String> {
     run.seen.calls += 1;
     let good = a.refusal == 0 && text == MAIN.as_bytes() && (order, work) == expected;
     match good {
-        true => rooms(run, &mut Random::new(0), &library, &c),
+        true => {
+            let sheet = Sheet { c: &c, day: None };
+            rooms(run, &mut Random::new(0), &library, sheet)
+        }
         false => Err(format!("{a:?}, {}, {order:?}, {work:?}", shown(&text))),
     }
 }
@@ -368,19 +420,14 @@ fn main_sheet(run: &mut Run) -> Result<(), String> {
 fn sound(run: &mut Run) -> Result<(), String> {
     run.cases(120, 4_000, |run, r| {
         let library = inputs::library(r);
-        let kind = match r.below(40) {
-            0 => Kind::Large,
-            1..=9 => Kind::Full,
-            _ => Kind::Sound,
-        };
-        let c = inputs::clean_column(r, kind);
-        rooms(run, r, &library, &c)
+        let c = inputs::sound_column(r);
+        rooms(run, r, &library, Sheet { c: &c, day: None })
     })
 }
 
 /// The sheet as a host makes it of finds and steps from grower to grower.
-fn by_calls(library: &Library, c: &Column) -> String {
-    let (mut text, view) = (String::new(), c.view());
+fn by_steps(library: &Library, sheet: Sheet) -> String {
+    let (mut text, view) = (String::new(), sheet.c.view());
     let mut from = Some(0);
     while let Some(step) = from.map(|g| library.next_grower(&view, g)) {
         if step.records == 0 {
@@ -397,19 +444,26 @@ fn by_calls(library: &Library, c: &Column) -> String {
 }
 
 /// A layout is applied, then calls are made; a sheet is written between, and has
-/// what the other calls answer.
-fn laid(run: &mut Run) -> Result<(), String> {
-    run.cases(121, 1_500, |run, r| {
+/// what a host makes of other calls.
+pub fn laid(
+    run: &mut Run,
+    (test, count): (u64, u64),
+    drawn: Drawn,
+    by_calls: fn(&Library, Sheet) -> String,
+) -> Result<(), String> {
+    run.cases(test, count, |run, r| {
         let library = inputs::library(r);
         let column = lists::laid_column(run, r, &library)?;
         let mut pair = Pair::new(r, &column);
         let mix = r.pick(&MIXES);
         for _ in 0..r.within(2, 4) {
             let c = pair.column();
-            rooms(run, r, &library, &c)?;
-            let (by_calls, by_slots) = (by_calls(&library, &c), sheet(&c).0);
+            let day = drawn(r, &c);
+            let sheet = Sheet { c: &c, day };
+            rooms(run, r, &library, sheet)?;
+            let (by_calls, by_slots) = (by_calls(&library, sheet), sheet.by_slots().0);
             if by_calls.as_bytes() != by_slots {
-                return Err(format!("finds and steps make {by_calls:?} of {c:?}"));
+                return Err(format!("calls make {by_calls:?} of {sheet:?}"));
             }
             for _ in 0..r.below(20) {
                 let asked = inputs::asked(r, &pair.view(), &mix);
@@ -496,11 +550,16 @@ pub fn column_of(r: &mut Random, growers: usize, most: usize, k: usize) -> Colum
 }
 
 /// Each room exact, the text one byte short, and room for every slot's line.
-fn exact_rooms(run: &mut Run, r: &mut Random, library: &Library, c: &Column) -> Result<(), String> {
-    let need = exact(c);
-    let (text, all) = (need.text - 1, sheet_size(c.growers.len()));
+pub fn exact_rooms(
+    run: &mut Run,
+    r: &mut Random,
+    library: &Library,
+    sheet: Sheet,
+) -> Result<(), String> {
+    let need = sheet.need();
+    let (text, all) = (need.text - 1, sheet_size(sheet.c.growers.len()));
     for room in [need, Room { text, ..need }, Room { text: all, ..need }] {
-        accepted(run, r, library, c, room)?;
+        accepted(run, r, library, sheet, room)?;
     }
     Ok(())
 }
@@ -514,7 +573,7 @@ fn stirred(run: &mut Run) -> Result<(), String> {
         let most = r.pick(&[1, 2, 20]);
         let mut c = column_of(r, growers, most, k);
         stir(r, &mut c);
-        rooms(run, r, &library, &c)
+        rooms(run, r, &library, Sheet { c: &c, day: None })
     })
 }
 
@@ -525,7 +584,7 @@ fn many_growers(run: &mut Run) -> Result<(), String> {
             let (most, k) = (r.pick(&[1, 1, 2, 9]), r.pick(&[1, 2, 64]));
             let mut c = column_of(r, growers, most, k);
             stir(r, &mut c);
-            exact_rooms(run, r, &library, &c)?;
+            exact_rooms(run, r, &library, Sheet { c: &c, day: None })?;
         }
         Ok(())
     })
@@ -538,7 +597,7 @@ fn large_growers(run: &mut Run) -> Result<(), String> {
         for growers in [1, 2, 3] {
             let mut c = column_of(r, growers, 20_000, 1);
             stir(r, &mut c);
-            exact_rooms(run, r, &library, &c)?;
+            exact_rooms(run, r, &library, Sheet { c: &c, day: None })?;
         }
         Ok(())
     })
@@ -560,7 +619,7 @@ fn largest(run: &mut Run) -> Result<(), String> {
                 c.directory[LENGTHS] = SLOT_LIMIT as u32;
             }
             stir(r, &mut c);
-            exact_rooms(run, r, &library, &c)?;
+            exact_rooms(run, r, &library, Sheet { c: &c, day: None })?;
         }
         Ok(())
     })
@@ -568,7 +627,7 @@ fn largest(run: &mut Run) -> Result<(), String> {
 
 /// One change of a column or of a room.
 #[derive(Clone, Copy, Debug, PartialEq, Eq)]
-pub enum Fault {
+enum Fault {
     Written(WriteFault),
     OrderShort,
     NoOrder,
@@ -579,19 +638,19 @@ pub enum Fault {
 use Fault::*;
 
 /// Those of a room come first.
-pub fn faults() -> Vec<Fault> {
+fn faults() -> Vec<Fault> {
     let mut all = vec![OrderShort, NoOrder, WorkShort, NoWork];
     all.extend(writing::faults().into_iter().map(Written));
     all
 }
 
 impl Fault {
-    pub fn is_large(self) -> bool {
+    fn is_large(self) -> bool {
         matches!(self, Written(fault) if fault.is_large())
     }
 
     /// Puts the fault; false if it cannot be put here.
-    pub fn put(self, r: &mut Random, c: &mut Column, room: &mut Room, need: Room) -> bool {
+    fn put(self, r: &mut Random, c: &mut Column, room: &mut Room, need: Room) -> bool {
         match self {
             Written(fault) => return fault.put(r, c, &mut room.text, need.text),
             OrderShort => room.order = need.order - 1,
@@ -602,7 +661,7 @@ impl Fault {
         true
     }
 
-    pub fn expected(self) -> u32 {
+    fn expected(self) -> u32 {
         match self {
             Written(fault) => fault.expected(),
             _ => 15,
@@ -611,7 +670,7 @@ impl Fault {
 }
 
 /// The refusal of two faults, of which the second is put later.
-pub fn expected_of(first: Fault, second: Fault) -> u32 {
+fn expected_of(first: Fault, second: Fault) -> u32 {
     match (first, second) {
         (Written(first), Written(second)) => writing::expected_of(first, second),
         // The first is of a room, and 15 is the last check.
@@ -620,45 +679,52 @@ pub fn expected_of(first: Fault, second: Fault) -> u32 {
     }
 }
 
-/// A column that is accepted, the room it has and the room it needs.
-fn base(r: &mut Random) -> (Column, Room, Room) {
+/// A column that is accepted, the day, the room it has and the room it needs.
+fn base(r: &mut Random, drawn: Drawn) -> (Column, Option<u32>, Room, Room) {
     let c = broken::base(r);
-    let need = exact(&c);
+    let day = drawn(r, &c);
+    let need = Sheet { c: &c, day }.need();
     let room = Room {
         text: need.text + r.pick(&[0, 1, 500]),
         order: need.order + r.below(3),
         work: need.work + r.below(3),
     };
-    (c, room, need)
+    (c, day, room, need)
 }
 
-fn alone(run: &mut Run) -> Result<(), String> {
+pub fn alone(run: &mut Run, (test, count): (u64, u64), drawn: Drawn) -> Result<(), String> {
     let faults = faults();
-    run.cases(126, 60, |run, r| {
+    run.cases(test, count, |run, r| {
         let library = inputs::library(r);
         for fault in &faults {
-            let (mut c, mut room, need) = base(r);
+            let (mut c, day, mut room, need) = base(r, drawn);
             if fault.is_large() && !r.one_in(8) || !fault.put(r, &mut c, &mut room, need) {
                 continue;
             }
             let with = |why| format!("{fault:?}: {why}");
-            let refusal = write(r, &mut run.seen, &library, &c, room).map_err(with)?;
-            if refusal != fault.expected() {
-                return Err(format!("{fault:?}: refusal {refusal}"));
+            let number = fault.expected();
+            let sheet = Sheet { c: &c, day };
+            is(run, r, &library, (sheet, room), number).map_err(with)?;
+            // The term of no day.
+            if day.is_some() {
+                let day = Some(inputs::day_out(r));
+                let number = broken::asked_first(number, 19);
+                let sheet = Sheet { c: &c, day };
+                is(run, r, &library, (sheet, room), number).map_err(with)?;
             }
         }
         Ok(())
     })
 }
 
-fn pairs(run: &mut Run) -> Result<(), String> {
+pub fn pairs(run: &mut Run, (test, count): (u64, u64), drawn: Drawn) -> Result<(), String> {
     let faults = faults();
-    run.cases(127, 10, |run, r| {
+    run.cases(test, count, |run, r| {
         let library = inputs::library(r);
         for (i, &first) in faults.iter().enumerate() {
             for &second in &faults[i + 1..] {
                 let large = first.is_large() || second.is_large();
-                let (mut c, mut room, need) = base(r);
+                let (mut c, day, mut room, need) = base(r, drawn);
                 if large && !r.one_in(8) || !first.put(r, &mut c, &mut room, need) {
                     continue;
                 }
@@ -666,11 +732,33 @@ fn pairs(run: &mut Run) -> Result<(), String> {
                     continue;
                 }
                 let with = |why| format!("{first:?} and {second:?}: {why}");
-                let refusal = write(r, &mut run.seen, &library, &c, room).map_err(with)?;
-                if refusal != expected_of(first, second) {
-                    return Err(format!("{first:?} and {second:?}: refusal {refusal}"));
-                }
+                let (sheet, number) = (Sheet { c: &c, day }, expected_of(first, second));
+                is(run, r, &library, (sheet, room), number).map_err(with)?;
             }
+        }
+        Ok(())
+    })
+}
+
+/// A weight, a yield or a day out of range in every record, in the term or not: 8
+/// ahead of 19, and both ahead of 15.
+pub fn every_record(run: &mut Run, (test, count): (u64, u64), drawn: Drawn) -> Result<(), String> {
+    run.cases(test, count, |run, r| {
+        let library = inputs::library(r);
+        let clean = bad::column(r);
+        let day = drawn(r, &clean);
+        let need = Sheet { c: &clean, day }.need();
+        for bad in Bad::every(r, clean.view().used()) {
+            let mut c = clean.clone();
+            bad.put(r, c.slices());
+            let number = bad.refusal(&(0..c.view().used()));
+            let with = |why| format!("{bad:?}: {why}");
+            let sheet = Sheet { c: &c, day };
+            is(run, r, &library, (sheet, need), number).map_err(with)?;
+            let text = need.text - 1;
+            let number = broken::asked_first(number, 15);
+            let room = Room { text, ..need };
+            is(run, r, &library, (sheet, room), number).map_err(with)?;
         }
         Ok(())
     })
@@ -678,11 +766,12 @@ fn pairs(run: &mut Run) -> Result<(), String> {
 
 /// Columns that may be unsound or hold a value out of range, with up to two
 /// numbers of the directory replaced.
-fn any(run: &mut Run) -> Result<(), String> {
-    run.cases(128, 15_000, |run, r| {
+pub fn any(run: &mut Run, (test, count): (u64, u64), drawn: Drawn) -> Result<(), String> {
+    run.cases(test, count, |run, r| {
         let library = inputs::library(r);
         let mut c = any_column(r);
-        let need = exact(&c);
+        let day = drawn(r, &c);
+        let need = Sheet { c: &c, day }.need();
         let less = |r: &mut Random, n: usize| (n + 2).saturating_sub(r.pick(&[0, 0, 0, 2, 3]));
         let room = Room {
             text: less(r, need.text),
@@ -691,7 +780,7 @@ fn any(run: &mut Run) -> Result<(), String> {
         };
         let shaped = c.directory.clone();
         replace_some(r, &mut c);
-        let refusal = write(r, &mut run.seen, &library, &c, room)?;
+        let refusal = write(r, &mut run.seen, &library, Sheet { c: &c, day }, room)?;
         run.seen
             .kind(refusal == 6 && c.directory == shaped, UNSOUND);
         Ok(())
@@ -700,12 +789,12 @@ fn any(run: &mut Run) -> Result<(), String> {
 
 /// Growers, weights, yields, days, directory, text, order and work, each alone
 /// at the edge counts; then nothing lent.
-fn edge_counts(run: &mut Run) -> Result<(), String> {
-    run.cases(129, 1, |run, r| {
+pub fn edge_counts(run: &mut Run, test: u64, drawn: Drawn) -> Result<(), String> {
+    run.cases(test, 1, |run, r| {
         for library in LIBRARIES {
             for lent in 0..8 {
                 for n in EDGE_COUNTS {
-                    let (mut c, mut room, need) = base(r);
+                    let (mut c, day, mut room, need) = base(r, drawn);
                     let (expected, least) = match lent {
                         0..=3 => (3, usize::MAX),
                         4 => (6, usize::MAX),
@@ -720,13 +809,12 @@ fn edge_counts(run: &mut Run) -> Result<(), String> {
                         i => c.slices()[i].resize(n, 0),
                     }
                     let expected = if n < least { expected } else { 0 };
-                    let refusal = write(r, &mut run.seen, &library, &c, room)?;
-                    if refusal != expected {
-                        return Err(format!("slice {lent} of {n}: refusal {refusal}"));
-                    }
+                    let with = |why| format!("slice {lent} of {n}: {why}");
+                    let sheet = Sheet { c: &c, day };
+                    is(run, r, &library, (sheet, room), expected).map_err(with)?;
                 }
             }
-            let (mut c, ..) = base(r);
+            let (mut c, day, ..) = base(r, drawn);
             c.resize(0);
             c.directory.clear();
             let nothing = Room {
@@ -734,10 +822,7 @@ fn edge_counts(run: &mut Run) -> Result<(), String> {
                 order: 0,
                 work: 0,
             };
-            let refusal = write(r, &mut run.seen, &library, &c, nothing)?;
-            if refusal != 3 {
-                return Err(format!("nothing lent: refusal {refusal}"));
-            }
+            is(run, r, &library, (Sheet { c: &c, day }, nothing), 3)?;
         }
         Ok(())
     })
@@ -749,7 +834,7 @@ fn one_slot(run: &mut Run) -> Result<(), String> {
         let library = inputs::library(r);
         for is_used in [false, true] {
             let c = inputs::one_slot(r, is_used);
-            rooms(run, r, &library, &c)?;
+            rooms(run, r, &library, Sheet { c: &c, day: None })?;
         }
         Ok(())
     })
@@ -763,15 +848,24 @@ fn every_case(run: &mut Run) -> Result<(), String> {
 pub const TESTS: &[(&str, Test)] = &[
     ("sheets: the main column's sheet", main_sheet),
     ("sheets: sound columns", sound),
-    ("sheets: laid columns after calls, beside finds", laid),
+    ("sheets: laid columns after calls, beside finds", |run| {
+        laid(run, (121, 1_500), whole, by_steps)
+    }),
     ("sheets: stirred inside the partitions", stirred),
     ("sheets: more than 8,192 and 16,384 growers", many_growers),
     ("sheets: growers with many deliveries", large_growers),
     ("sheets: 262,144 deliveries", largest),
-    ("sheets: each fault alone", alone),
-    ("sheets: two faults", pairs),
-    ("sheets: any column", any),
-    ("sheets: each slice at the edge counts", edge_counts),
+    ("sheets: each fault alone", |run| {
+        alone(run, (126, 60), whole)
+    }),
+    ("sheets: two faults", |run| pairs(run, (127, 10), whole)),
+    ("sheets: 19 beside 8, every record", |run| {
+        every_record(run, (131, 60), whole)
+    }),
+    ("sheets: any column", |run| any(run, (128, 15_000), whole)),
+    ("sheets: each slice at the edge counts", |run| {
+        edge_counts(run, 129, whole)
+    }),
     ("sheets: columns of one slot", one_slot),
     (
         "sheets: every answer and every case has occurred",

@@ -1,15 +1,11 @@
-//! Sheets of settlement terms: columns whose days spread over years, every term
-//! that has a record, and every kind of room.
+//! Sheets of settlement terms: columns whose days spread over years, each of their
+//! terms, and all that is tried of whole sheets.
 
-use crate::broken;
-use crate::calls::{column_memory, column_text, Pair, NAMES};
-use crate::inputs::{self, Kind, EDGE_COUNTS, MIXES};
+use crate::inputs::{self, Kind};
 use crate::lists;
-use crate::sheets::{self, column_of, expected_of, sheet_of, stir, Lent, Room, LISTS, MANY};
-use crate::snapshots::writing::{any_column, replace_some};
-use crate::text::{shown, TEXT};
+use crate::sheets::{self, column_of, exact_rooms, rooms, stir, term, Room, Sheet, MANY};
 use crate::{Run, Test};
-use meltusk::{term_sheet_second, Column, Empty, Library, Seen, Slots, View, LIBRARIES};
+use meltusk::{Column, Empty, Library, Seen};
 use second::random::Random;
 use second::{sheet_size, Span, DAY_LIMIT};
 use std::collections::BTreeSet;
@@ -18,7 +14,7 @@ use std::fmt::Write;
 /// The refusals of the call, 0 for accepted.
 const ANSWERS: [(&str, &[u32]); 1] = [("write_term_sheet", &[0, 2, 3, 6, 8, 15, 19])];
 
-const KINDS: [&str; 16] = [
+const KINDS: [&str; 17] = [
     "term: no record",
     "term: every record",
     "term: some records, not all",
@@ -26,6 +22,7 @@ const KINDS: [&str; 16] = [
     "term: a record on its last day",
     "term: a record on the day before it",
     "term: a record on the day after it",
+    "term: a record in the same term of another year",
     "term: the 1st to the 15th",
     "term: the 16th on",
     "term: February of 29 days",
@@ -37,42 +34,24 @@ const KINDS: [&str; 16] = [
     "term: more than 8,192 growers",
 ];
 
-/// The days of the term that holds a day.
-fn term(day: u32) -> Span {
-    let a = second::term_of(day);
-    Span::new(a.first, a.last)
-}
-
-/// The sheet of a term and its slots, by a third writer.
-fn sheet(c: &Column, day: u32) -> (Vec<u8>, Vec<u32>) {
-    let span = term(day);
-    sheet_of(c, |n| span.holds(n))
-}
-
-/// The room that the sheet of a term needs.
-fn exact(c: &Column, day: u32) -> Room {
-    let (text, order) = sheet(c, day);
-    Room {
-        text: text.len(),
-        order: order.len(),
-        work: order.len(),
-    }
-}
-
-fn note(seen: &mut Seen, c: &Column, day: u32, room: Room, refusal: u32) {
-    seen.answer("write_term_sheet", refusal);
+/// Notes a column of which the sheet of a day's term was to be written.
+pub fn note(seen: &mut Seen, c: &Column, day: u32, room: Room, refusal: u32) {
     if refusal != 0 {
         return;
     }
     let used = c.view().used();
-    let (span, need) = (term(day), exact(c, day));
-    let days = &c.days[..used];
+    let need = Sheet { c, day: Some(day) }.need();
+    let (span, days) = (term(day), &c.days[..used]);
     let of = |inside: bool| -> BTreeSet<u32> {
         let slots = (0..used).filter(|&i| span.holds(days[i]) == inside);
         slots.map(|i| c.growers[i]).collect()
     };
     let (inside, outside) = (of(true), of(false));
     let date = second::date_of(span.first);
+    let is_same = |n: u32| {
+        let other = second::date_of(term(n).first);
+        (other.month, other.day) == (date.month, date.day) && other.year != date.year
+    };
     let there = [
         need.order == 0,
         need.order == used && used > 0,
@@ -81,6 +60,7 @@ fn note(seen: &mut Seen, c: &Column, day: u32, room: Room, refusal: u32) {
         days.contains(&span.last),
         span.first > 0 && days.contains(&(span.first - 1)),
         days.contains(&(span.last + 1)),
+        need.order > 0 && days.iter().any(|&n| is_same(n)),
         date.day == 1,
         date.day == 16,
         date.month == 2 && span.last - span.first == 13,
@@ -96,198 +76,121 @@ fn note(seen: &mut Seen, c: &Column, day: u32, room: Room, refusal: u32) {
     }
 }
 
-/// Writes the sheet of a term by both; compares answers, texts, lists, slices and
-/// guards, and what is left with a third writer. Answers the refusal.
-fn write(
-    r: &mut Random,
-    seen: &mut Seen,
-    library: &Library,
-    c: &Column,
-    day: u32,
-    room: Room,
-) -> Result<u32, String> {
-    let before = Lent::new(r, room);
-    let (mut compiled_lent, mut second_lent) = (before.clone(), before.clone());
-    let mut slots = column_memory(r, c);
-    let slots_before = slots.clone();
-    let compiled = slots.lend(|[growers, weights, yields, days, directory]| {
-        let column = View {
-            directory,
-            growers,
-            weights,
-            yields,
-            days,
-        };
-        compiled_lent
-            .lend(|text, order, work| library.write_term_sheet(&column, day, text, order, work))
-    });
-    let second =
-        second_lent.lend(|text, order, work| term_sheet_second(&c.view(), day, text, order, work));
-    note(seen, c, day, room, second.refusal);
-    let slices = slots.counts(&NAMES).chain(before.text.counts(&TEXT));
-    seen.lent(
-        "write_term_sheet",
-        library,
-        slices.chain(before.lists.counts(&LISTS)),
-    );
-    let same =
-        compiled == second && compiled_lent.equals(&second_lent) && slots.equals(&slots_before);
-    let left = match second.refusal {
-        0 => {
-            let (text, order) = sheet(c, day);
-            second.bytes == text.len() as u64 && compiled_lent.holds(&before, (&text, &order))
-        }
-        _ => second.bytes == 0 && compiled_lent.equals(&before),
-    };
-    if same && left {
-        return Ok(second.refusal);
-    }
-    Err(format!(
-        "write_term_sheet of {day}: compiled {compiled:?}, second {second:?}, left as it has to be {left}; \
-         {}; {}; {}; text {}, {room:?}, {}",
-        compiled_lent.text.compared(&second_lent.text, &TEXT),
-        compiled_lent.lists.compared(&second_lent.lists, &LISTS),
-        slots.compared(&slots_before, &NAMES),
-        shown(compiled_lent.text.slice(0)),
-        column_text(c)
-    ))
+/// A day of one of the records.
+fn held(r: &mut Random, c: &Column) -> Option<u32> {
+    Some(c.days[r.below(c.view().used())])
 }
 
-/// An error if the refusal is not the expected one.
-fn is(
-    run: &mut Run,
-    r: &mut Random,
-    library: &Library,
-    (c, day): (&Column, u32),
-    room: Room,
-    expected: u32,
-) -> Result<(), String> {
-    match write(r, &mut run.seen, library, c, day, room)? {
-        refusal if refusal == expected => Ok(()),
-        refusal => Err(format!("day {day}, {room:?}: {refusal}, not {expected}")),
+fn any_day(r: &mut Random, _: &Column) -> Option<u32> {
+    Some(inputs::day(r))
+}
+
+fn any_number(r: &mut Random, c: &Column) -> Option<u32> {
+    match r.below(8) {
+        0 => Some(inputs::day_out(r)),
+        _ => any_day(r, c),
     }
 }
 
-/// A term with each room exact, each alone one short, and some to spare.
-fn rooms(
-    run: &mut Run,
-    r: &mut Random,
-    library: &Library,
-    c: &Column,
-    day: u32,
-) -> Result<(), String> {
-    let need = exact(c, day);
-    let all = Room {
-        text: sheet_size(c.growers.len()),
-        order: c.growers.len(),
-        work: c.growers.len(),
-    };
-    let any = Room {
-        text: need.text + r.below(200),
-        order: need.order + r.below(3),
-        work: need.work + r.below(3),
-    };
-    for room in [need, all, any] {
-        is(run, r, library, (c, day), room, 0)?;
-    }
-    let short = |n: usize| n.saturating_sub(1);
-    let empty = if need.order == 0 { 0 } else { 15 };
-    for (room, expected) in [
-        (
-            Room {
-                text: need.text - 1,
-                ..any
-            },
-            15,
-        ),
-        (
-            Room {
-                text: need.text - 1,
-                ..all
-            },
-            15,
-        ),
-        (
-            Room {
-                order: short(need.order),
-                ..any
-            },
-            empty,
-        ),
-        (
-            Room {
-                work: short(need.work),
-                ..all
-            },
-            empty,
-        ),
-    ] {
-        is(run, r, library, (c, day), room, expected)?;
-    }
-    Ok(())
-}
-
-/// Days spread over some years, over all, or over few terms.
-fn spread(r: &mut Random, c: &mut Column) {
+/// Puts the days of the records among so many from one on.
+fn spread(r: &mut Random, c: &mut Column, first: u32, days: usize) {
     let used = c.view().used();
-    let (first, days) = match r.below(5) {
-        0 => (0, DAY_LIMIT as usize + 1),
-        1 => (r.below(30_000), 1_461),
-        2 => (r.below(36_000), 60),
-        3 => (8_790, 60),
-        _ => return,
-    };
     for day in &mut c.days[..used] {
-        *day = ((first + r.below(days)) as u32).min(DAY_LIMIT);
+        *day = first + r.below(days) as u32;
     }
 }
 
-/// The first day of every term that has a record, and of those about them.
-fn terms(c: &Column) -> BTreeSet<u32> {
-    let days = c.days[..c.view().used()].iter();
-    let mut all: BTreeSet<u32> = days.map(|&day| term(day).first).collect();
-    for first in all.clone() {
-        all.insert(term(first.saturating_sub(1)).first);
-        all.insert(term(DAY_LIMIT.min(term(first).last + 1)).first);
-    }
-    all.extend([0, term(DAY_LIMIT).first]);
-    all
+/// The totals of a sheet's last line.
+fn totals(text: &[u8]) -> Result<Vec<u64>, String> {
+    let text = String::from_utf8_lossy(text);
+    let numbers = text.lines().last().unwrap_or("").split_ascii_whitespace();
+    let parsed: Result<Vec<u64>, _> = numbers.map(str::parse).collect();
+    parsed.map_err(|_| format!("no totals: {text:?}"))
 }
 
-/// Every term of a column, from any of its days; each record is in one of them.
-fn every_term(run: &mut Run) -> Result<(), String> {
+/// Every term from one day to another, as the library has them one after the
+/// other, each from any of its days: each record is on one sheet, and the totals
+/// add up to those of the whole sheet.
+fn each_term(
+    run: &mut Run,
+    r: &mut Random,
+    library: &Library,
+    c: &Column,
+    (from, to): (u32, u32),
+) -> Result<(), String> {
+    let (mut slots, mut sums) = (Vec::new(), vec![0; 3]);
+    let mut next = from;
+    while next <= to {
+        let a = meltusk::term_of(next);
+        let day = Some(r.edge(a.first as usize, a.last as usize) as u32);
+        let sheet = Sheet { c, day };
+        sheets::accepted(run, r, library, sheet, sheet.need())?;
+        let (text, order) = sheet.by_slots();
+        for (sum, n) in sums.iter_mut().zip(totals(&text)?) {
+            *sum += n;
+        }
+        slots.extend(order);
+        next = a.last + 1;
+    }
+    slots.sort_unstable();
+    let whole = totals(&Sheet { c, day: None }.by_slots().0)?;
+    let every_slot = slots.iter().copied().eq(0..c.view().used() as u32);
+    match every_slot && sums == whole {
+        true => Ok(()),
+        false => Err(format!("{slots:?}, {sums:?} for {whole:?} of {c:?}")),
+    }
+}
+
+/// The terms of records and those before and after them, with every kind of room.
+fn sound(run: &mut Run) -> Result<(), String> {
     run.cases(150, 800, |run, r| {
         let library = inputs::library(r);
-        let kind = match r.below(40) {
-            0 => Kind::Large,
-            1..=9 => Kind::Full,
-            _ => Kind::Sound,
-        };
-        let mut c = inputs::clean_column(r, kind);
-        spread(r, &mut c);
-        let mut left = c.view().used();
-        for (i, first) in terms(&c).into_iter().enumerate() {
-            let last = term(first).last;
-            let day = r.edge(first as usize, last as usize) as u32;
-            left -= exact(&c, day).order;
-            match i < 12 || r.one_in(8) {
-                true => rooms(run, r, &library, &c, day)?,
-                false => {
-                    let need = exact(&c, day);
-                    is(run, r, &library, (&c, day), need, 0)?;
-                }
-            }
+        let mut c = inputs::sound_column(r);
+        // Over all dates, about February 2024, or few days.
+        match r.below(3) {
+            0 => spread(r, &mut c, 0, DAY_LIMIT as usize + 1),
+            1 => spread(r, &mut c, 8_790, 60),
+            _ => {}
         }
-        match left == 0 {
-            true => Ok(()),
-            false => Err(format!("{left} records are in no term of {c:?}")),
+        for _ in 0..r.within(1, 6) {
+            let own = match c.view().used() {
+                0 => inputs::day(r),
+                used => c.days[r.below(used)],
+            };
+            let near = [own, term(own).first.saturating_sub(1), term(own).last + 1];
+            let day = Some(r.pick(&near).min(DAY_LIMIT));
+            rooms(run, r, &library, Sheet { c: &c, day })?;
         }
+        Ok(())
+    })
+}
+
+/// Columns whose days spread over four years.
+fn years(run: &mut Run) -> Result<(), String> {
+    run.cases(151, 100, |run, r| {
+        let library = inputs::library(r);
+        let mut c = inputs::sound_column(r);
+        let any = r.below(35_064) as u32;
+        let first = r.pick(&[0, 8_766, 35_064, any, any]);
+        spread(r, &mut c, first, 1_461);
+        each_term(run, r, &library, &c, (first, first + 1_460))
+    })
+}
+
+/// All 2,400 terms of columns whose days spread over the century.
+fn century(run: &mut Run) -> Result<(), String> {
+    run.cases(152, 3, |run, r| {
+        let library = inputs::library(r);
+        let mut c = inputs::clean_column(r, Kind::Full);
+        spread(r, &mut c, 0, DAY_LIMIT as usize + 1);
+        each_term(run, r, &library, &c, (0, DAY_LIMIT))
     })
 }
 
 /// The sheet as a host makes it of ranges over the term's days.
-fn by_calls(library: &Library, c: &Column, span: Span) -> String {
-    let (mut text, view) = (String::new(), c.view());
+fn by_ranges(library: &Library, sheet: Sheet) -> String {
+    let (mut text, view) = (String::new(), sheet.c.view());
+    let span = sheet.day.map_or(Span::ALL, term);
     let held: BTreeSet<u32> = view.growers[..view.used()].iter().copied().collect();
     for grower in held {
         let t = library.range_days(&view, grower, grower, span).totals;
@@ -301,33 +204,9 @@ fn by_calls(library: &Library, c: &Column, span: Span) -> String {
     text
 }
 
-/// Laid columns after calls: a term's sheet has what ranges over its days answer.
-fn laid(run: &mut Run) -> Result<(), String> {
-    run.cases(151, 1_000, |run, r| {
-        let library = inputs::library(r);
-        let column = lists::laid_column(run, r, &library)?;
-        let mut pair = Pair::new(r, &column);
-        let mix = r.pick(&MIXES);
-        for _ in 0..r.within(2, 4) {
-            let c = pair.column();
-            let day = inputs::day(r);
-            rooms(run, r, &library, &c, day)?;
-            let (by_calls, by_slots) = (by_calls(&library, &c, term(day)), sheet(&c, day).0);
-            if by_calls.as_bytes() != by_slots {
-                return Err(format!("day {day}: ranges make {by_calls:?} of {c:?}"));
-            }
-            for _ in 0..r.below(20) {
-                let asked = inputs::asked(r, &pair.view(), &mix);
-                pair.ask(&mut run.seen, &library, asked)?;
-            }
-        }
-        Ok(())
-    })
-}
-
 /// Many growers, of whom about half have a record in the term.
 fn many_growers(run: &mut Run) -> Result<(), String> {
-    run.cases(152, 2, |run, r| {
+    run.cases(154, 2, |run, r| {
         let library = inputs::library(r);
         for growers in MANY {
             let (most, k) = (r.pick(&[1, 2, 9]), r.pick(&[1, 2, 64]));
@@ -338,157 +217,8 @@ fn many_growers(run: &mut Run) -> Result<(), String> {
                 *day = if r.one_in(often) { 8_825 } else { 8_826 };
             }
             stir(r, &mut c);
-            let need = exact(&c, 8_812);
-            let text = need.text - 1;
-            is(run, r, &library, (&c, 8_812), need, 0)?;
-            is(run, r, &library, (&c, 8_812), Room { text, ..need }, 15)?;
-        }
-        Ok(())
-    })
-}
-
-/// A column that is accepted, a day that has a record, the room and the need.
-fn base(r: &mut Random) -> (Column, u32, Room, Room) {
-    let c = broken::base(r);
-    let day = c.days[r.below(c.view().used())];
-    let need = exact(&c, day);
-    let room = Room {
-        text: need.text + r.pick(&[0, 1, 500]),
-        order: need.order + r.below(3),
-        work: need.work + r.below(3),
-    };
-    (c, day, room, need)
-}
-
-/// Each fault of a column or a room alone, and with a day above the limit.
-fn alone(run: &mut Run) -> Result<(), String> {
-    let faults = sheets::faults();
-    run.cases(153, 60, |run, r| {
-        let library = inputs::library(r);
-        for fault in &faults {
-            let (mut c, day, mut room, need) = base(r);
-            if fault.is_large() && !r.one_in(8) || !fault.put(r, &mut c, &mut room, need) {
-                continue;
-            }
-            let with = |why| format!("{fault:?}: {why}");
-            let number = fault.expected();
-            is(run, r, &library, (&c, day), room, number).map_err(with)?;
-            let late = inputs::day_out(r);
-            let number = match number {
-                0 => 19,
-                number => broken::asked_first(number, 19),
-            };
-            is(run, r, &library, (&c, late), room, number).map_err(with)?;
-        }
-        Ok(())
-    })
-}
-
-fn pairs(run: &mut Run) -> Result<(), String> {
-    let faults = sheets::faults();
-    run.cases(154, 5, |run, r| {
-        let library = inputs::library(r);
-        for (i, &first) in faults.iter().enumerate() {
-            for &second in &faults[i + 1..] {
-                let large = first.is_large() || second.is_large();
-                let (mut c, day, mut room, need) = base(r);
-                if large && !r.one_in(8) || !first.put(r, &mut c, &mut room, need) {
-                    continue;
-                }
-                if c.directory.len() < 2 || !second.put(r, &mut c, &mut room, need) {
-                    continue;
-                }
-                let with = |why| format!("{first:?} and {second:?}: {why}");
-                let number = expected_of(first, second);
-                is(run, r, &library, (&c, day), room, number).map_err(with)?;
-            }
-        }
-        Ok(())
-    })
-}
-
-/// A bad weight, yield or day outside the term is refused all the same.
-fn outside(run: &mut Run) -> Result<(), String> {
-    run.cases(155, 2_000, |run, r| {
-        let library = inputs::library(r);
-        let (c, day, room, _) = base(r);
-        for at in 0..c.view().used() {
-            let mut bad = c.clone();
-            let number = match r.below(3) {
-                0 => {
-                    bad.weights[at] = inputs::weight_out(r);
-                    8
-                }
-                1 => {
-                    bad.yields[at] = inputs::oil_yield_out(r);
-                    8
-                }
-                _ => {
-                    bad.days[at] = inputs::day_out(r);
-                    19
-                }
-            };
-            is(run, r, &library, (&bad, day), room, number)?;
-        }
-        Ok(())
-    })
-}
-
-/// Columns that may be unsound or hold a value out of range, with up to two
-/// numbers of the directory replaced, and any day.
-fn any(run: &mut Run) -> Result<(), String> {
-    run.cases(156, 15_000, |run, r| {
-        let library = inputs::library(r);
-        let mut c = any_column(r);
-        let day = match r.below(8) {
-            0 => inputs::day_out(r),
-            _ => inputs::day(r),
-        };
-        let need = exact(&c, day);
-        let less = |r: &mut Random, n: usize| (n + 2).saturating_sub(r.pick(&[0, 0, 0, 2, 3]));
-        let room = Room {
-            text: less(r, need.text),
-            order: less(r, need.order),
-            work: less(r, need.work),
-        };
-        replace_some(r, &mut c);
-        write(r, &mut run.seen, &library, &c, day, room).map(|_| ())
-    })
-}
-
-/// Each slice alone at the edge counts; then nothing lent.
-fn edge_counts(run: &mut Run) -> Result<(), String> {
-    run.cases(157, 1, |run, r| {
-        for library in LIBRARIES {
-            for lent in 0..8 {
-                for n in EDGE_COUNTS {
-                    let (mut c, day, mut room, need) = base(r);
-                    let (expected, least) = match lent {
-                        0..=3 => (3, usize::MAX),
-                        4 => (6, usize::MAX),
-                        5 => (15, need.text),
-                        _ => (15, need.order),
-                    };
-                    match lent {
-                        7 => room.work = n,
-                        6 => room.order = n,
-                        5 => room.text = n,
-                        4 => c.directory.resize(n, 0),
-                        i => c.slices()[i].resize(n, 0),
-                    }
-                    let expected = if n < least { expected } else { 0 };
-                    is(run, r, &library, (&c, day), room, expected)?;
-                }
-            }
-            let (mut c, day, ..) = base(r);
-            c.resize(0);
-            c.directory.clear();
-            let nothing = Room {
-                text: 0,
-                order: 0,
-                work: 0,
-            };
-            is(run, r, &library, (&c, day), nothing, 3)?;
+            let day = Some(8_812);
+            exact_rooms(run, r, &library, Sheet { c: &c, day })?;
         }
         Ok(())
     })
@@ -501,10 +231,12 @@ fn main_column(run: &mut Run) -> Result<(), String> {
     let r = &mut Random::new(0);
     let c = lists::main_column();
     for (day, records) in [(0, 8), (14, 8), (15, 0), (DAY_LIMIT, 0)] {
-        if exact(&c, day).order != records {
-            return Err(format!("day {day}: {:?}", exact(&c, day)));
+        let day = Some(day);
+        let sheet = Sheet { c: &c, day };
+        if sheet.need().order != records {
+            return Err(format!("day {day:?}: {:?}", sheet.need()));
         }
-        rooms(run, r, &library, &c, day)?;
+        rooms(run, r, &library, sheet)?;
     }
     Ok(())
 }
@@ -515,14 +247,28 @@ fn every_case(run: &mut Run) -> Result<(), String> {
 
 pub const TESTS: &[(&str, Test)] = &[
     ("terms: the main column's", main_column),
-    ("terms: every term of columns", every_term),
-    ("terms: laid columns after calls, beside ranges", laid),
+    ("terms: sound columns", sound),
+    ("terms: every term of four years", years),
+    ("terms: every term of the century", century),
+    ("terms: laid columns after calls, beside ranges", |run| {
+        sheets::laid(run, (153, 1_000), any_day, by_ranges)
+    }),
     ("terms: more than 8,192 and 16,384 growers", many_growers),
-    ("terms: each fault alone, and a day past the last", alone),
-    ("terms: two faults", pairs),
-    ("terms: values out of range outside the term", outside),
-    ("terms: any column and day", any),
-    ("terms: each slice at the edge counts", edge_counts),
+    ("terms: each fault alone, and a day past the last", |run| {
+        sheets::alone(run, (155, 60), held)
+    }),
+    ("terms: two faults", |run| {
+        sheets::pairs(run, (156, 5), held)
+    }),
+    ("terms: 19 beside 8, every record", |run| {
+        sheets::every_record(run, (157, 60), held)
+    }),
+    ("terms: any column and day", |run| {
+        sheets::any(run, (158, 15_000), any_number)
+    }),
+    ("terms: each slice at the edge counts", |run| {
+        sheets::edge_counts(run, 159, held)
+    }),
     (
         "terms: every answer and every case has occurred",
         every_case,

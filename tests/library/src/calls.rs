@@ -1,5 +1,5 @@
 //! The calls as values, made and recorded by either implementation, the steps
-//! from grower to grower, and the second implementation's sheets.
+//! from grower to grower, and sheets.
 
 use crate::answers::{Answer, Stepped, Written};
 use crate::column::{ColumnSlices, View};
@@ -75,6 +75,22 @@ impl Library {
         }
     }
 
+    /// The sheet of a column, or of the term that holds a day.
+    #[inline]
+    pub fn sheet(
+        &self,
+        column: &View,
+        day: Option<u32>,
+        text: &mut [u8],
+        order: &mut [u32],
+        work: &mut [u32],
+    ) -> Written {
+        match day {
+            None => self.write_sheet(column, text, order, work),
+            Some(day) => self.write_term_sheet(column, day, text, order, work),
+        }
+    }
+
     pub fn record(&self, histograms: &mut [u32], set: &UnlaidSet, call: &Call) -> u32 {
         match *call {
             Call::Find(grower) => self.record_find(histograms, set, grower),
@@ -123,10 +139,11 @@ pub fn step_second(column: &View, step: &Step) -> Stepped {
     }
 }
 
-/// The second implementation's sheet of a column.
+/// The second implementation's sheet of a column, or of the term that holds a day.
 #[inline]
 pub fn sheet_second(
     column: &View,
+    day: Option<u32>,
     text: &mut [u8],
     order: &mut [u32],
     work: &mut [u32],
@@ -138,26 +155,10 @@ pub fn sheet_second(
         yields: y,
         days: n,
     } = *column;
-    second::sheet_write(g, w, y, n, at, text, order, work).into()
-}
-
-/// The second implementation's sheet of the term that holds a day.
-#[inline]
-pub fn term_sheet_second(
-    column: &View,
-    day: u32,
-    text: &mut [u8],
-    order: &mut [u32],
-    work: &mut [u32],
-) -> Written {
-    let View {
-        directory: at,
-        growers: g,
-        weights: w,
-        yields: y,
-        days: n,
-    } = *column;
-    second::term_sheet_write(g, w, y, n, at, day, text, order, work).into()
+    match day {
+        None => second::sheet_write(g, w, y, n, at, text, order, work).into(),
+        Some(day) => second::term_sheet_write(g, w, y, n, at, day, text, order, work).into(),
+    }
 }
 
 pub fn record_second(histograms: &mut [u32], set: &UnlaidSet, call: &Call) -> u32 {

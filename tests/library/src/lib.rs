@@ -14,9 +14,7 @@ pub use answers::{
     Answer, Applied, Costed, Counts, DateAnswer, DayAnswer, Imported, Listed, PartitionSlice,
     Planned, Stepped, TermAnswer, Totals, Written, DIRECTORY,
 };
-pub use calls::{
-    call_second, record_second, sheet_second, step_second, term_sheet_second, Call, Step,
-};
+pub use calls::{call_second, record_second, sheet_second, step_second, Call, Step};
 pub use column::{Column, ColumnSlices, View};
 pub use library::{date_of, day_of, tally_add, term_of, Empty, Library, LIBRARIES};
 pub use seen::{Seen, EDGES};

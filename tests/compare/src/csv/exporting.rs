@@ -2,6 +2,7 @@
 
 use super::calls::{export, first, import, slots_of, Slots};
 use super::file::delivery;
+use crate::bad::Bad;
 use crate::broken::asked_first;
 use crate::inputs::{self, EDGE_COUNTS};
 use crate::text::{old_slots, Text};
@@ -113,9 +114,13 @@ struct Given {
 }
 
 impl Given {
-    /// One that is accepted, with a free slot at least.
+    /// A few that are accepted, with a free slot at least.
     fn accepted(r: &mut Random) -> Given {
         let count = r.within(1, 5);
+        Given::of(r, count)
+    }
+
+    fn of(r: &mut Random, count: usize) -> Given {
         let deliveries: Vec<Delivery> = (0..count).map(|_| dated(r)).collect();
         let mut slots = slots_of(&deliveries);
         let free = r.within(1, 3);
@@ -217,10 +222,7 @@ impl Fault {
         match (self, other) {
             // The slice has its length again.
             (Shorter(i), Longer(j)) if i == j => 0,
-            _ => match (self.refusal(), other.refusal()) {
-                (0, number) | (number, 0) => number,
-                (a, b) => asked_first(a, b),
-            },
+            _ => asked_first(self.refusal(), other.refusal()),
         }
     }
 }
@@ -263,6 +265,27 @@ pub fn faults(run: &mut Run) -> Result<(), String> {
                 let expected = one.refusal_with(other);
                 export_is(run, r, &library, &given, expected).map_err(with)?;
             }
+        }
+        Ok(())
+    })
+}
+
+/// A day out of range in each exported slot, alone and beside a weight or a yield
+/// out of range in each: 8 ahead of 19, and both ahead of 15.
+pub fn every_slot(run: &mut Run) -> Result<(), String> {
+    run.cases(95, 60, |run, r| {
+        let library = inputs::library(r);
+        let used = r.pick(&[1, 2, 5, 12, 100, 300]);
+        let clean = Given::of(r, used);
+        for bad in Bad::every(r, used) {
+            let mut given = clean.clone();
+            bad.put(r, given.slots.each_mut());
+            let number = bad.refusal(&(0..used));
+            let with = |why| format!("{bad:?}: {why}");
+            export_is(run, r, &library, &given, number).map_err(with)?;
+            given.room = 0;
+            let number = asked_first(number, 15);
+            export_is(run, r, &library, &given, number).map_err(with)?;
         }
         Ok(())
     })

@@ -46,6 +46,10 @@ pub const TESTS: &[(&str, Test)] = &[
     ("files: exported and imported", exporting::round_trip),
     ("files: exported, each fault and two", exporting::faults),
     (
+        "files: exported, 19 beside 8, each slot",
+        exporting::every_slot,
+    ),
+    (
         "files: exported, each slice at the edge counts",
         exporting::edge_counts,
     ),

@@ -2,6 +2,7 @@
 
 mod bounds;
 mod calls;
+mod days;
 mod increases;
 mod limits;
 mod listings;
@@ -725,6 +726,13 @@ pub const TESTS: &[(&str, Test)] = &[
         "plan: calls added to a list against their bounds",
         increases::bounded,
     ),
+    (
+        "plan: 19 beside 8, offered and in every record",
+        days::every_place,
+    ),
+    ("plan: 19 beside 8, layouts applied", days::applied),
+    ("plan: ranges over days recorded as ranges", days::spans),
+    ("plan: equal but for the day, recorded", days::another_day),
     ("plan: broken input, each fault alone", alone),
     ("plan: broken input, two faults", pairs),
     (

@@ -2,10 +2,12 @@
 //! after it.
 
 use super::seen;
-use crate::calls::{column_memory, column_text, directory_text, slots_text, NAMES, SLOT_NAMES};
+use crate::calls::{
+    column_memory, column_text, directory_text, slices, slots_text, NAMES, SLOT_NAMES,
+};
 use crate::memory::Memory;
 use crate::text::{old_bytes, shown, Text, TEXT};
-use meltusk::{Applied, Column, Library, Seen, View, Written, DIRECTORY};
+use meltusk::{Applied, Column, Library, Seen, Written, DIRECTORY};
 use second::random::Random;
 use second::{snapshot_size, TextAnswer, BLOCK_LIMIT, LENGTHS};
 
@@ -49,15 +51,9 @@ pub fn write(
     let mut second_text = compiled_text.clone();
     let mut slots = column_memory(r, c);
     let before = slots.clone();
-    let compiled = slots.lend(|[growers, weights, yields, days, directory]| {
-        let column = View {
-            directory,
-            growers,
-            weights,
-            yields,
-            days,
-        };
-        compiled_text.lend(|[text]| library.write_snapshot(&column, text))
+    let compiled = slots.lend(|lent| {
+        let column = slices(lent);
+        compiled_text.lend(|[text]| library.write_snapshot(&column.view(), text))
     });
     let answer = second_text.lend(|[text]| write_second(c, text));
     let second = Written::from(answer);

@@ -2,6 +2,7 @@
 
 use super::calls::{read, size, write};
 use super::damage::line;
+use crate::bad::{self, Bad};
 use crate::broken::{self, asked_first, Fault, FAULTS};
 use crate::calls::{Asked, Pair};
 use crate::inputs::{self, Kind, EDGE_COUNTS, MIXES};
@@ -124,12 +125,7 @@ fn rooms(run: &mut Run, r: &mut Random, library: &Library, c: &Column) -> Result
 pub fn sound(run: &mut Run) -> Result<(), String> {
     run.cases(60, 5_000, |run, r| {
         let library = inputs::library(r);
-        let kind = match r.below(40) {
-            0 => Kind::Large,
-            1..=9 => Kind::Full,
-            _ => Kind::Sound,
-        };
-        let c = inputs::clean_column(r, kind).undated();
+        let c = inputs::sound_column(r).undated();
         rooms(run, r, &library, &c)?;
         round_trip(run, r, &library, &c)
     })
@@ -278,10 +274,7 @@ pub fn expected_of(first: WriteFault, second: WriteFault) -> u32 {
         (OfColumn(Fault::Block(_)), OfColumn(Fault::DirectoryLength(_))) => 6,
         // The slice has its length again.
         (OfColumn(Fault::Shorter(i)), OfColumn(Fault::Longer(j))) if i == j => 0,
-        _ => match (first.expected(), second.expected()) {
-            (0, number) | (number, 0) => number,
-            (a, b) => asked_first(a, b),
-        },
+        _ => asked_first(first.expected(), second.expected()),
     }
 }
 
@@ -387,29 +380,29 @@ pub fn replace_some(r: &mut Random, c: &mut Column) {
     }
 }
 
-/// A day that a book cannot hold, in each record: 19, ahead of a room that is
-/// short and behind a bad weight elsewhere and a record in another's partition.
+/// A day that a book cannot hold in each record: 19, ahead of a room that is short,
+/// behind a weight or a yield out of range in each record and behind a record in
+/// another's partition.
 pub fn dated(run: &mut Run) -> Result<(), String> {
-    run.cases(65, 300, |run, r| {
+    run.cases(76, 60, |run, r| {
         let library = inputs::library(r);
-        let (clean, room) = accepted(r);
+        let clean = bad::column(r).undated();
         let used = clean.view().used();
-        for at in 0..used {
+        for bad in Bad::every(r, used) {
             let mut c = clean.clone();
-            c.days[at] = r.pick(&[1, 14, 8_825, DAY_LIMIT, DAY_LIMIT + 1, u32::MAX]);
-            let mut light = c.clone();
-            light.weights[r.below(used)] = WEIGHT_LIMIT + 1;
-            let mut unsound = light.clone();
+            let late = r.pick(&[1, 14, 8_825, DAY_LIMIT, DAY_LIMIT + 1, u32::MAX]);
+            bad.put_day(r, c.slices(), late);
+            let mut unsound = c.clone();
             let is_moved = GrowerAbove.put_grower(r, &mut unsound);
+            let number = bad.refusal(&(0..used));
             for (c, room, expected) in [
-                (&c, room, 19),
-                (&c, 0, 19),
-                (&light, room, 8),
-                (&unsound, room, if is_moved { 6 } else { 8 }),
+                (&c, size(&c), number),
+                (&c, size(&c) - 1, asked_first(number, 15)),
+                (&unsound, size(&c), if is_moved { 6 } else { number }),
             ] {
                 let (refusal, _) = write(r, &mut run.seen, &library, c, room)?;
                 if refusal != expected {
-                    return Err(format!("slot {at} of {c:?}: {refusal}, not {expected}"));
+                    return Err(format!("{bad:?} of {c:?}: {refusal}, not {expected}"));
                 }
             }
         }
