@@ -48,7 +48,8 @@ fn day(run: &mut Run, n: u32) -> Result<(DateAnswer, TermAnswer), String> {
 }
 
 /// Every day there and back, and every date of the years about the century with
-/// months and days of the month past their ends.
+/// months and days of the month past their ends, against a calendar that walks from
+/// day to day.
 fn century(run: &mut Run) -> Result<(), String> {
     for n in (0..=DAY_LIMIT).chain(about(0, DAY_LIMIT)) {
         let (a, term) = day(run, n)?;
