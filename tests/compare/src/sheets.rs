@@ -705,7 +705,7 @@ pub fn alone(run: &mut Run, (test, count): (u64, u64), drawn: Drawn) -> Result<(
             let number = fault.expected();
             let sheet = Sheet { c: &c, day };
             is(run, r, &library, (sheet, room), number).map_err(with)?;
-            // The term of no day.
+            // A day that has no term.
             if day.is_some() {
                 let day = Some(inputs::day_out(r));
                 let number = broken::asked_first(number, 19);
