@@ -20,6 +20,12 @@
  * a call only reads, those that are const here, may overlap each other. Two
  * calls may run at the same time if neither writes to a slice of the other.
  *
+ * What a host can do for speed: give the planner prices that were measured on
+ * the machine (below); take a block length that is no power of two; and let the
+ * four slices begin at different places of a page, some cache lines apart. With
+ * 64 partitions of 4,096 slots and slices that begin alike an insert took five
+ * times as long as with slices apart, and ten times as long as at 4,032 slots.
+ *
  * A host's round: record a week's calls against an unpartitioned set; plan a
  * layout; apply it; then find, range, insert, delete and move on the column,
  * step from grower to grower, write its settlement sheet or a term's, and write
