@@ -13,7 +13,7 @@ use Rattle.model.specs.declared.Delivery.{Delivery}
 use Rattle.model.specs.declared.Totals.{Totals}
 use Rattle.model.specs.Lists.{sumOf, every, keep}
 use Rattle.model.specs.Calendar.{Span, span, isIn}
-use Rattle.model.specs.Deliveries.{Slices, slicesOf, zipped, rows, onDays, totalsOf}
+use Rattle.model.specs.Deliveries.{delivery, Slices, slicesOf, zipped, rows, onDays, totalsOf}
 use Rattle.model.proofs.Tests.{and-fst, and-snd, and-mk, of-true}
 use Rattle.slices.specs.Slices.{allWithin, countBetween, keptWeights, Measured}
 use Rattle.slices.proofs.Scans.{inside, Counting, counting-start, counting-yes, counting-no, counting-end}
@@ -94,21 +94,19 @@ kept-measured p s m =
       good-yields = m .good-yields;
     }
 
-abbrev weighed : List Delivery → ℕ
-weighed l = sumOf (map (λ (d : Delivery). d .weight) l)
+-- what records add up to, by a number of weight and yield that is 0 without weight
+module _ (p : Span) (f : ℕ → ℕ → ℕ) (none : (y : ℕ) → f 0 y ≡ 0) where
+  abbrev added : List Delivery → ℕ
+  added l = sumOf (map (λ (d : Delivery). f (d .weight) (d .«oil_yield»)) l)
 
-abbrev pressed : List Delivery → ℕ
-pressed l = sumOf (map (λ (d : Delivery). d .weight * d .«oil_yield») l)
-
-module _ (p : Span) where
-  kept-weight : (gs ws ys ns : List ℕ) → weighed (zipped gs (keptWeights p ws ns) ys ns) ≡ weighed (keep (onDays p) (zipped gs ws ys ns))
+  kept-sum : (gs ws ys ns : List ℕ) → added (zipped gs (keptWeights p ws ns) ys ns) ≡ added (keep (onDays p) (zipped gs ws ys ns))
   unfolding keptWeights zipped keep sumOf
-  kept-weight [] ws ys ns = refl
-  kept-weight (g ∷ gs) [] ys ns = refl
-  kept-weight (g ∷ gs) (w ∷ ws) [] [] = refl
-  kept-weight (g ∷ gs) (w ∷ ws) (y ∷ ys) [] = refl
-  kept-weight (g ∷ gs) (w ∷ ws) [] (n ∷ ns) = refl
-  kept-weight (g ∷ gs) (w ∷ ws) (y ∷ ys) (n ∷ ns) = go (isIn p n) (kept-weight gs ws ys ns)
+  kept-sum [] ws ys ns = refl
+  kept-sum (g ∷ gs) [] ys ns = refl
+  kept-sum (g ∷ gs) (w ∷ ws) [] [] = refl
+  kept-sum (g ∷ gs) (w ∷ ws) (y ∷ ys) [] = refl
+  kept-sum (g ∷ gs) (w ∷ ws) [] (n ∷ ns) = refl
+  kept-sum (g ∷ gs) (w ∷ ws) (y ∷ ys) (n ∷ ns) = go (isIn p n) (kept-sum gs ws ys ns)
     where
       all : List Delivery
       all = zipped gs (keptWeights p ws ns) ys ns
@@ -116,34 +114,9 @@ module _ (p : Span) where
       some : List Delivery
       some = keep (onDays p) (zipped gs ws ys ns)
 
-      d : Delivery
-      d = record { grower = g; weight = w; «oil_yield» = y; day = n }
-
-      go : (b : Bool) → weighed all ≡ weighed some → cond b w 0 + weighed all ≡ weighed (cond b (d ∷ some) some)
-      go true e = omega arith
-      go false e = omega arith
-
-  kept-oil : (gs ws ys ns : List ℕ) → pressed (zipped gs (keptWeights p ws ns) ys ns) ≡ pressed (keep (onDays p) (zipped gs ws ys ns))
-  unfolding keptWeights zipped keep sumOf
-  kept-oil [] ws ys ns = refl
-  kept-oil (g ∷ gs) [] ys ns = refl
-  kept-oil (g ∷ gs) (w ∷ ws) [] [] = refl
-  kept-oil (g ∷ gs) (w ∷ ws) (y ∷ ys) [] = refl
-  kept-oil (g ∷ gs) (w ∷ ws) [] (n ∷ ns) = refl
-  kept-oil (g ∷ gs) (w ∷ ws) (y ∷ ys) (n ∷ ns) = go (isIn p n) (kept-oil gs ws ys ns)
-    where
-      all : List Delivery
-      all = zipped gs (keptWeights p ws ns) ys ns
-
-      some : List Delivery
-      some = keep (onDays p) (zipped gs ws ys ns)
-
-      d : Delivery
-      d = record { grower = g; weight = w; «oil_yield» = y; day = n }
-
-      go : (b : Bool) → pressed all ≡ pressed some → cond b w 0 * y + pressed all ≡ pressed (cond b (d ∷ some) some)
-      go true e = omega arith
-      go false e = omega arith
+      go : (b : Bool) → added all ≡ added some → f (cond b w 0) y + added all ≡ added (cond b (delivery g w y n ∷ some) some)
+      go true e = ap (λ (k : ℕ). f w y + k) e
+      go false e = omega (arith, none y)
 
 pub kept-totals : (first last : ℕ) (s : Slices) → Measured s → (k : ℕ) → k ≡ countBetween first last (s .days) → (t : Totals) → t ≡ totalsOf (rows (lightened (span first last) s))
     → _≡_ {A = Totals} (record { records = k; weight = t .weight; oil = t .oil }) (totalsOf (keep (onDays (span first last)) (rows s)))
@@ -151,6 +124,6 @@ unfolding totalsOf
 kept-totals first last s m k e t f =
     let p = span first last in
     let a = e ∙ dated 0 0 first last s m in
-    let b = ap (λ (x : Totals). x .weight) f ∙ kept-weight p (s .growers) (s .weights) (s .yields) (s .days) in
-    let c = ap (λ (x : Totals). x .oil) f ∙ kept-oil p (s .growers) (s .weights) (s .yields) (s .days) in
+    let b = ap (λ (x : Totals). x .weight) f ∙ kept-sum p (λ (x y : ℕ). x) (λ y. refl) (s .growers) (s .weights) (s .yields) (s .days) in
+    let c = ap (λ (x : Totals). x .oil) f ∙ kept-sum p (λ (x y : ℕ). x * y) (λ y. omega arith) (s .growers) (s .weights) (s .yields) (s .days) in
     λ i. record { records = a i; weight = b i; oil = c i }
