@@ -8,9 +8,8 @@ use lib.Dec.{T, ltb, eqb, ltb→lt, eqb→eq}
 use Rattle.model.proofs.Tests.{and-fst, and-snd}
 use Rattle.model.specs.Lists.{sumOf, upFrom}
 use Rattle.model.specs.Calendar.{date, daysBeforeMonth, daysBeforeYear, dayNumber, dateOf}
-use Rattle.dates.specs.Months.{isEarlier}
 use Rattle.model.specs.SettlementTerms.{Half, early, late, term, termAt, termOf}
-use Rattle.dates.specs.Months.{daysIn}
+use Rattle.dates.specs.Months.{isEarlier, daysIn}
 use Rattle.dates.specs.DateLaws.{ExactEachWay, NumbersRise, OneTerm, TermSize, NoGap}
 use Rattle.dates.proofs.Dates.{Real, real, unreal, day-most, reached, the-date, year-le, month-le, day-le}
 use Rattle.dates.proofs.TermLaws.{month-begins, is-month, Begins, begins, Held, held, is-in, in-held, only, next-starts, ends}

@@ -7,8 +7,7 @@ use lib.Dec.{T, leb, ltb, leb→le}
 use borrow.Author.Tests.{leb-true, leb-false, le-leb, lt-leb, le-ltb}
 use Rattle.model.proofs.Tests.{and-fst, and-snd}
 use Rattle.model.specs.Bounds.{mostDay}
-use Rattle.model.specs.Calendar.{date, isLeap, monthDays, dayNumber, nextDate}
-use Rattle.model.specs.Calendar.{Span, isIn}
+use Rattle.model.specs.Calendar.{Span, isIn, date, isLeap, monthDays, dayNumber, nextDate}
 use Rattle.model.specs.SettlementTerms.{Half, early, late, term, termAt, termOf}
 use Rattle.dates.specs.Months.{isMonth}
 use Rattle.dates.proofs.Months.{MonthFacts, month-facts}

@@ -7,8 +7,7 @@ use Rattle.dates.specs.declared.DayAnswer.{DayAnswer}
 use Rattle.dates.specs.declared.DateAnswer.{DateAnswer}
 use Rattle.dates.specs.declared.TermAnswer.{TermAnswer}
 use Rattle.model.specs.Bounds.{mostDay}
-use Rattle.model.specs.Calendar.{Date, date, isDate, dayNumber, dateOf}
-use Rattle.model.specs.Calendar.{Span}
+use Rattle.model.specs.Calendar.{Span, Date, date, isDate, dayNumber, dateOf}
 use Rattle.model.specs.SettlementTerms.{termOf}
 
 abbrev pub dayGiven : ℕ → DayAnswer

@@ -1,9 +1,8 @@
 -- Examples as statements over the definitions: each date and its number, both ways.
 use Prim.Native.Nat.{ℕ}
 use mathlib.Core.Path.{_≡_}
-use mathlib.Core.Bool.{true, false}
-use Rattle.model.specs.Calendar.{date, isLeap, isDate, dayNumber, dateOf}
-use Rattle.model.specs.Calendar.{span}
+use mathlib.Core.Bool.{true}
+use Rattle.model.specs.Calendar.{span, date, isDate, dayNumber, dateOf}
 use Rattle.model.specs.SettlementTerms.{termOf}
 use Rattle.dates.specs.DateCalls.{dayCall, dateCall, termCall}
 
@@ -32,9 +31,6 @@ pub record DateExamples : Type 0 where
   pub feb-28-2024 : Numbered 2024 2 28 8824
   pub feb-28-2096 : Numbered 2096 2 28 35122
   pub feb-29-2096 : Numbered 2096 2 29 35123
-  -- centuries: divisible by 400, and not
-  pub century-2000 : isLeap 2000 ≡ true
-  pub century-2100 : isLeap 2100 ≡ false
   -- dates that are refused
   pub feb-29-2023 : Missing 2023 2 29
   pub feb-30-2024 : Missing 2024 2 30
@@ -48,9 +44,7 @@ pub record DateExamples : Type 0 where
   pub past-the-last : dateCall 36525 ≡ record { refusal = 19; year = 0; month = 0; day = 0 }
   pub no-term : termCall 36525 ≡ record { refusal = 19; first = 0; last = 0 }
   pub last-day : dateCall 36524 ≡ record { refusal = 0; year = 2099; month = 12; day = 31 }
-  -- terms: of 13 days, 14, 15 and 16
-  pub first-term : termOf 0 ≡ span 0 14
-  pub second-term : termOf 15 ≡ span 15 30
+  -- second terms of 14 days, of 13 and of 16
   pub leap-term : termOf 8825 ≡ span 8812 8825
   pub short-term : termOf 8459 ≡ span 8447 8459
   pub last-term : termOf 36524 ≡ span 36509 36524

@@ -3,11 +3,9 @@ use Prim.Native.Nat.{ℕ, _+_, _≤_, _<_}
 use mathlib.Core.Path.{_≡_}
 use lib.Dec.{T}
 use Rattle.model.specs.Bounds.{mostDay}
-use Rattle.model.specs.Calendar.{Date, isDate, dayNumber, dateOf}
-use Rattle.dates.specs.Months.{isEarlier}
-use Rattle.model.specs.Calendar.{isIn}
+use Rattle.model.specs.Calendar.{isIn, Date, isDate, dayNumber, dateOf}
 use Rattle.model.specs.SettlementTerms.{Half, term, termOf}
-use Rattle.dates.specs.Months.{isMonth, daysIn}
+use Rattle.dates.specs.Months.{isEarlier, isMonth, daysIn}
 
 -- "Conversion between day number and date is exact each way."
 pub record ExactEachWay : Type 0 where

@@ -3,7 +3,7 @@ use Prim.Native.Nat.{ℕ, _+_, _≤_, _<_}
 use mathlib.Core.Path.{_≡_}
 use mathlib.Core.Bool.{Bool}
 use Rattle.dates.specs.declared.Parts.{Parts}
-use Rattle.model.specs.Calendar.{date, isLeap, monthDays, daysBeforeMonth, dayNumber}
+use Rattle.model.specs.Calendar.{firstYear, lastYear, date, isLeap, monthDays, daysBeforeMonth, dayNumber}
 
 -- month m holds day n of a year, counted from 0
 pub record MonthAt (leap : Bool) (n m : ℕ) : Type 0 where
@@ -15,8 +15,8 @@ pub record MonthAt (leap : Bool) (n m : ℕ) : Type 0 where
 -- p is a date that exists, and has the number n
 pub record Parted (n : ℕ) (p : Parts) : Type 0 where
   pub leap-year : p .leap ≡ isLeap (p .year)
-  pub year-least : 2000 ≤ p .year
-  pub year-most : p .year ≤ 2099
+  pub year-least : firstYear ≤ p .year
+  pub year-most : p .year ≤ lastYear
   pub month-least : 1 ≤ p .month
   pub month-most : p .month ≤ 12
   pub day-least : 1 ≤ p .day

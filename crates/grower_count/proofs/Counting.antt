@@ -14,7 +14,8 @@ use Rattle.slot_order.proofs.Picking.{picked, picked-few}
 use Rattle.model.specs.Sheet.{eachOnce}
 use Rattle.model.proofs.ListLaws.{at-map}
 use Rattle.model.proofs.GrowerLaws.{none-kept}
-use Rattle.grower_count.specs.Batches.{mostAtOnce, growersAt, Window}
+use Rattle.slot_order.specs.Passes.{growersAt}
+use Rattle.grower_count.specs.Batches.{mostAtOnce, Window}
 use Rattle.model.proofs.GrowerLaws.{keep-whole}
 use Rattle.model.proofs.SheetLaws.{once-fewer}
 use Rattle.grower_count.proofs.Smallest.{all-by, once-past}

@@ -10,10 +10,10 @@ use lib.ListN.{length, getD, take, drop, set, length-set, length-map, length-tak
 use lib.Seq.{take-all, drop-drop, drop-set-lt, take-set-le, take-suc-set, getD-drop, getD-take}
 use Rattle.model.specs.Lists.{every, neverFalls}
 use Rattle.model.specs.Sheet.{placedOnce, eachOnce}
-use Rattle.slot_order.specs.Passes.{slotsIn}
+use Rattle.slot_order.specs.Passes.{slotsIn, growersAt}
 use Rattle.model.proofs.ListLaws.{map-take, at-map, sorted, every-at, every-front}
 use Rattle.model.proofs.OnceLaws.{member}
-use Rattle.grower_count.specs.Batches.{growersAt, Cut}
+use Rattle.grower_count.specs.Batches.{Cut}
 use Rattle.grower_count.proofs.Smallest.{member-front, all-by, once-known, once-last}
 use Rattle.grower_count.proofs.Slots.{slots-joined, slot-alone, growers-joined, growers-next}
 

@@ -11,12 +11,12 @@ use lib.ListN.{length, getD, take, set, length-append, length-set}
 use lib.Seq.{take-suc-set}
 use Rattle.model.specs.Lists.{every, keep}
 use Rattle.model.specs.Sheet.{eachOnce}
-use Rattle.slot_order.specs.Passes.{slotsIn}
+use Rattle.slot_order.specs.Passes.{slotsIn, growersAt}
 use Rattle.model.proofs.Tests.{and-fst, and-snd, or-fst, or-snd, of-true, is-true, no-such}
 use Rattle.model.proofs.ListLaws.{keep-append}
 use Rattle.model.proofs.OnceLaws.{member, member-append}
 use Rattle.slot_order.proofs.Picking.{picked, picked-last}
-use Rattle.grower_count.specs.Batches.{growersAt, growersBefore, isNew, FilledUp}
+use Rattle.grower_count.specs.Batches.{growersBefore, isNew, FilledUp}
 use Rattle.grower_count.proofs.Smallest.{kept-member, once-more, once-known}
 use Rattle.grower_count.proofs.Slots.{slots-joined, slot-alone, growers-joined}
 

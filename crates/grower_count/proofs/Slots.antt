@@ -8,10 +8,9 @@ use lib.Dec.{T, ltb, lt→ltb}
 use lib.ListN.{length, getD, take}
 use lib.Seq.{take-suc}
 use Rattle.model.specs.Lists.{every}
-use Rattle.slot_order.specs.Passes.{slotsIn}
+use Rattle.slot_order.specs.Passes.{slotsIn, growersAt}
 use Rattle.model.proofs.Tests.{and-mk}
 use Rattle.model.proofs.ListLaws.{every-joined}
-use Rattle.grower_count.specs.Batches.{growersAt}
 
 module _ (gs : List ℕ) where
   abbrev there : ℕ → Bool

@@ -10,10 +10,10 @@ use lib.ListN.{length, getD, take, length-map}
 use lib.Seq.{take-all, take-take, take-append-le, length-take-le}
 use Rattle.model.specs.Lists.{upFrom, every, keep, neverFalls}
 use Rattle.model.specs.Sheet.{eachOnce, byGrower}
-use Rattle.slot_order.specs.Passes.{slotsIn}
+use Rattle.slot_order.specs.Passes.{slotsIn, growersAt}
 use Rattle.model.proofs.ListLaws.{map-take, every-front}
 use Rattle.slot_order.proofs.Groups.{by-grower-length, by-grower-in, by-grower-falls-not, by-grower-growers}
-use Rattle.grower_count.specs.Batches.{mostAtOnce, growersAt, growersBefore, FilledUp, Cut, Smallest, Window}
+use Rattle.grower_count.specs.Batches.{mostAtOnce, growersBefore, FilledUp, Cut, Smallest, Window}
 use Rattle.grower_count.proofs.Smallest.{front-joined}
 use Rattle.grower_count.proofs.Slots.{slots-joined, growers-joined}
 

@@ -8,16 +8,12 @@ use lib.Dec.{T, leb, ltb, eqb}
 use Rattle.model.specs.Lists.{upFrom, keep}
 use Rattle.model.specs.Calendar.{span, isIn}
 use Rattle.model.specs.Sheet.{eachOnce}
-use Rattle.slot_order.specs.Passes.{slotsIn}
+use Rattle.slot_order.specs.Passes.{slotsIn, growersAt}
 use Rattle.grower_count.specs.declared.Wanted.{Wanted}
 
 -- how many growers are counted at a time
 abbrev pub mostAtOnce : ℕ
 mostAtOnce = 8192
-
--- the growers of slots
-abbrev pub growersAt : List ℕ → List ℕ → List ℕ
-growersAt gs is = map (λ (i : ℕ). getD gs i 0) is
 
 -- is a slot's day one of those wanted?
 abbrev pub during : Wanted → List ℕ → ℕ → Bool

@@ -10,8 +10,8 @@ ghost use Rattle.model.specs.Bounds.{mostSlots};
 ghost use Rattle.model.specs.Lists.{neverFalls};
 ghost use Rattle.model.specs.Calendar.{span};
 ghost use Rattle.model.specs.Sheet.{eachOnce, slotsDuring};
-ghost use Rattle.slot_order.specs.Passes.{slotsIn};
-ghost use Rattle.grower_count.specs.Batches.{mostAtOnce, growersAt, during, isNew, FilledUp, Cut, Smallest, Window};
+ghost use Rattle.slot_order.specs.Passes.{slotsIn, growersAt};
+ghost use Rattle.grower_count.specs.Batches.{mostAtOnce, during, isNew, FilledUp, Cut, Smallest, Window};
 use model::MOST_NUMBER;
 
 // The slots of a batch, the growers that are counted at a time, and the slots that are remembered.

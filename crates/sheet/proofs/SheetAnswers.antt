@@ -2,7 +2,7 @@
 use Prim.Native.Nat.{ℕ, _+_, _*_, _≤_, _<_}
 use mathlib.Core.Path.{_≡_, refl, sym, ap, _∙_, subst}
 use mathlib.Core.Bool.{Bool, true, false, cond, _&&_, and-false}
-use mathlib.Core.List.{List, [], _++_}
+use mathlib.Core.List.{List, [], _∷_, _++_}
 use native.Mathlib.Omega.{arith}
 use borrow.Author.Tests.{ne-eqb, le-leb, lt-leb}
 use lib.Dec.{T, leb, leb→le}
@@ -11,7 +11,7 @@ use lib.Seq.{length-take-le, take-at}
 use Rattle.model.specs.declared.Delivery.{Delivery}
 use Rattle.model.specs.Bounds.{mostSlots}
 use Rattle.model.specs.Lists.{sumOf, every, keep}
-use Rattle.model.specs.Checks.{Check, firstFailed}
+use Rattle.model.specs.Checks.{Check, ask, firstFailed}
 use Rattle.model.specs.Calendar.{Span, isIn}
 use Rattle.model.specs.Deliveries.{Slices, rows, eachSlice, inRange, dayOk, onDays}
 use Rattle.model.specs.Column.{Column, lengthsOf, allRecords}
@@ -28,13 +28,13 @@ use Rattle.fields.proofs.Placing.{placed-first}
 use Rattle.snapshot.specs.declared.Checked.{Checked}
 use Rattle.snapshot.specs.Answers.{soundChecks, checkedColumn}
 use Rattle.snapshot.proofs.WriteAnswers.{passed, records-are}
-use Rattle.slot_order.specs.Passes.{slotsIn}
+use Rattle.slot_order.specs.Passes.{slotsIn, growersAt}
 use Rattle.slot_order.proofs.Groups.{by-grower-length, by-grower-in, by-grower-falls-not, by-grower-growers}
 use Rattle.slot_order.proofs.Picking.{picked-few, picked-in}
-use Rattle.sheet_lines.specs.Runs.{recordsAt, growersAt, InOrder}
+use Rattle.sheet_lines.specs.Runs.{recordsAt, InOrder}
 use Rattle.sheet_lines.proofs.SheetText.{length-sheet, same-sheet}
 use Rattle.sheet.specs.declared.Sized.{Sized}
-use Rattle.sheet.specs.Answers.{spanOf, isGiven, spanSlots, spanText, endChecks, spanRefusal, sizedOf, spanCall, notSized}
+use Rattle.sheet.specs.Answers.{spanOf, isGiven, spanSlots, spanText, spanRefusal, sizedOf, spanCall, notSized}
 use Rattle.sheet.proofs.PartOrder.{long-growers, long-days, part-even, part-slots, part-sorted, part-records}
 
 -- the bytes of the sheet of slots
@@ -94,7 +94,7 @@ module _ (L : ℕ) (c : Column) (t : TermAnswer) (room orderRoom workRoom : ℕ)
   fits = leb (length (spanText L c (spanOf t))) room && (leb many orderRoom && leb many workRoom)
 
   abbrev last : List Check
-  last = endChecks L c (isGiven t) many (spanText L c (spanOf t)) room orderRoom workRoom
+  last = ask 19 dated ∷ ask 15 fits ∷ []
 
   refused-by : (n : ℕ) → spanRefusal L c t room orderRoom workRoom ≡ n → (n ≡ 0 → ⊥) → (y : Sized) → y ≡ notSized n → y ≡ sizedOf L c t room orderRoom workRoom
   unfolding sizedOf

@@ -1,18 +1,18 @@
 -- The sheet of the records of a span of days, of which the whole sheet and a term's are two; and what checking a column for it finds.
 use Prim.Native.Nat.{ℕ}
-use mathlib.Core.Bool.{Bool, cond, _&&_}
-use mathlib.Core.List.{List, [], _∷_, _++_}
+use mathlib.Core.Bool.{Bool, cond}
+use mathlib.Core.List.{List}
 use lib.ListN.{length}
-use lib.Dec.{leb, eqb}
-use Rattle.model.specs.Lists.{sumOf, every, keep}
-use Rattle.model.specs.Checks.{Check, ask, firstFailed}
+use lib.Dec.{eqb}
+use Rattle.model.specs.Lists.{sumOf, keep}
+use Rattle.model.specs.Checks.{firstFailed}
 use Rattle.model.specs.Calendar.{Span, span}
-use Rattle.model.specs.Deliveries.{dayOk, onDays}
+use Rattle.model.specs.Deliveries.{onDays}
 use Rattle.model.specs.Column.{Column, lengthsOf, allRecords}
 use Rattle.model.specs.Sheet.{sheetOf, byGrower, slotsDuring}
+use Rattle.model.specs.Questions.{sheetChecksOf}
 use Rattle.model.specs.SheetCalls.{SheetResult, written, notWritten}
 use Rattle.dates.specs.declared.TermAnswer.{TermAnswer}
-use Rattle.snapshot.specs.Answers.{soundChecks}
 use Rattle.sheet.specs.declared.Sized.{Sized}
 
 -- the days of an answer, and whether it is one
@@ -31,17 +31,10 @@ module _ (L : ℕ) (c : Column) where
   abbrev pub spanText : Span → List ℕ
   spanText s = sheetOf (keep (onDays s) (allRecords L c))
 
-  -- checks 19, of days (`named`: and of those that name the span), and 15, behind the others
-  abbrev pub endChecks : Bool → ℕ → List ℕ → ℕ → ℕ → ℕ → List Check
-  endChecks named k t room orderRoom workRoom =
-      ask 19 (named && every dayOk (allRecords L c)) ∷ ask 15 (leb (length t) room && (leb k orderRoom && leb k workRoom)) ∷ []
-
-  -- the refusal of a sheet of k records
-  abbrev pub sheetRefusal : Bool → ℕ → List ℕ → ℕ → ℕ → ℕ → ℕ
-  sheetRefusal named k t room orderRoom workRoom = firstFailed (soundChecks L c ++ endChecks named k t room orderRoom workRoom)
-
+  -- the refusal
   abbrev pub spanRefusal : TermAnswer → ℕ → ℕ → ℕ → ℕ
-  spanRefusal t = sheetRefusal (isGiven t) (length (spanSlots (spanOf t))) (spanText (spanOf t))
+  spanRefusal t room orderRoom workRoom =
+      firstFailed (sheetChecksOf L c (isGiven t) (length (spanSlots (spanOf t))) (spanText (spanOf t)) room orderRoom workRoom)
 
   -- the refusal, how many deliveries there are, and how many of these days
   unfoldable pub sizedOf : TermAnswer → ℕ → ℕ → ℕ → Sized

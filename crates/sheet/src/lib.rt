@@ -9,7 +9,7 @@ ghost use Rattle.model.specs.Calendar.{span};
 ghost use Rattle.model.specs.Lent.{columnIn};
 ghost use Rattle.model.specs.Sheet.{eachOnce, slotsDuring};
 ghost use Rattle.model.specs.SheetCalls.{sheetCall, termSheetCall};
-ghost use Rattle.sheet_lines.specs.Runs.{growersAt};
+ghost use Rattle.slot_order.specs.Passes.{growersAt};
 ghost use Rattle.sheet.specs.Answers.{sizedOf, notSized, spanCall};
 use dates::TermAnswer;
 use model::MOST_DAY;

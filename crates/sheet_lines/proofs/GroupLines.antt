@@ -27,7 +27,8 @@ use Rattle.slices.proofs.Scans.{is-equal}
 use Rattle.fields.specs.Writing.{placed}
 use Rattle.fields.proofs.Placing.{length-placed, placed-none, placed-joined}
 use Rattle.slot_order.proofs.Groups.{sorted-by-grower}
-use Rattle.sheet_lines.specs.Runs.{deliveryAt, recordsAt, growersAt, InOrder, slotsFront, runFrom}
+use Rattle.slot_order.specs.Passes.{growersAt}
+use Rattle.sheet_lines.specs.Runs.{deliveryAt, recordsAt, InOrder, slotsFront, runFrom}
 use Rattle.sheet_lines.proofs.RunLaws.{totals-by, growerAt, slots-light}
 
 -- the growers of records in slots

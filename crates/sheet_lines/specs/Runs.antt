@@ -8,18 +8,15 @@ use Rattle.model.specs.declared.Delivery.{Delivery}
 use Rattle.model.specs.Bounds.{mostSlots}
 use Rattle.model.specs.Lists.{neverFalls}
 use Rattle.model.specs.Deliveries.{Slices, delivery}
-use Rattle.slot_order.specs.Passes.{slotsIn}
+use Rattle.slot_order.specs.Passes.{slotsIn, growersAt}
 
 -- the delivery in a slot
 abbrev pub deliveryAt : Slices → ℕ → Delivery
 deliveryAt s i = delivery (getD (s .growers) i 0) (getD (s .weights) i 0) (getD (s .yields) i 0) (getD (s .days) i 0)
 
--- the deliveries in slots, and their growers
+-- the deliveries in slots
 abbrev pub recordsAt : Slices → List ℕ → List Delivery
 recordsAt s is = map (deliveryAt s) is
-
-abbrev pub growersAt : List ℕ → List ℕ → List ℕ
-growersAt gs is = map (λ (i : ℕ). getD gs i 0) is
 
 -- slots in order of grower
 pub record InOrder (gs order : List ℕ) : Type 0 where

@@ -10,8 +10,8 @@ ghost use Rattle.model.specs.Bounds.{mostSlots};
 ghost use Rattle.model.specs.Sheet.{eachOnce, sheetLines, lineText, wideLine, totalsRow, sheetOf};
 ghost use Rattle.slices.specs.Slices.{Measured};
 ghost use Rattle.fields.specs.Writing.{placed};
-ghost use Rattle.slot_order.specs.Passes.{slotsIn};
-ghost use Rattle.sheet_lines.specs.Runs.{recordsAt, growersAt, InOrder, runFrom};
+ghost use Rattle.slot_order.specs.Passes.{slotsIn, growersAt};
+ghost use Rattle.sheet_lines.specs.Runs.{recordsAt, InOrder, runFrom};
 use fields::WIDE;
 use model::Totals;
 

@@ -176,29 +176,29 @@ module _ (L : ℕ) (c : Column) (x : Checked) (e : x ≡ checkedColumn L c) wher
       let g = yes-first 7 (every inRange (allRecords L c)) [] (f .1) in
       record { all = p; lent = lent-column L c (b .0); is-sound = f .0; values = g .0; used-is = ap (λ (y : Checked). y .used) e ∙ rw p }
 
-  pub room-refused : (x .refusal ≡ 0 → ⊥) → (dated fits : Bool) → x ≡ checkedRoom L c dated fits
+  pub room-refused : (x .refusal ≡ 0 → ⊥) → (undated fits : Bool) → x ≡ checkedRoom L c undated fits
   unfolding checkedRoom checkedColumn
-  room-refused z dated fits =
+  room-refused z undated fits =
       let n : ℕ = firstFailed (soundChecks L c) in
       let o : n ≡ 0 → ⊥ = λ y. z (refusal-there ∙ y) in
-      let f : firstFailed (soundChecks L c ++ ask 19 dated ∷ ask 15 fits ∷ []) ≡ n = sym (failed-first (soundChecks L c) (ask 19 dated ∷ ask 15 fits ∷ []) o) in
+      let f : firstFailed (soundChecks L c ++ ask 19 undated ∷ ask 15 fits ∷ []) ≡ n = sym (failed-first (soundChecks L c) (ask 19 undated ∷ ask 15 fits ∷ []) o) in
       e ∙ sym (rw f)
 
   module _ (n : x .refusal ≡ 0) where
-    pub days-refused : {dated : Bool} → dated ≡ false → (fits : Bool) (y : Checked) → y ≡ notChecked 19 → y ≡ checkedRoom L c dated fits
+    pub days-refused : {undated : Bool} → undated ≡ false → (fits : Bool) (y : Checked) → y ≡ notChecked 19 → y ≡ checkedRoom L c undated fits
     unfolding checkedRoom firstFailed numbered
     days-refused d fits y q =
         let f : firstFailed (soundChecks L c ++ ask 19 false ∷ ask 15 fits ∷ []) ≡ 19 = passed-first (soundChecks L c) (ask 19 false ∷ ask 15 fits ∷ []) tt (passed n .all) in
         q ∙ sym (rw (d, f))
 
-    module _ {dated : Bool} (d : dated ≡ true) where
-      pub room-short : {fits : Bool} → fits ≡ false → (y : Checked) → y ≡ notChecked 15 → y ≡ checkedRoom L c dated fits
+    module _ {undated : Bool} (d : undated ≡ true) where
+      pub room-short : {fits : Bool} → fits ≡ false → (y : Checked) → y ≡ notChecked 15 → y ≡ checkedRoom L c undated fits
       unfolding checkedRoom firstFailed numbered
       room-short b y q =
           let f : firstFailed (soundChecks L c ++ ask 19 true ∷ ask 15 false ∷ []) ≡ 15 = passed-first (soundChecks L c) (ask 19 true ∷ ask 15 false ∷ []) tt (passed n .all) in
           q ∙ sym (rw (d, b, f))
 
-      pub room-enough : {fits : Bool} → fits ≡ true → x ≡ checkedRoom L c dated fits
+      pub room-enough : {fits : Bool} → fits ≡ true → x ≡ checkedRoom L c undated fits
       unfolding checkedRoom checkedColumn firstFailed numbered
       room-enough b =
           let f : firstFailed (soundChecks L c ++ ask 19 true ∷ ask 15 true ∷ []) ≡ 0 = passed-first (soundChecks L c) (ask 19 true ∷ ask 15 true ∷ []) tt (passed n .all) in

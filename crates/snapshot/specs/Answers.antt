@@ -65,8 +65,8 @@ module _ (L : ℕ) where
 
   -- these, 19 of its days, and 15: does what is written fit?
   unfoldable pub checkedRoom : Column → Bool → Bool → Checked
-  checkedRoom c dated fits =
-      let n : ℕ = firstFailed (soundChecks c ++ ask 19 dated ∷ ask 15 fits ∷ []) in
+  checkedRoom c undated fits =
+      let n : ℕ = firstFailed (soundChecks c ++ ask 19 undated ∷ ask 15 fits ∷ []) in
       record { refusal = n; used = cond (eqb n 0) (sumOf (lengthsOf L c)) 0 }
 
   -- the checks of writing, and how many deliveries there are

@@ -12,7 +12,7 @@ use Rattle.model.specs.Calendar.{span, isIn}
 use Rattle.model.specs.Sheet.{eachOnce, slotsDuring}
 use Rattle.model.proofs.SheetLaws.{once-fewer}
 use Rattle.slot_order.proofs.Picking.{picked-few}
-use Rattle.sheet_lines.specs.Runs.{growersAt}
+use Rattle.slot_order.specs.Passes.{growersAt}
 use Rattle.sheet.proofs.lines_fit.Statement.{statement}
 use Rattle.sheet.proofs.lines_fit.Tie as tie
 
