@@ -183,7 +183,7 @@ pub fn find(
 }
 
 // Where a delivery lies that delete or move names: its partition, where that starts, its slot there; and what the scan cost.
-#[derive(Drop)]
+#[derive(Clone, Copy)]
 struct Located {
     refusal: u32,
     target: usize,

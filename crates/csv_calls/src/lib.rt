@@ -36,7 +36,7 @@ const BAD_ROW: u32 = 18;
 const DAY_OUT_OF_RANGE: u32 = 19;
 
 // A name in the header: in how many columns it stands, the first of them, how many columns there are, and where the text goes on.
-#[derive(Drop)]
+#[derive(Clone, Copy)]
 struct Named {
     times: usize,
     column: usize,
@@ -144,7 +144,7 @@ fn find_name(text: &[u8], name: &[u8]) -> Named
 }
 
 // The header's columns and where the rows begin, or the refusal of the header.
-#[derive(Drop)]
+#[derive(Clone, Copy)]
 struct Header {
     refusal: u32,
     columns: Columns,
@@ -207,7 +207,7 @@ fn columns_of(text: &[u8]) -> Header
 }
 
 // What checking a text finds: a refusal, or its columns, where the rows begin, and how many there are.
-#[derive(Drop)]
+#[derive(Clone, Copy)]
 struct Checked {
     refusal: u32,
     columns: Columns,

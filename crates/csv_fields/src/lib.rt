@@ -5,7 +5,7 @@ ghost use Rattle.model.specs.Weighbridge.{number_in};
 ghost use Rattle.csv_fields.specs.Reading.{BehindIs, StopsIs, PlainEnd, QuotedIs, FieldIs, RunIs, CellIs, SkippedIs, ShortIs, ShortCellIs, number_of};
 
 // What stands behind a field, and where the text goes on.
-#[derive(Drop)]
+#[derive(Clone, Copy)]
 pub enum Behind {
     Comma(usize),
     End(usize),
@@ -13,21 +13,21 @@ pub enum Behind {
 }
 
 // A number of plain digits, or none.
-#[derive(Drop)]
+#[derive(Clone, Copy)]
 pub enum Number {
     Value(u32),
     Nothing,
 }
 
 // A quoted field behind its opening quote: where it is closed, and whether no quote in it is doubled.
-#[derive(Drop)]
+#[derive(Clone, Copy)]
 enum Quoted {
     Closed { to: usize, clean: bool },
     Open,
 }
 
 // A field: where its bytes stand, whether no quote in it is doubled, and where the text goes on.
-#[derive(Drop)]
+#[derive(Clone, Copy)]
 pub enum Field {
     Found {
         from: usize,
@@ -39,21 +39,21 @@ pub enum Field {
 }
 
 // Digits from a byte on: their number, and where they end; or a number of more than 32 bits.
-#[derive(Drop)]
+#[derive(Clone, Copy)]
 enum Run {
     Digits { number: u32, to: usize },
     TooLarge,
 }
 
 // At most ten digits with a comma or a line end behind them: their number, and where the text goes on; or anything else.
-#[derive(Drop)]
+#[derive(Clone, Copy)]
 pub enum Short {
     Read { number: u32, next: usize },
     Other,
 }
 
 // The number of a field, if it is one, and what stands behind the field.
-#[derive(Drop)]
+#[derive(Clone, Copy)]
 pub struct Cell {
     pub number: Number,
     pub behind: Behind,

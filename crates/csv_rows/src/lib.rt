@@ -7,7 +7,7 @@ use csv_fields::{Behind, Number, Short};
 use model::{MOST_WEIGHT, MOST_YIELD};
 
 // Where the header has the three names, and how many columns it has.
-#[derive(Drop)]
+#[derive(Clone, Copy)]
 pub struct Columns {
     pub grower: usize,
     pub weight: usize,
@@ -16,7 +16,7 @@ pub struct Columns {
 }
 
 // A record: how many fields it has, the numbers of the three columns, and where the text goes on; or a broken quote.
-#[derive(Drop)]
+#[derive(Clone, Copy)]
 pub enum Record {
     Whole {
         count: usize,
@@ -29,7 +29,7 @@ pub enum Record {
 }
 
 // The numbers of the three columns, as far as a record is read.
-#[derive(Drop)]
+#[derive(Clone, Copy)]
 struct Picks {
     grower: Number,
     weight: Number,
@@ -37,14 +37,14 @@ struct Picks {
 }
 
 // The numbers after one field more, and what stands behind the field.
-#[derive(Drop)]
+#[derive(Clone, Copy)]
 struct Step {
     picks: Picks,
     behind: Behind,
 }
 
 // A record of three short numbers, and where the text goes on; or any other.
-#[derive(Drop)]
+#[derive(Clone, Copy)]
 enum ShortRecord {
     Three {
         grower: u32,
@@ -56,7 +56,7 @@ enum ShortRecord {
 }
 
 // A row: its delivery, and where the text goes on; or a record that is no row (02: 18).
-#[derive(Drop)]
+#[derive(Clone, Copy)]
 pub enum Row {
     Good {
         grower: u32,
@@ -68,7 +68,7 @@ pub enum Row {
 }
 
 // How many rows there are, or that one of them is bad.
-#[derive(Drop)]
+#[derive(Clone, Copy)]
 pub enum Judged {
     AllGood(usize),
     OneBad,

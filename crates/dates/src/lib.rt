@@ -19,7 +19,7 @@ const SECOND_TERM: u32 = FIRST_TERM_END + 1;
 
 // What the conversion of a date answers.
 #[repr(C)]
-#[derive(Drop)]
+#[derive(Clone, Copy)]
 pub struct DayAnswer {
     pub refusal: u32,
     pub day: u32,
@@ -27,7 +27,7 @@ pub struct DayAnswer {
 
 // What the conversion of a day number answers.
 #[repr(C)]
-#[derive(Drop)]
+#[derive(Clone, Copy)]
 pub struct DateAnswer {
     pub refusal: u32,
     pub year: u32,
@@ -37,7 +37,7 @@ pub struct DateAnswer {
 
 // The first and the last day of a term.
 #[repr(C)]
-#[derive(Drop)]
+#[derive(Clone, Copy)]
 pub struct TermAnswer {
     pub refusal: u32,
     pub first: u32,
@@ -45,7 +45,7 @@ pub struct TermAnswer {
 }
 
 // A day number taken apart: its date, and whether the year is a leap year.
-#[derive(Drop)]
+#[derive(Clone, Copy)]
 struct Parts {
     year: u32,
     leap: bool,

@@ -13,7 +13,7 @@ use model::{BLOCK, BLOCK_LIMIT, COUNT, DIRECTORY_SIZE, FENCES, LENGTHS};
 
 // The refusal number of checks 2, 3 and 6 of a directory and its slices; the slots that its partitions use;
 // and of a grower its partition and where that starts.
-#[derive(Drop)]
+#[derive(Clone, Copy)]
 pub struct Shape {
     pub refusal: u32,
     pub used: usize,

@@ -6,7 +6,7 @@ ghost use Rattle.fields.specs.Reading.{read_of, read_at, field_ok, value_at, Bla
 ghost use Rattle.fields.specs.Writing.{placed, Wrote};
 
 // What reading a field finds: its number and where the text goes on, or no number.
-#[derive(Drop)]
+#[derive(Clone, Copy)]
 pub enum Field {
     Number { number: u32, next: usize },
     Nothing,

@@ -27,7 +27,7 @@ fn place_of(grower: u32) -> usize
 }
 
 // Which slots are counted: those whose grower is at least lo and whose day is first to last.
-#[derive(Drop)]
+#[derive(Clone, Copy)]
 struct Wanted {
     lo: u32,
     first: u32,
@@ -56,7 +56,7 @@ fn is_new(growers: &[u32], days: &[u32], q: Wanted, i: usize, j: usize) -> bool
 }
 
 // How many slots a batch has, and the slot at which filling stopped.
-#[derive(Drop)]
+#[derive(Clone, Copy)]
 struct Filled {
     count: usize,
     next: usize,

@@ -119,7 +119,7 @@ fn none_from_to(s: &[u32], g: u32, last: u32, up: bool) -> bool
 }
 
 // Are all values in range, and then the first grower at or past another and how many records he has; 0 and 0 where there is none.
-#[derive(Drop)]
+#[derive(Clone, Copy)]
 struct Nearest {
     good: bool,
     grower: u32,

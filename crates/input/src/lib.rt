@@ -5,7 +5,7 @@ ghost use Rattle.input.specs.Within.{Within};
 use libc::STDIN_FILENO;
 
 // What reading standard input came to: how many bytes, or a read that failed.
-#[derive(Drop)]
+#[derive(Clone, Copy)]
 pub enum Input {
     Bytes(usize),
     Failed,

@@ -21,7 +21,7 @@ const LINE: usize = ENDS + 1;
 const ROW: usize = WIDTH * MOST_LISTED_BLOCKS;
 
 // What the layouts are held to: how many blocks a partition may have, how many partitions there may be, and how many blocks there are.
-#[derive(Drop)]
+#[derive(Clone, Copy)]
 pub struct Rules {
     pub longest: usize,
     pub most: usize,
@@ -29,7 +29,7 @@ pub struct Rules {
 }
 
 // How many layouts there are, and the bytes of their lines.
-#[derive(Drop)]
+#[derive(Clone, Copy)]
 pub struct Size {
     pub layouts: u32,
     pub bytes: usize,

@@ -171,7 +171,7 @@ fn candidate(
 }
 
 // The least number of some layouts, and the first end of the first that has it.
-#[derive(Drop)]
+#[derive(Clone, Copy)]
 struct Choice {
     number: u64,
     first: usize,

@@ -55,7 +55,7 @@ const PARTITIONS_AT: usize = BILL_END + 1;
 const OUTPUT: usize = PARTITIONS_AT + TWO * BLOCK_LIMIT;
 
 // The output: its bytes at the front, zeros past them, and how many there are.
-#[derive(Drop)]
+#[derive(Clone, Copy)]
 pub struct Output {
     pub bytes: [u8; OUTPUT],
     pub count: usize,

@@ -72,7 +72,7 @@ pub const HISTOGRAMS_SIZE: usize = HISTOGRAM_COUNT * BLOCK_LIMIT;
 
 // One delivery (01: a grower number, a weight in kg, an oil yield in hundredths of a per cent; 02: a day number).
 #[repr(C)]
-#[derive(Drop)]
+#[derive(Clone, Copy)]
 pub struct Delivery {
     pub grower: u32,
     pub weight: u32,
@@ -82,7 +82,7 @@ pub struct Delivery {
 
 // The prices of a random read, a sequential read and a random write (01: the card).
 #[repr(C)]
-#[derive(Drop)]
+#[derive(Clone, Copy)]
 pub struct PriceCard {
     pub rr: u32,
     pub sr: u32,
@@ -106,7 +106,7 @@ impl PriceCard {
 
 // What a layout is held to (01: the read limit R and the insert limit U).
 #[repr(C)]
-#[derive(Drop)]
+#[derive(Clone, Copy)]
 pub struct Limits {
     pub read: u32,
     pub insert: u32,
@@ -114,7 +114,7 @@ pub struct Limits {
 
 // Random reads, sequential reads and random writes of one call.
 #[repr(C)]
-#[derive(Drop)]
+#[derive(Clone, Copy)]
 pub struct Counts {
     pub rr: u64,
     pub sr: u64,
@@ -136,7 +136,7 @@ impl Counts {
 
 // What find and range answer: matching records, their weight, their oil (weight times yield).
 #[repr(C)]
-#[derive(Drop)]
+#[derive(Clone, Copy)]
 pub struct Totals {
     pub records: u64,
     pub weight: u64,
@@ -170,7 +170,7 @@ impl Totals {
 
 // The counts of many calls, added up.
 #[repr(C)]
-#[derive(Drop)]
+#[derive(Clone, Copy)]
 pub struct Tally {
     pub rr: u64,
     pub sr: u64,
@@ -194,7 +194,7 @@ impl Tally {
 
 // What a call on the column answers. Counts before totals: so the totals that a write answers with 0 are stored at once.
 #[repr(C)]
-#[derive(Drop)]
+#[derive(Clone, Copy)]
 pub struct Answer {
     pub refusal: u32,
     pub counts: Counts,
@@ -203,7 +203,7 @@ pub struct Answer {
 
 // What the next and the previous grower answer: a grower and how many records he has, 0 and 0 where there is none.
 #[repr(C)]
-#[derive(Drop)]
+#[derive(Clone, Copy)]
 pub struct GrowerAnswer {
     pub refusal: u32,
     pub grower: u32,
@@ -213,7 +213,7 @@ pub struct GrowerAnswer {
 
 // What applying a layout or reading a snapshot answers: the directory, all 0 when refused.
 #[repr(C)]
-#[derive(Drop)]
+#[derive(Clone, Copy)]
 pub struct Applied {
     pub refusal: u32,
     pub directory: [u32; DIRECTORY_SIZE],
@@ -221,7 +221,7 @@ pub struct Applied {
 
 // Where a grower's partition lies in the growers (01: what the run call hands back).
 #[repr(C)]
-#[derive(Drop)]
+#[derive(Clone, Copy)]
 pub struct PartitionSlice {
     pub refusal: u32,
     pub start: u32,
@@ -230,7 +230,7 @@ pub struct PartitionSlice {
 
 // The cost of a layout (01: the bill).
 #[repr(C)]
-#[derive(Drop)]
+#[derive(Clone, Copy)]
 pub struct Costed {
     pub refusal: u32,
     pub cost: i64,
@@ -238,7 +238,7 @@ pub struct Costed {
 
 // What the planner answers beside the ends that it writes.
 #[repr(C)]
-#[derive(Drop)]
+#[derive(Clone, Copy)]
 pub struct Planned {
     pub refusal: u32,
     pub count: u32,
@@ -247,7 +247,7 @@ pub struct Planned {
 
 // What listing every permitted layout answers beside the text: how many there are, and the bytes of their lines.
 #[repr(C)]
-#[derive(Drop)]
+#[derive(Clone, Copy)]
 pub struct Listed {
     pub refusal: u32,
     pub layouts: u32,
@@ -256,7 +256,7 @@ pub struct Listed {
 
 // What importing a weighbridge file answers beside the slices: how many rows it stored.
 #[repr(C)]
-#[derive(Drop)]
+#[derive(Clone, Copy)]
 pub struct Imported {
     pub refusal: u32,
     pub rows: u64,
@@ -264,7 +264,7 @@ pub struct Imported {
 
 // What writing a snapshot (01: a book) or a weighbridge file answers beside the text.
 #[repr(C)]
-#[derive(Drop)]
+#[derive(Clone, Copy)]
 pub struct Written {
     pub refusal: u32,
     pub bytes: u64,
@@ -272,7 +272,7 @@ pub struct Written {
 
 // A tally after an addition, or as it was when refused.
 #[repr(C)]
-#[derive(Drop)]
+#[derive(Clone, Copy)]
 pub struct Added {
     pub refusal: u32,
     pub tally: Tally,

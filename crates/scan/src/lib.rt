@@ -70,7 +70,7 @@ fn all_fit(g: &[u32], w: &[u32], y: &[u32], n: &[u32]) -> bool
 }
 
 // Do all records pass checks 8 and 19, and the totals of lo to hi on the days of a span.
-#[derive(Drop)]
+#[derive(Clone, Copy)]
 struct Sum {
     good: bool,
     totals: Totals,
@@ -218,7 +218,7 @@ fn sum_part(
 }
 
 // What a scan says: do all records pass checks 8 and 19, the totals of lo to hi on the days first to last, and the blocks.
-#[derive(Drop)]
+#[derive(Clone, Copy)]
 pub struct Scan {
     pub good: bool,
     pub totals: Totals,
@@ -344,7 +344,7 @@ pub fn failed_check(
 }
 
 // Do all records pass checks 8 and 19, and the first record that is a delivery, or how many records there are.
-#[derive(Drop)]
+#[derive(Clone, Copy)]
 pub struct Sought {
     pub good: bool,
     pub slot: usize,

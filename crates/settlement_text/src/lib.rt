@@ -13,7 +13,7 @@ const SLOTS: usize = 512;
 const OUTPUT: usize = LINE * SLOTS + LAST;
 
 // The output: its bytes at the front, zeros past them, and how many there are.
-#[derive(Drop)]
+#[derive(Clone, Copy)]
 pub struct Output {
     pub bytes: [u8; OUTPUT],
     pub count: usize,

@@ -19,7 +19,7 @@ const NO_DAY: u32 = 19;
 const TOO_SHORT: u32 = 15;
 
 // What checking a column finds: a refusal, or how many deliveries there are, and how many of the days asked for.
-#[derive(Drop)]
+#[derive(Clone, Copy)]
 struct Sized {
     refusal: u32,
     used: usize,

@@ -40,7 +40,7 @@ fn put_line(text: &mut [u8], at: usize, grower: u32, t: Totals)
 }
 
 // A run of one grower's slots in an order: where the next begins, and his records, kg and oil.
-#[derive(Drop)]
+#[derive(Clone, Copy)]
 struct Run {
     next: usize,
     totals: Totals,
@@ -85,7 +85,7 @@ fn run_at(order: &[u32], g: &[u32], w: &[u32], y: &[u32], n: &[u32], from: usize
 }
 
 // How many bytes the lines take, and the sums of their numbers.
-#[derive(Drop)]
+#[derive(Clone, Copy)]
 struct Lines {
     bytes: usize,
     totals: Totals,

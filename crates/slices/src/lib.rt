@@ -122,7 +122,7 @@ pub fn place_of(keys: &[u32], g: u32) -> usize
 }
 
 // What one pass over the lengths and fences of partitions finds: do the fences rise, how many slots are used, a grower's partition and where that starts.
-#[derive(Drop)]
+#[derive(Clone, Copy)]
 pub struct Survey {
     pub rising: bool,
     pub used: usize,

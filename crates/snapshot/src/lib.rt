@@ -26,7 +26,7 @@ const ACCEPTED: u32 = 0;
 const TOO_FEW_SLOTS: u32 = 12;
 
 // Line 1: block length, deliveries and partitions, or the refusal of the text.
-#[derive(Drop)]
+#[derive(Clone, Copy)]
 struct Head {
     refusal: u32,
     block: u32,
@@ -91,7 +91,7 @@ fn head_of(text: &[u8]) -> Head
 }
 
 // The numbers of a directory whose lengths and fences are the partition lines, or the refusal of the text.
-#[derive(Drop)]
+#[derive(Clone, Copy)]
 struct Listed {
     refusal: u32,
     numbers: [u32; DIRECTORY_SIZE],
@@ -260,7 +260,7 @@ fn judge_numbers(text: &[u8], start: usize, numbers: &[u32], m: usize) -> u32
 }
 
 // What judging a text finds: a refusal, or how many deliveries there are, where their lines start, and the directory.
-#[derive(Drop)]
+#[derive(Clone, Copy)]
 struct Judged {
     refusal: u32,
     used: usize,
@@ -424,7 +424,7 @@ fn sound_ok(g: &[u32], lens: &[u32], fences: &[u32]) -> bool
 }
 
 // What checking a column finds: a refusal, or how many deliveries there are.
-#[derive(Drop)]
+#[derive(Clone, Copy)]
 pub struct Checked {
     pub refusal: u32,
     pub used: usize,

@@ -6,13 +6,13 @@ use Rattle.slices.proofs.Matching.{grower_missing}
 use Rattle.slices.proofs.first_in_stride.Statement.{statement}
 use Rattle.slices.proofs.first_in_stride.Tie as tie
 
-returns : tie.Need-returns
+returns : tie.Need-returns-then-count_equal-lt1
 returns c =
     let b = c.before.before.before.before.before.before in
     let g = b.args in
     let p = b.requires in
-    grower_missing g.d (slices_at g.g g.w g.y g.n) p.1 (omega (arith, c.before.count-equal.ensures, c.if1.true))
+    grower_missing g.d (slices_at g.g g.w g.y g.n) p.1 (omega (arith, c.before.count_equal.ensures, c.if-count_equal-lt1.true))
 
-pub first-in-stride-spec : {M : Type 1} → statement M
-first-in-stride-spec =
+pub first_in_stride_spec : {M : Type 1} → statement M
+first_in_stride_spec =
     tie.close (tie.spec (λ c κs. search rules) returns (λ c κs. search rules) (λ c. search rules))

@@ -9,32 +9,32 @@ use Rattle.slices.proofs.is_same.Tie as tie
 abbrev here : tie.Start → Slices
 here c = let g = c.args in slices_at g.g g.w g.y g.n
 
-returns : tie.Need-returns
-returns c = let s = c.before.before.before in other_grower s.args.d (here s) s.args.i c.if1.true
+returns : tie.Need-returns-then-d-g
+returns c = let s = c.before.before.before in other_grower s.args.d (here s) s.args.i c.if-d-g.true
 
-returns-2 : tie.Need-returns-2
+returns-2 : tie.Need-returns-then-d-w
 returns-2 c =
     let b = c.before.before.before in
     let s = b.before.before.before in
-    other_weight s.args.d (here s) s.args.i b.if1.false c.if2.true
+    other_weight s.args.d (here s) s.args.i b.if-d-g.false c.if-d-w.true
 
-returns-3 : tie.Need-returns-3
+returns-3 : tie.Need-returns-then-d-y
 returns-3 c =
     let b₂ = c.before.before.before in
     let b₁ = b₂.before.before.before in
     let s = b₁.before.before.before in
-    other_yield s.args.d (here s) s.args.i b₁.if1.false b₂.if2.false c.if3.true
+    other_yield s.args.d (here s) s.args.i b₁.if-d-g.false b₂.if-d-w.false c.if-d-y.true
 
-returns-4 : tie.Need-returns-4
+returns-4 : tie.Need-returns
 returns-4 c =
     let b₃ = c.before.before in
     let b₂ = b₃.before.before.before in
     let b₁ = b₂.before.before.before in
     let s = b₁.before.before.before in
-    day_decides s.args.d (here s) s.args.i b₁.if1.false b₂.if2.false b₃.if3.false
+    day_decides s.args.d (here s) s.args.i b₁.if-d-g.false b₂.if-d-w.false b₃.if-d-y.false
 
-pub is-same-spec : {M : Type 1} → statement M
-is-same-spec =
+pub is_same_spec : {M : Type 1} → statement M
+is_same_spec =
     tie.close
     (tie.spec
     (λ c. search rules)

@@ -9,50 +9,50 @@ use Rattle.slices.proofs.Keeping.{Kept, kept_start, kept_yes, kept_no, kept_end}
 use Rattle.slices.proofs.keep_weights.Statement.{statement}
 use Rattle.slices.proofs.keep_weights.Tie as tie
 
-abbrev invariant-loop : tie.invariant-loop
+abbrev invariant-loop : tie.invariant-loop-i
 invariant-loop w n first last kept₀ k₀ i₀ kept k i = Kept first last w n kept₀ kept k i
 
-abbrev decreases-loop : tie.decreases-loop
+abbrev decreases-loop : tie.decreases-loop-i
 decreases-loop w n first last kept₀ k₀ i₀ kept k i = length n - i
 
-abbrev start : tie.At-loop invariant-loop decreases-loop → tie.Start invariant-loop decreases-loop
+abbrev start : tie.At-loop-i invariant-loop decreases-loop → tie.Start invariant-loop decreases-loop
 start l = l.before.before.before.before
 
-loop-again : tie.Need-loop-preserved invariant-loop decreases-loop
+loop-again : tie.Need-loop-i-preserved-then-t-last invariant-loop decreases-loop
 loop-again c =
     let o = c.before.before in
     let t = o.before.before.before in
     let s = start t.before in
     let a = s.args in
-    kept_yes a.first a.last a.w.now a.n.now _ _ _ _ t.before.loop.invariant t.loop-test.true s.pre.0 s.pre.1 _ o.weight-on.ensures
-    (is_inside _ _ _ c.before.if1.true c.if2.true)
+    kept_yes a.first a.last a.w.now a.n.now _ _ _ _ t.before.loop-i.invariant t.loop-i-test.true s.requires.0 s.requires.1 _ o.weight_on.ensures
+    (is_inside _ _ _ c.before.if-first-t.true c.if-t-last.true)
 
-loop-again-2 : tie.Need-loop-preserved-2 invariant-loop decreases-loop
+loop-again-2 : tie.Need-loop-i-preserved-else-t-last invariant-loop decreases-loop
 loop-again-2 c =
     let o = c.before.before in
     let t = o.before.before.before in
     let s = start t.before in
     let a = s.args in
-    kept_no a.first a.last a.w.now a.n.now _ _ _ _ t.before.loop.invariant t.loop-test.true s.pre.0 s.pre.1 _ o.weight-on.ensures
-    (is_above _ _ _ c.before.if1.true c.if2.false)
+    kept_no a.first a.last a.w.now a.n.now _ _ _ _ t.before.loop-i.invariant t.loop-i-test.true s.requires.0 s.requires.1 _ o.weight_on.ensures
+    (is_above _ _ _ c.before.if-first-t.true c.if-t-last.false)
 
-loop-again-3 : tie.Need-loop-preserved-3 invariant-loop decreases-loop
+loop-again-3 : tie.Need-loop-i-preserved invariant-loop decreases-loop
 loop-again-3 c =
     let o = c.before in
     let t = o.before.before.before in
     let s = start t.before in
     let a = s.args in
-    kept_no a.first a.last a.w.now a.n.now _ _ _ _ t.before.loop.invariant t.loop-test.true s.pre.0 s.pre.1 _ o.weight-on.ensures
-    (is_below _ _ _ c.if1.false)
+    kept_no a.first a.last a.w.now a.n.now _ _ _ _ t.before.loop-i.invariant t.loop-i-test.true s.requires.0 s.requires.1 _ o.weight_on.ensures
+    (is_below _ _ _ c.if-first-t.false)
 
 returns : tie.Need-returns invariant-loop decreases-loop
 returns c =
     let s = start c.before in
     let a = s.args in
-    kept_end a.first a.last a.w.now a.n.now _ _ _ _ c.before.loop.invariant c.loop-test.false s.pre.0 s.pre.1
+    kept_end a.first a.last a.w.now a.n.now _ _ _ _ c.before.loop-i.invariant c.loop-i-test.false s.requires.0 s.requires.1
 
-pub keep-weights-spec : {M : Type 1} → statement M
-keep-weights-spec =
+pub keep_weights_spec : {M : Type 1} → statement M
+keep_weights_spec =
     tie.close
     (tie.spec
     invariant-loop
@@ -64,9 +64,9 @@ keep-weights-spec =
     (λ c. omega arith)
     (λ c κs. search rules)
     (λ c. search rules)
-    (λ c. let l = c.before.before.before.before in omega (arith, l.loop.invariant.size))
+    (λ c. let l = c.before.before.before.before in omega (arith, l.loop-i.invariant.size))
     (λ c. omega arith)
-    (λ c. let l = c.before.before.before.before.before.before in omega (arith, l.loop.invariant.days.few))
+    (λ c. let l = c.before.before.before.before.before.before in omega (arith, l.loop-i.invariant.days.few))
     (λ c. omega arith)
     loop-again
     (λ c. omega arith)
@@ -74,5 +74,5 @@ keep-weights-spec =
     (λ c. omega arith)
     loop-again-3
     (λ c. omega arith)
-    (λ c. c.before.loop.invariant.size)
+    (λ c. c.before.loop-i.invariant.size)
     returns)

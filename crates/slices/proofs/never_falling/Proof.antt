@@ -10,26 +10,26 @@ use Rattle.slices.proofs.Flags.{Chained, chain_start, chain_good, chain_bad, cha
 use Rattle.slices.proofs.never_falling.Statement.{statement}
 use Rattle.slices.proofs.never_falling.Tie as tie
 
-abbrev invariant-loop : tie.invariant-loop
+abbrev invariant-loop : tie.invariant-loop-i
 invariant-loop s good₀ i₀ good i = Chained leb s good i
 
-abbrev decreases-loop : tie.decreases-loop
+abbrev decreases-loop : tie.decreases-loop-i
 decreases-loop s good₀ i₀ good i = length s - i
 
-loop-holds : tie.Need-loop-init invariant-loop decreases-loop
+loop-holds : tie.Need-loop-i-init invariant-loop decreases-loop
 loop-holds c = chain_start _ _
 
-loop-again : tie.Need-loop-preserved invariant-loop decreases-loop
-loop-again c = chain_bad _ _ _ _ c.before.before.before.loop-test.true c.before.before.before.before.loop.invariant (lt-leb _ _ c.if1.true)
+loop-again : tie.Need-loop-i-preserved-then-z-x invariant-loop decreases-loop
+loop-again c = chain_bad _ _ _ _ c.before.before.before.loop-i-test.true c.before.before.before.before.loop-i.invariant (lt-leb _ _ c.if-z-x.true)
 
-loop-again-2 : tie.Need-loop-preserved-2 invariant-loop decreases-loop
-loop-again-2 c = chain_good _ _ _ _ c.before.before.before.loop-test.true c.before.before.before.before.loop.invariant (le-leb _ _ c.if1.false)
+loop-again-2 : tie.Need-loop-i-preserved invariant-loop decreases-loop
+loop-again-2 c = chain_good _ _ _ _ c.before.before.before.loop-i-test.true c.before.before.before.before.loop-i.invariant (le-leb _ _ c.if-z-x.false)
 
 returns : tie.Need-returns invariant-loop decreases-loop
-returns c = chain_end _ _ _ _ c.loop-test.false c.before.loop.invariant ∙ chain_falls _
+returns c = chain_end _ _ _ _ c.loop-i-test.false c.before.loop-i.invariant ∙ chain_falls _
 
-pub never-falling-spec : {M : Type 1} → statement M
-never-falling-spec =
+pub never_falling_spec : {M : Type 1} → statement M
+never_falling_spec =
     tie.close
     (tie.spec
     invariant-loop

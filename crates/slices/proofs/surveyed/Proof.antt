@@ -11,63 +11,67 @@ use lib.ListN.{length}
 use Rattle.slices.proofs.Flags.{Chained, chain_by}
 use Rattle.slices.proofs.Places.{Surveying, survey_start, survey_less, survey_not, survey_end}
 use Rattle.slices.proofs.surveyed.Statement.{statement}
+use Rattle.slices.proofs.surveyed.Lts.{then-z-x, else-z-x}
 use Rattle.slices.proofs.surveyed.Tie as tie
 
-abbrev invariant-loop : tie.invariant-loop
+abbrev invariant-loop : tie.invariant-loop-i
 invariant-loop lens fences g rising₀ used₀ target₀ start₀ i₀ rising used target start i = Surveying lens fences g rising used target start i
 
-abbrev decreases-loop : tie.decreases-loop
+abbrev decreases-loop : tie.decreases-loop-i
 decreases-loop lens fences g rising₀ used₀ target₀ start₀ i₀ rising used target start i = length fences - i
 
-loop-holds : tie.Need-loop-init invariant-loop decreases-loop
+loop-holds : tie.Need-loop-i-init invariant-loop decreases-loop
 loop-holds c = survey_start _ _ _ (omega arith)
 
-cast-n : tie.Need-overflow-cast-n invariant-loop decreases-loop
-cast-n c = omega (arith, c.shared-slice-known.given c.before.before.loop.i)
+cast-n : tie.Need-overflow_cast-n invariant-loop decreases-loop
+cast-n c = omega (arith, c.shared_slice_known-1.given c.before.before.loop-i.i)
 
-add-used : tie.Need-overflow-add-used invariant-loop decreases-loop
-add-used c = let n = c.before.before in omega (arith, n.shared-slice-known.given n.before.before.loop.i)
+add-used : tie.Need-overflow_add-used invariant-loop decreases-loop
+add-used c = let n = c.before.before in omega (arith, n.shared_slice_known-1.given n.before.before.loop-i.i)
 
-add_start : tie.Need-overflow-add-start invariant-loop decreases-loop
+add_start : tie.Need-overflow_add-start invariant-loop decreases-loop
 add_start c =
     let n = c.before.before.before.before in
-    omega (arith, n.shared-slice-known.given n.before.before.loop.i)
+    omega (arith, n.shared_slice_known-1.given n.before.before.loop-i.i)
 
-abbrev at : tie.Joined1 invariant-loop decreases-loop → tie.At-loop invariant-loop decreases-loop
+abbrev at : tie.Joined-z-x invariant-loop decreases-loop → tie.At-loop-i invariant-loop decreases-loop
 at c = c.before.before.before.before.before
 
 -- the flag after a turn
-flag : (c : tie.Joined1 invariant-loop decreases-loop) → let a = (at c).before.args in Chained ltb a.fences.now c.if1.rising ((at c).loop.i + 1)
+flag : (c : tie.Joined-z-x invariant-loop decreases-loop) → let a = (at c).before.args in Chained ltb a.fences.now c.if-z-x.rising ((at c).loop-i.i + 1)
 flag c =
-    let more = c.before.before.before.before.loop-test.true in
-    let chained = (at c).loop.invariant.chained in
-    ⊎_elim (λ v. chain_by _ _ _ _ more chained false _ (le-ltb _ _ v.0.taken) v.1) (λ v. chain_by _ _ _ _ more chained true _ (lt-ltb _ _ v.0.left) v.1) c.if1.branch
+    let more = c.before.before.before.before.loop-i-test.true in
+    let chained = (at c).loop-i.invariant.chained in
+    elim c.if-z-x.branch [
+      then-z-x w ↦ chain_by _ _ _ _ more chained false _ (le-ltb _ _ w.if-z-x.true) w.rising-is
+    | else-z-x w ↦ chain_by _ _ _ _ more chained true _ (lt-ltb _ _ w.if-z-x.false) w.rising-is
+    ]
 
-loop-again : tie.Need-loop-preserved invariant-loop decreases-loop
+loop-again : tie.Need-loop-i-preserved-then-x-g invariant-loop decreases-loop
 loop-again c =
     let j = c.before in
     let l = at j in
     let n = j.before.before.before in
-    survey_less _ _ _ _ _ _ _ _ n.before.loop-test.true l.before.pre.2 l.loop.inv j.if1.rising (flag j) (omega (arith, n.shared-slice-known.given l.loop.i)) c.if2.true
+    survey_less _ _ _ _ _ _ _ _ n.before.loop-i-test.true l.before.requires.2 l.loop-i.invariant j.if-z-x.rising (flag j) (omega (arith, n.shared_slice_known-1.given l.loop-i.i)) c.if-x-g.true
 
-loop-again-2 : tie.Need-loop-preserved-2 invariant-loop decreases-loop
+loop-again-2 : tie.Need-loop-i-preserved invariant-loop decreases-loop
 loop-again-2 c =
     let j = c.before in
     let l = at j in
     let n = j.before.before.before in
-    survey_not _ _ _ _ _ _ _ _ n.before.loop-test.true l.before.pre.2 l.loop.inv j.if1.rising (flag j) (omega (arith, n.shared-slice-known.given l.loop.i)) c.if2.false
+    survey_not _ _ _ _ _ _ _ _ n.before.loop-i-test.true l.before.requires.2 l.loop-i.invariant j.if-z-x.rising (flag j) (omega (arith, n.shared_slice_known-1.given l.loop-i.i)) c.if-x-g.false
 
-cast-t22 : tie.Need-overflow-cast-t22 invariant-loop decreases-loop
-cast-t22 c = omega (arith, c.shared-slice-known4.given c.before.before.loop.i)
+cast-t22 : tie.Need-overflow_cast-result invariant-loop decreases-loop
+cast-t22 c = omega (arith, c.shared_slice_known-2-1.given c.before.before.loop-i.i)
 
-add-t23 : tie.Need-overflow-add-t23 invariant-loop decreases-loop
-add-t23 c = omega (arith, c.shared-slice-known4.given c.before.before.loop.i)
+add-t23 : tie.Need-overflow_add-result invariant-loop decreases-loop
+add-t23 c = omega (arith, c.shared_slice_known-2-1.given c.before.before.loop-i.i)
 
 returns : tie.Need-returns invariant-loop decreases-loop
-returns c = survey_end _ _ _ _ _ _ _ _ c.before.loop-test.false c.before.before.before.requires.2 c.before.before.loop.invariant
+returns c = survey_end _ _ _ _ _ _ _ _ c.before.loop-i-test.false c.before.before.before.requires.2 c.before.before.loop-i.invariant
 
-pub surveyed-spec : {M : Type 1} → statement M
-surveyed-spec =
+pub surveyed_spec : {M : Type 1} → statement M
+surveyed_spec =
     tie.close
     (tie.spec
     invariant-loop

@@ -10,47 +10,47 @@ use Rattle.slices.proofs.Scans.{Running, modest, any, keep_any, running_start, r
 use Rattle.slices.proofs.total_all.Statement.{statement}
 use Rattle.slices.proofs.total_all.Tie as tie
 
-abbrev invariant-loop : tie.invariant-loop
+abbrev invariant-loop : tie.invariant-loop-i
 invariant-loop g w y n weight₀ oil₀ i₀ weight oil i = Running any (slices_of g w y n) i weight oil i
 
-abbrev decreases-loop : tie.decreases-loop
+abbrev decreases-loop : tie.decreases-loop-i
 decreases-loop g w y n weight₀ oil₀ i₀ weight oil i = length g - i
 
-loop-holds : tie.Need-loop-init invariant-loop decreases-loop
+loop-holds : tie.Need-loop-i-init invariant-loop decreases-loop
 loop-holds c = running_start _ _
 
-cast-a : tie.Need-overflow-cast-a invariant-loop decreases-loop
-cast-a c = omega (arith, c.shared-slice-known.given c.before.before.loop.i)
+cast-a : tie.Need-overflow_cast-a invariant-loop decreases-loop
+cast-a c = omega (arith, c.shared_slice_known-1.given c.before.before.loop-i.i)
 
-cast-b : tie.Need-overflow-cast-b invariant-loop decreases-loop
-cast-b c = omega (arith, c.shared-slice-known2.given c.before.before.before.loop.i)
+cast-b : tie.Need-overflow_cast-b invariant-loop decreases-loop
+cast-b c = omega (arith, c.shared_slice_known-in-loop-i-1.given c.before.before.before.loop-i.i)
 
-mul-c : tie.Need-overflow-mul-c invariant-loop decreases-loop
-mul-c c = omega (arith, (modest _ c.before.before.before.loop.i c.before.before.before.before.requires).oil)
+mul-c : tie.Need-overflow_mul-c invariant-loop decreases-loop
+mul-c c = omega (arith, (modest _ c.before.before.before.loop-i.i c.before.before.before.before.requires).oil)
 
-add-weight : tie.Need-overflow-add-weight invariant-loop decreases-loop
+add-weight : tie.Need-overflow_add-weight invariant-loop decreases-loop
 add-weight c =
     let b₁ = c.before.before.before in
     let b₂ = b₁.before in
-    omega (arith, b₂.requires.few, b₁.loop.invariant.light, b₁.loop.invariant.at, (modest _ b₁.loop.i b₂.requires).weight)
+    omega (arith, b₂.requires.few, b₁.loop-i.invariant.light, b₁.loop-i.invariant.at, (modest _ b₁.loop-i.i b₂.requires).weight)
 
-add-oil : tie.Need-overflow-add-oil invariant-loop decreases-loop
+add-oil : tie.Need-overflow_add-oil invariant-loop decreases-loop
 add-oil c =
     let b₁ = c.before.before.before in
     let b₂ = b₁.before in
-    omega (arith, b₂.requires.few, b₁.loop.invariant.little, b₁.loop.invariant.at, (modest _ b₁.loop.i b₂.requires).oil)
+    omega (arith, b₂.requires.few, b₁.loop-i.invariant.little, b₁.loop-i.invariant.at, (modest _ b₁.loop-i.i b₂.requires).oil)
 
-loop-again : tie.Need-loop-preserved invariant-loop decreases-loop
-loop-again c = running_take any _ c.before.before.before.before.requires _ _ _ _ c.before.before.loop-test.true c.before.before.before.loop.invariant refl
+loop-again : tie.Need-loop-i-preserved invariant-loop decreases-loop
+loop-again c = running_take any _ c.before.before.before.before.requires _ _ _ _ c.before.before.loop-i-test.true c.before.before.before.loop-i.invariant refl
 
 returns : tie.Need-returns invariant-loop decreases-loop
 returns c =
     let g = c.before.before.args in
-    let l = c.before.loop in
-    running_end any (slices_at g.g g.w g.y g.n) l.i l.weight l.oil l.i c.loop-test.false l.invariant ∙ ap totals_of (keep_any (rows (slices_at g.g g.w g.y g.n)))
+    let l = c.before.loop-i in
+    running_end any (slices_at g.g g.w g.y g.n) l.i l.weight l.oil l.i c.loop-i-test.false l.invariant ∙ ap totals_of (keep_any (rows (slices_at g.g g.w g.y g.n)))
 
-pub total-all-spec : {M : Type 1} → statement M
-total-all-spec =
+pub total_all_spec : {M : Type 1} → statement M
+total_all_spec =
     tie.close
     (tie.spec
     invariant-loop

@@ -11,28 +11,28 @@ use Rattle.slices.proofs.Keeping.{kept_measured, kept_totals}
 use Rattle.slices.proofs.total_days.Statement.{statement}
 use Rattle.slices.proofs.total_days.Tie as tie
 
-abbrev start : tie.After-keep-weights → tie.Start
+abbrev start : tie.After-keep_weights-k → tie.Start
 start c = c.before.before.before.before.before.before
 
 -- the slices, and those with the weights that were kept
-abbrev lent : tie.After-keep-weights → Slices
+abbrev lent : tie.After-keep_weights-k → Slices
 lent c = let a = (start c).args in slices_at a.g a.w a.y a.n
 
-abbrev with-weights : tie.After-keep-weights → List ℕ → Slices
+abbrev with-weights : tie.After-keep_weights-k → List ℕ → Slices
 with-weights c l = slices_of (lent c).growers l (lent c).yields (lent c).days
 
-total-all-requires : tie.Need-total-all-requires
+total-all-requires : tie.Need-total_all-t-requires
 total-all-requires c κs =
     let k = c.before.before in
     let a = (start k).args in
-    subst (λ (l : List ℕ). Measured (with-weights k l)) (sym k.keep-weights.ensures.0) (kept_measured (span a.first a.last) (lent k) (start k).requires.0)
+    subst (λ (l : List ℕ). Measured (with-weights k l)) (sym k.keep_weights-k.ensures.0) (kept_measured (span a.first a.last) (lent k) (start k).requires.0)
 
 returns : tie.Need-returns
 returns c =
     let k = c.before.before.before in
     let a = (start k).args in
-    let e = c.total-all.ensures ∙ ap (λ (l : List ℕ). totals_of (rows (with-weights k l))) k.keep-weights.ensures.0 in
-    kept_totals a.first a.last (lent k) (start k).requires.0 k.keep-weights.result k.keep-weights.ensures.1 c.total-all.result e
+    let e = c.total_all-t.ensures ∙ ap (λ (l : List ℕ). totals_of (rows (with-weights k l))) k.keep_weights-k.ensures.0 in
+    kept_totals a.first a.last (lent k) (start k).requires.0 k.keep_weights-k.result k.keep_weights-k.ensures.1 c.total_all-t.result e
 
-pub total-days-spec : {M : Type 1} → statement M
-total-days-spec = tie.close (tie.spec (λ c. search rules) (λ c κs. search rules) (λ c. search rules) total-all-requires returns)
+pub total_days_spec : {M : Type 1} → statement M
+total_days_spec = tie.close (tie.spec (λ c. search rules) (λ c κs. search rules) (λ c. search rules) total-all-requires returns)

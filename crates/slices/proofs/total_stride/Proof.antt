@@ -7,22 +7,22 @@ use Rattle.slices.proofs.Sums.{none_between, all_between}
 use Rattle.slices.proofs.total_stride.Statement.{statement}
 use Rattle.slices.proofs.total_stride.Tie as tie
 
-returns : tie.Need-returns
+returns : tie.Need-returns-then-k-lt1
 returns c =
     let b = c.before.before.before.before.before.before.before in
     let g = b.args in
     let m = b.requires in
-    c.none.ensures ∙ none_between g.lo g.hi (slices_at g.g g.w g.y g.n) m (omega (arith, c.before.before.count.ensures, c.before.if1.true))
+    c.none.ensures ∙ none_between g.lo g.hi (slices_at g.g g.w g.y g.n) m (omega (arith, c.before.before.count-k.ensures, c.before.if-k-lt1.true))
 
-returns-2 : tie.Need-returns-2
+returns-2 : tie.Need-returns-then-k-g
 returns-2 c =
     let b = c.before.before.before.before.before.before.before.before in
     let g = b.args in
     let m = b.requires in
-    c.total-all.ensures ∙ all_between g.lo g.hi (slices_at g.g g.w g.y g.n) m (omega (arith, c.before.before.before.count.ensures, c.before.if2.true))
+    c.total_all.ensures ∙ all_between g.lo g.hi (slices_at g.g g.w g.y g.n) m (omega (arith, c.before.before.before.count-k.ensures, c.before.if-k-g.true))
 
-pub total-stride-spec : {M : Type 1} → statement M
-total-stride-spec =
+pub total_stride_spec : {M : Type 1} → statement M
+total_stride_spec =
     tie.close
     (tie.spec
     (λ c κs. search rules)

@@ -7,26 +7,26 @@ use Rattle.slices.proofs.Sums.{none_during, all_during}
 use Rattle.slices.proofs.total_stride_days.Statement.{statement}
 use Rattle.slices.proofs.total_stride_days.Tie as tie
 
-abbrev start : tie.After-count → tie.Start
+abbrev start : tie.After-count-wanted → tie.Start
 start c = c.before.before.before.before.before
 
-returns : tie.Need-returns
+returns : tie.Need-returns-then-wanted-lt1
 returns c =
     let k = c.before.before in
     let g = (start k).args in
     c.none.ensures
-    ∙ none_during g.lo g.hi g.first g.last (slices_at g.g g.w g.y g.n) (start k).requires (omega (arith, k.count.ensures, c.before.if1.true))
+    ∙ none_during g.lo g.hi g.first g.last (slices_at g.g g.w g.y g.n) (start k).requires (omega (arith, k.count-wanted.ensures, c.before.if-wanted-lt1.true))
 
-returns-2 : tie.Need-returns-2
+returns-2 : tie.Need-returns-then-wanted-eq-STRIDE
 returns-2 c =
     let k = c.before.before.before.before in
     let g = (start k).args in
-    c.total-days.ensures
+    c.total_days.ensures
     ∙ all_during g.lo g.hi g.first g.last (slices_at g.g g.w g.y g.n) (start k).requires
-    (omega (arith, k.count.ensures, c.before.if3.true, c.before.before.if2.true))
+    (omega (arith, k.count-wanted.ensures, c.before.if-wanted-eq-STRIDE.true, c.before.before.if-g-eq-STRIDE.true))
 
-pub total-stride-days-spec : {M : Type 1} → statement M
-total-stride-days-spec =
+pub total_stride_days_spec : {M : Type 1} → statement M
+total_stride_days_spec =
     tie.close
     (tie.spec
     (λ c κs. search rules)

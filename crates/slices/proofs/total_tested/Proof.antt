@@ -9,65 +9,65 @@ use Rattle.slices.proofs.Scans.{Running, modest, is_inside, is_below, is_above, 
 use Rattle.slices.proofs.total_tested.Statement.{statement}
 use Rattle.slices.proofs.total_tested.Tie as tie
 
-abbrev invariant-loop : tie.invariant-loop
+abbrev invariant-loop : tie.invariant-loop-i
 invariant-loop g w y n lo hi records₀ weight₀ oil₀ i₀ records weight oil i = Running (matches lo hi) (slices_of g w y n) records weight oil i
 
-abbrev decreases-loop : tie.decreases-loop
+abbrev decreases-loop : tie.decreases-loop-i
 decreases-loop g w y n lo hi records₀ weight₀ oil₀ i₀ records weight oil i = length g - i
 
-loop-holds : tie.Need-loop-init invariant-loop decreases-loop
+loop-holds : tie.Need-loop-i-init invariant-loop decreases-loop
 loop-holds c = running_start _ _
 
-cast-a : tie.Need-overflow-cast-a invariant-loop decreases-loop
-cast-a c = omega (arith, c.shared-slice-known2.given c.before.before.before.loop.i)
+cast-a : tie.Need-overflow_cast-a invariant-loop decreases-loop
+cast-a c = omega (arith, c.shared_slice_known-in-loop-i-1.given c.before.before.before.loop-i.i)
 
-cast-b : tie.Need-overflow-cast-b invariant-loop decreases-loop
-cast-b c = omega (arith, c.shared-slice-known3.given c.before.before.before.before.loop.i)
+cast-b : tie.Need-overflow_cast-b invariant-loop decreases-loop
+cast-b c = omega (arith, c.shared_slice_known-in-loop-i-2-1.given c.before.before.before.before.loop-i.i)
 
-mul-c : tie.Need-overflow-mul-c invariant-loop decreases-loop
-mul-c c = omega (arith, (modest _ c.before.before.before.before.loop.i c.before.before.before.before.before.requires).oil)
+mul-c : tie.Need-overflow_mul-c invariant-loop decreases-loop
+mul-c c = omega (arith, (modest _ c.before.before.before.before.loop-i.i c.before.before.before.before.before.requires).oil)
 
-add-weight : tie.Need-overflow-add-weight invariant-loop decreases-loop
+add-weight : tie.Need-overflow_add-weight invariant-loop decreases-loop
 add-weight c =
     let b₁ = c.before.before.before.before.before.before in
     let b₂ = b₁.before in
-    omega (arith, b₂.requires.few, b₁.loop.invariant.light, b₁.loop.invariant.at, (modest _ b₁.loop.i b₂.requires).weight)
+    omega (arith, b₂.requires.few, b₁.loop-i.invariant.light, b₁.loop-i.invariant.at, (modest _ b₁.loop-i.i b₂.requires).weight)
 
-add-oil : tie.Need-overflow-add-oil invariant-loop decreases-loop
+add-oil : tie.Need-overflow_add-oil invariant-loop decreases-loop
 add-oil c =
     let b₁ = c.before.before.before.before.before.before in
     let b₂ = b₁.before in
-    omega (arith, b₂.requires.few, b₁.loop.invariant.little, b₁.loop.invariant.at, (modest _ b₁.loop.i b₂.requires).oil)
+    omega (arith, b₂.requires.few, b₁.loop-i.invariant.little, b₁.loop-i.invariant.at, (modest _ b₁.loop-i.i b₂.requires).oil)
 
-loop-again : tie.Need-loop-preserved invariant-loop decreases-loop
+loop-again : tie.Need-loop-i-preserved-then-x-hi invariant-loop decreases-loop
 loop-again c =
     let b₁ = c.before.before.before.before.before in
     let b₂ = b₁.before in
     let b₃ = b₂.before in
-    running_take _ _ b₃.requires _ _ _ _ b₁.loop-test.true b₂.loop.invariant (is_inside _ _ _ c.before.if1.true c.if2.true)
+    running_take _ _ b₃.requires _ _ _ _ b₁.loop-i-test.true b₂.loop-i.invariant (is_inside _ _ _ c.before.if-lo-x.true c.if-x-hi.true)
 
-loop-again-2 : tie.Need-loop-preserved-2 invariant-loop decreases-loop
+loop-again-2 : tie.Need-loop-i-preserved-else-x-hi invariant-loop decreases-loop
 loop-again-2 c =
     let b₁ = c.before.before.before.before.before in
     let b₂ = b₁.before in
     let b₃ = b₂.before in
-    running_pass _ _ b₃.requires _ _ _ _ b₁.loop-test.true b₂.loop.invariant (is_above _ _ _ c.before.if1.true c.if2.false)
+    running_pass _ _ b₃.requires _ _ _ _ b₁.loop-i-test.true b₂.loop-i.invariant (is_above _ _ _ c.before.if-lo-x.true c.if-x-hi.false)
 
-loop-again-3 : tie.Need-loop-preserved-3 invariant-loop decreases-loop
+loop-again-3 : tie.Need-loop-i-preserved invariant-loop decreases-loop
 loop-again-3 c =
     let b₁ = c.before.before.before.before in
     let b₂ = b₁.before in
     let b₃ = b₂.before in
-    running_pass _ _ b₃.requires _ _ _ _ b₁.loop-test.true b₂.loop.invariant (is_below _ _ _ c.if1.false)
+    running_pass _ _ b₃.requires _ _ _ _ b₁.loop-i-test.true b₂.loop-i.invariant (is_below _ _ _ c.if-lo-x.false)
 
 returns : tie.Need-returns invariant-loop decreases-loop
 returns c =
     let g = c.before.before.args in
-    let l = c.before.loop in
-    running_end (matches g.lo g.hi) (slices_at g.g g.w g.y g.n) l.records l.weight l.oil l.i c.loop-test.false l.invariant
+    let l = c.before.loop-i in
+    running_end (matches g.lo g.hi) (slices_at g.g g.w g.y g.n) l.records l.weight l.oil l.i c.loop-i-test.false l.invariant
 
-pub total-tested-spec : {M : Type 1} → statement M
-total-tested-spec =
+pub total_tested_spec : {M : Type 1} → statement M
+total_tested_spec =
     tie.close
     (tie.spec
     invariant-loop

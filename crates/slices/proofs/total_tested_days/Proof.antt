@@ -16,83 +16,83 @@ use Rattle.slices.proofs.Scans.{running_start, running_take, running_pass, runni
 use Rattle.slices.proofs.total_tested_days.Statement.{statement}
 use Rattle.slices.proofs.total_tested_days.Tie as tie
 
-abbrev invariant-loop : tie.invariant-loop
+abbrev invariant-loop : tie.invariant-loop-i
 invariant-loop g w y n lo hi first last records₀ weight₀ oil₀ i₀ records weight oil i = Running (during lo hi first last) (slices_of g w y n) records weight oil i
 
-abbrev decreases-loop : tie.decreases-loop
+abbrev decreases-loop : tie.decreases-loop-i
 decreases-loop g w y n lo hi first last records₀ weight₀ oil₀ i₀ records weight oil i = length g - i
 
 -- the record of this turn
-abbrev here : tie.At-loop invariant-loop decreases-loop → Delivery
-here l = let a = l.before.args in row_at (slices_at a.g a.w a.y a.n) l.loop.i
+abbrev here : tie.At-loop-i invariant-loop decreases-loop → Delivery
+here l = let a = l.before.args in row_at (slices_at a.g a.w a.y a.n) l.loop-i.i
 
-cast-a : tie.Need-overflow-cast-a invariant-loop decreases-loop
-cast-a c = omega (arith, c.shared-slice-known3.given c.before.before.before.before.loop.i)
+cast-a : tie.Need-overflow_cast-a invariant-loop decreases-loop
+cast-a c = omega (arith, c.shared_slice_known-in-loop-i-2-1.given c.before.before.before.before.loop-i.i)
 
-cast-b : tie.Need-overflow-cast-b invariant-loop decreases-loop
-cast-b c = omega (arith, c.shared-slice-known4.given c.before.before.before.before.before.loop.i)
+cast-b : tie.Need-overflow_cast-b invariant-loop decreases-loop
+cast-b c = omega (arith, c.shared_slice_known-in-loop-i-3-1.given c.before.before.before.before.before.loop-i.i)
 
-mul-c : tie.Need-overflow-mul-c invariant-loop decreases-loop
-mul-c c = let l = c.before.before.before.before.before in omega (arith, (modest _ l.loop.i l.before.requires).oil)
+mul-c : tie.Need-overflow_mul-c invariant-loop decreases-loop
+mul-c c = let l = c.before.before.before.before.before in omega (arith, (modest _ l.loop-i.i l.before.requires).oil)
 
-add-weight : tie.Need-overflow-add-weight invariant-loop decreases-loop
+add-weight : tie.Need-overflow_add-weight invariant-loop decreases-loop
 add-weight c =
     let l = c.before.before.before.before.before.before.before.before.before in
-    omega (arith, l.before.requires.few, l.loop.invariant.light, l.loop.invariant.at, (modest _ l.loop.i l.before.requires).weight)
+    omega (arith, l.before.requires.few, l.loop-i.invariant.light, l.loop-i.invariant.at, (modest _ l.loop-i.i l.before.requires).weight)
 
-add-oil : tie.Need-overflow-add-oil invariant-loop decreases-loop
+add-oil : tie.Need-overflow_add-oil invariant-loop decreases-loop
 add-oil c =
     let l = c.before.before.before.before.before.before.before.before.before in
-    omega (arith, l.before.requires.few, l.loop.invariant.little, l.loop.invariant.at, (modest _ l.loop.i l.before.requires).oil)
+    omega (arith, l.before.requires.few, l.loop-i.invariant.little, l.loop-i.invariant.at, (modest _ l.loop-i.i l.before.requires).oil)
 
-loop-again : tie.Need-loop-preserved invariant-loop decreases-loop
+loop-again : tie.Need-loop-i-preserved-then-t-last invariant-loop decreases-loop
 loop-again c =
     let b = c.before.before in
     let t = b.before.before.before.before.before.before in
     let a = t.before.before.args in
-    running_take _ _ t.before.before.requires _ _ _ _ t.loop-test.true t.before.loop.invariant
-    (is_during a.lo a.hi a.first a.last (here t.before) (is_inside _ _ _ c.before.if3.true c.if4.true) (is_inside _ _ _ b.before.if1.true b.if2.true))
+    running_take _ _ t.before.before.requires _ _ _ _ t.loop-i-test.true t.before.loop-i.invariant
+    (is_during a.lo a.hi a.first a.last (here t.before) (is_inside _ _ _ c.before.if-first-t.true c.if-t-last.true) (is_inside _ _ _ b.before.if-lo-x.true b.if-x-hi.true))
 
 -- the day is above the last, below the first
-loop-again-2 : tie.Need-loop-preserved-2 invariant-loop decreases-loop
+loop-again-2 : tie.Need-loop-i-preserved-else-t-last invariant-loop decreases-loop
 loop-again-2 c =
     let t = c.before.before.before.before.before.before.before.before in
     let a = t.before.before.args in
-    running_pass _ _ t.before.before.requires _ _ _ _ t.loop-test.true t.before.loop.invariant
-    (other_day a.lo a.hi a.first a.last (here t.before) (is_above _ _ _ c.before.if3.true c.if4.false))
+    running_pass _ _ t.before.before.requires _ _ _ _ t.loop-i-test.true t.before.loop-i.invariant
+    (other_day a.lo a.hi a.first a.last (here t.before) (is_above _ _ _ c.before.if-first-t.true c.if-t-last.false))
 
-loop-again-3 : tie.Need-loop-preserved-3 invariant-loop decreases-loop
+loop-again-3 : tie.Need-loop-i-preserved-else-first-t invariant-loop decreases-loop
 loop-again-3 c =
     let t = c.before.before.before.before.before.before.before in
     let a = t.before.before.args in
-    running_pass _ _ t.before.before.requires _ _ _ _ t.loop-test.true t.before.loop.invariant
-    (other_day a.lo a.hi a.first a.last (here t.before) (is_below _ _ _ c.if3.false))
+    running_pass _ _ t.before.before.requires _ _ _ _ t.loop-i-test.true t.before.loop-i.invariant
+    (other_day a.lo a.hi a.first a.last (here t.before) (is_below _ _ _ c.if-first-t.false))
 
 -- the grower is above hi, below lo
-loop-again-4 : tie.Need-loop-preserved-4 invariant-loop decreases-loop
+loop-again-4 : tie.Need-loop-i-preserved-else-x-hi invariant-loop decreases-loop
 loop-again-4 c =
     let t = c.before.before.before.before.before.before in
     let a = t.before.before.args in
-    running_pass _ _ t.before.before.requires _ _ _ _ t.loop-test.true t.before.loop.invariant
-    (not_wanted a.lo a.hi a.first a.last (here t.before) (is_above _ _ _ c.before.if1.true c.if2.false))
+    running_pass _ _ t.before.before.requires _ _ _ _ t.loop-i-test.true t.before.loop-i.invariant
+    (not_wanted a.lo a.hi a.first a.last (here t.before) (is_above _ _ _ c.before.if-lo-x.true c.if-x-hi.false))
 
-loop-again-5 : tie.Need-loop-preserved-5 invariant-loop decreases-loop
+loop-again-5 : tie.Need-loop-i-preserved invariant-loop decreases-loop
 loop-again-5 c =
     let t = c.before.before.before.before.before in
     let a = t.before.before.args in
-    running_pass _ _ t.before.before.requires _ _ _ _ t.loop-test.true t.before.loop.invariant
-    (not_wanted a.lo a.hi a.first a.last (here t.before) (is_below _ _ _ c.if1.false))
+    running_pass _ _ t.before.before.requires _ _ _ _ t.loop-i-test.true t.before.loop-i.invariant
+    (not_wanted a.lo a.hi a.first a.last (here t.before) (is_below _ _ _ c.if-lo-x.false))
 
 returns : tie.Need-returns invariant-loop decreases-loop
 returns c =
     let g = c.before.before.args in
     let s = slices_at g.g g.w g.y g.n in
-    let l = c.before.loop in
-    running_end (during g.lo g.hi g.first g.last) s l.records l.weight l.oil l.i c.loop-test.false l.invariant
+    let l = c.before.loop-i in
+    running_end (during g.lo g.hi g.first g.last) s l.records l.weight l.oil l.i c.loop-i-test.false l.invariant
     ∙ ap totals_of (sym (keep_both (matches g.lo g.hi) (on_days (span g.first g.last)) (rows s)))
 
-pub total-tested-days-spec : {M : Type 1} → statement M
-total-tested-days-spec =
+pub total_tested_days_spec : {M : Type 1} → statement M
+total_tested_days_spec =
     tie.close
     (tie.spec
     invariant-loop

@@ -7,26 +7,26 @@ use Rattle.slices.proofs.Flags.{BothZero, both_start, both_good, both_bad, both_
 use Rattle.slices.proofs.zeros.Statement.{statement}
 use Rattle.slices.proofs.zeros.Tie as tie
 
-abbrev invariant-loop : tie.invariant-loop
+abbrev invariant-loop : tie.invariant-loop-i
 invariant-loop s u good₀ i₀ good i = BothZero s u good i
 
-abbrev decreases-loop : tie.decreases-loop
+abbrev decreases-loop : tie.decreases-loop-i
 decreases-loop s u good₀ i₀ good i = length s - i
 
-loop-holds : tie.Need-loop-init invariant-loop decreases-loop
+loop-holds : tie.Need-loop-i-init invariant-loop decreases-loop
 loop-holds c = both_start _ _
 
-loop-again : tie.Need-loop-preserved invariant-loop decreases-loop
-loop-again c = both_bad _ _ _ _ c.before.before.before.loop-test.true c.before.before.before.before.before.requires c.before.before.before.before.loop.invariant c.if1.true
+loop-again : tie.Need-loop-i-preserved-then-x-gt0 invariant-loop decreases-loop
+loop-again c = both_bad _ _ _ _ c.before.before.before.loop-i-test.true c.before.before.before.before.before.requires c.before.before.before.before.loop-i.invariant c.if-x-gt0.true
 
-loop-again-2 : tie.Need-loop-preserved-2 invariant-loop decreases-loop
-loop-again-2 c = both_good _ _ _ _ c.before.before.before.loop-test.true c.before.before.before.before.before.requires c.before.before.before.before.loop.invariant c.if1.false
+loop-again-2 : tie.Need-loop-i-preserved invariant-loop decreases-loop
+loop-again-2 c = both_good _ _ _ _ c.before.before.before.loop-i-test.true c.before.before.before.before.before.requires c.before.before.before.before.loop-i.invariant c.if-x-gt0.false
 
 returns : tie.Need-returns invariant-loop decreases-loop
-returns c = both_end _ _ _ _ c.loop-test.false c.before.before.requires c.before.loop.invariant
+returns c = both_end _ _ _ _ c.loop-i-test.false c.before.before.requires c.before.loop-i.invariant
 
-pub zeros-spec : {M : Type 1} → statement M
-zeros-spec =
+pub zeros_spec : {M : Type 1} → statement M
+zeros_spec =
     tie.close
     (tie.spec
     invariant-loop
