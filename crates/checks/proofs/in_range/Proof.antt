@@ -4,11 +4,11 @@ use Rattle.checks.proofs.Answers.{and_no, and_yes}
 use Rattle.checks.proofs.in_range.Statement.{statement}
 use Rattle.checks.proofs.in_range.Tie as tie
 
-returns : tie.Need-returns
-returns c = and_no _ _ (lt-leb _ _ c.if1.true)
+returns : tie.Need-returns-then-d-gt-MOST_WEIGHT
+returns c = and_no _ _ (lt-leb _ _ c.if-d-gt-MOST_WEIGHT.true)
 
-returns-2 : tie.Need-returns-2
-returns-2 c = and_yes _ _ (le-leb _ _ c.before.if1.false)
+returns-2 : tie.Need-returns
+returns-2 c = and_yes _ _ (le-leb _ _ c.before.if-d-gt-MOST_WEIGHT.false)
 
-pub in-range-spec : {M : Type 1} → statement M
-in-range-spec = tie.close (tie.spec returns returns-2)
+pub in_range_spec : {M : Type 1} → statement M
+in_range_spec = tie.close (tie.spec returns returns-2)

@@ -10,23 +10,23 @@ use Rattle.checks.proofs.slices_ok.Tie as tie
 abbrev slices : tie.Start → Slices
 slices s = let g = s.args in slices_at g.g g.w g.y g.n
 
-returns : tie.Need-returns
-returns c = slices_other_weights (slices c.before.before.before.before.before) c.if1.true
+returns : tie.Need-returns-then-w-g
+returns c = slices_other_weights (slices c.before.before.before.before.before) c.if-w-g.true
 
-returns-2 : tie.Need-returns-2
+returns-2 : tie.Need-returns-then-y-g
 returns-2 c =
     let b = c.before in
-    slices_other_yields (slices b.before.before.before.before.before) b.if1.false c.if2.true
+    slices_other_yields (slices b.before.before.before.before.before) b.if-w-g.false c.if-y-g.true
 
-returns-3 : tie.Need-returns-3
+returns-3 : tie.Need-returns-then-n-g
 returns-3 c =
     let b = c.before.before in
-    slices_other_days (slices b.before.before.before.before.before) b.if1.false c.before.if2.false c.if3.true
+    slices_other_days (slices b.before.before.before.before.before) b.if-w-g.false c.before.if-y-g.false c.if-n-g.true
 
-returns-4 : tie.Need-returns-4
+returns-4 : tie.Need-returns
 returns-4 c =
     let b = c.before.before.before in
-    c.slots-ok.ensures ∙ slices_even (slices b.before.before.before.before.before) b.if1.false c.before.before.if2.false c.before.if3.false
+    c.slots_ok.ensures ∙ slices_even (slices b.before.before.before.before.before) b.if-w-g.false c.before.before.if-y-g.false c.before.if-n-g.false
 
-pub slices-ok-spec : {M : Type 1} → statement M
-slices-ok-spec = tie.close (tie.spec returns returns-2 returns-3 (λ c κs. search rules) returns-4)
+pub slices_ok_spec : {M : Type 1} → statement M
+slices_ok_spec = tie.close (tie.spec returns returns-2 returns-3 (λ c κs. search rules) returns-4)

@@ -4,11 +4,11 @@ use Rattle.checks.proofs.Answers.{and_no, and_yes}
 use Rattle.checks.proofs.span_ok.Statement.{statement}
 use Rattle.checks.proofs.span_ok.Tie as tie
 
-returns : tie.Need-returns
-returns c = and_no _ _ (lt-leb _ _ c.if1.true)
+returns : tie.Need-returns-then-first-gt-MOST_DAY
+returns c = and_no _ _ (lt-leb _ _ c.if-first-gt-MOST_DAY.true)
 
-returns-2 : tie.Need-returns-2
-returns-2 c = and_yes _ _ (le-leb _ _ c.if1.false)
+returns-2 : tie.Need-returns
+returns-2 c = and_yes _ _ (le-leb _ _ c.if-first-gt-MOST_DAY.false)
 
-pub span-ok-spec : {M : Type 1} → statement M
-span-ok-spec = tie.close (tie.spec returns returns-2)
+pub span_ok_spec : {M : Type 1} → statement M
+span_ok_spec = tie.close (tie.spec returns returns-2)

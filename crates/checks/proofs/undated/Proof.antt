@@ -8,5 +8,5 @@ use Rattle.checks.proofs.undated.Tie as tie
 returns : tie.Need-returns
 returns c = c.within.ensures ∙ at_most_zero _
 
-pub undated-spec : {M : Type 1} → statement M
-undated-spec = tie.close (tie.spec (λ c κs. search rules) returns)
+pub undated_spec : {M : Type 1} → statement M
+undated_spec = tie.close (tie.spec (λ c κs. search rules) returns)

@@ -5,11 +5,11 @@ use Rattle.checks.proofs.Answers.{and_no, and_yes}
 use Rattle.checks.proofs.values_ok.Statement.{statement}
 use Rattle.checks.proofs.values_ok.Tie as tie
 
-returns : tie.Need-returns
-returns c = c.within2.ensures ∙ and_yes _ _ (sym c.before.before.within.ensures ∙ c.before.if1.true)
+returns : tie.Need-returns-then-within
+returns c = c.within-then-within.ensures ∙ and_yes _ _ (sym c.before.before.within.ensures ∙ c.before.if-within.true)
 
-returns-2 : tie.Need-returns-2
-returns-2 c = and_no _ _ (sym c.before.within.ensures ∙ c.if1.false)
+returns-2 : tie.Need-returns
+returns-2 c = and_no _ _ (sym c.before.within.ensures ∙ c.if-within.false)
 
-pub values-ok-spec : {M : Type 1} → statement M
-values-ok-spec = tie.close (tie.spec (λ c κs. search rules) (λ c κs. search rules) returns returns-2)
+pub values_ok_spec : {M : Type 1} → statement M
+values_ok_spec = tie.close (tie.spec (λ c κs. search rules) (λ c κs. search rules) returns returns-2)

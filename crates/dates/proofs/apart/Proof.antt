@@ -6,48 +6,48 @@ use borrow.Author.Rules.{rules}
 use Rattle.dates.proofs.apart.Statement.{statement}
 use Rattle.dates.proofs.apart.Tie as tie
 
-mul-k : tie.Need-overflow-mul-k
+mul-k : tie.Need-overflow_mul-k
 mul-k c = search rules
 
-leap-requires : tie.Need-leap-requires
+leap-requires : tie.Need-leap-l-requires
 leap-requires c κs = search rules
 
-before-year-requires : tie.Need-before-year-requires
+before-year-requires : tie.Need-before_year-requires
 before-year-requires c κs = search rules
 
-sub-n : tie.Need-overflow-sub-n
+sub-n : tie.Need-overflow_sub-n
 sub-n c =
-    let s = c.before.before in
-    omega (arith, c.before-year.ensures.0, (year_found s.args.day s.requires).begun)
+    let s = c in
+    omega (arith, c.before_year.ensures.0, (year_found s.args.day s.requires).begun)
 
-month-at-requires : tie.Need-month-at-requires
+month-at-requires : tie.Need-month_at-m-requires
 month-at-requires c κs =
-    let s = c.before.before in
-    in_year s.args.day (4 * s.args.day / 1461) c.before-year.result c.before.leap.result (year_found s.args.day s.requires) c.before.leap.ensures c.before-year.ensures.0
+    let s = c in
+    in_year s.args.day (4 * s.args.day / 1461) c.before_year.result c.leap-l.result (year_found s.args.day s.requires) c.leap-l.ensures c.before_year.ensures.0
 
-before-month-requires : tie.Need-before-month-requires
+before-month-requires : tie.Need-before_month-b-requires
 before-month-requires c κs = search rules
 
-add-t7 : tie.Need-overflow-add-t7
+add-t7 : tie.Need-overflow_add-result
 add-t7 c = search rules
 
-sub-t8 : tie.Need-overflow-sub-t8
+sub-t8 : tie.Need-overflow_sub-result
 sub-t8 c = search rules
 
-add-t9 : tie.Need-overflow-add-t9
+add-t9 : tie.Need-overflow_add-result-2
 add-t9 c = search rules
 
 returns : tie.Need-returns
 returns c =
-    let s = c.before.before.before.before in
-    let l = c.before.before.before.leap in
-    let a = c.before.before.before-year in
-    let m = c.before.month-at in
-    parted s.args.day (4 * s.args.day / 1461) a.result m.result c.before-month.result l.result
-    (year_found s.args.day s.requires) l.ensures a.ensures.0 m.ensures c.before-month.ensures.0
+    let s = c in
+    let l = c.leap-l in
+    let a = c.before_year in
+    let m = c.month_at-m in
+    parted s.args.day (4 * s.args.day / 1461) a.result m.result c.before_month-b.result l.result
+    (year_found s.args.day s.requires) l.ensures a.ensures.0 m.ensures c.before_month-b.ensures.0
 
-pub apart-spec : {M : Type 1} → statement M
-apart-spec =
+pub apart_spec : {M : Type 1} → statement M
+apart_spec =
     tie.close
     (tie.spec
     mul-k

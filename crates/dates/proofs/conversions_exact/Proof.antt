@@ -6,5 +6,5 @@ use Rattle.dates.proofs.conversions_exact.Tie as tie
 returns : tie.Need-returns
 returns c = (exact_each_way, numbers_rise, one_term, term_size, no_gap)
 
-pub conversions-exact-spec : {M : Type 1} → statement M
-conversions-exact-spec = tie.close (tie.spec returns)
+pub conversions_exact_spec : {M : Type 1} → statement M
+conversions_exact_spec = tie.close (tie.spec returns)

@@ -6,88 +6,88 @@ use borrow.Author.Rules.{rules}
 use Rattle.dates.proofs.day_of.Statement.{statement}
 use Rattle.dates.proofs.day_of.Tie as tie
 
-no-day-requires : tie.Need-no-day-requires
+no-day-requires : tie.Need-no_day-requires
 no-day-requires c κs = search rules
 
-returns : tie.Need-returns
+returns : tie.Need-returns-then-year-lt-FIRST_YEAR
 returns c =
-    let s = c.before.before in
-    c.no-day.ensures ∙ day_refused s.args.year s.args.month s.args.day (λ r. omega (arith, r.year_least, c.before.if1.true))
+    let s = c in
+    c.no_day.ensures ∙ day_refused s.args.year s.args.month s.args.day (λ r. omega (arith, r.year_least, c.if-year-lt-FIRST_YEAR.true))
 
-no-day-requires-2 : tie.Need-no-day-requires-2
+no-day-requires-2 : tie.Need-no_day-requires-then-year-gt-LAST_YEAR
 no-day-requires-2 c κs = search rules
 
-returns-2 : tie.Need-returns-2
+returns-2 : tie.Need-returns-then-year-gt-LAST_YEAR
 returns-2 c =
-    let s = c.before.before.before in
-    c.no-day2.ensures ∙ day_refused s.args.year s.args.month s.args.day (λ r. omega (arith, r.year_most, c.before.if2.true))
+    let s = c in
+    c.no_day-then-year-gt-LAST_YEAR.ensures ∙ day_refused s.args.year s.args.month s.args.day (λ r. omega (arith, r.year_most, c.if-year-gt-LAST_YEAR.true))
 
-no-day-requires-3 : tie.Need-no-day-requires-3
+no-day-requires-3 : tie.Need-no_day-requires-then-month-lt1
 no-day-requires-3 c κs = search rules
 
-returns-3 : tie.Need-returns-3
+returns-3 : tie.Need-returns-then-month-lt1
 returns-3 c =
-    let s = c.before.before.before.before in
-    c.no-day3.ensures ∙ day_refused s.args.year s.args.month s.args.day (λ r. omega (arith, r.month_least, c.before.if3.true))
+    let s = c in
+    c.no_day-then-month-lt1.ensures ∙ day_refused s.args.year s.args.month s.args.day (λ r. omega (arith, r.month_least, c.if-month-lt1.true))
 
-no-day-requires-4 : tie.Need-no-day-requires-4
+no-day-requires-4 : tie.Need-no_day-requires-then-month-gt12
 no-day-requires-4 c κs = search rules
 
-returns-4 : tie.Need-returns-4
+returns-4 : tie.Need-returns-then-month-gt12
 returns-4 c =
-    let s = c.before.before.before.before.before in
-    c.no-day4.ensures ∙ day_refused s.args.year s.args.month s.args.day (λ r. omega (arith, r.month_most, c.before.if4.true))
+    let s = c in
+    c.no_day-then-month-gt12.ensures ∙ day_refused s.args.year s.args.month s.args.day (λ r. omega (arith, r.month_most, c.if-month-gt12.true))
 
-no-day-requires-5 : tie.Need-no-day-requires-5
+no-day-requires-5 : tie.Need-no_day-requires-then-day-lt1
 no-day-requires-5 c κs = search rules
 
-returns-5 : tie.Need-returns-5
+returns-5 : tie.Need-returns-then-day-lt1
 returns-5 c =
-    let s = c.before.before.before.before.before.before in
-    c.no-day5.ensures ∙ day_refused s.args.year s.args.month s.args.day (λ r. omega (arith, r.day_least, c.before.if5.true))
+    let s = c in
+    c.no_day-then-day-lt1.ensures ∙ day_refused s.args.year s.args.month s.args.day (λ r. omega (arith, r.day_least, c.if-day-lt1.true))
 
-leap-requires : tie.Need-leap-requires
+leap-requires : tie.Need-leap-l-requires
 leap-requires c κs = search rules
 
-month-days-requires : tie.Need-month-days-requires
+month-days-requires : tie.Need-month_days-requires
 month-days-requires c κs = search rules
 
-no-day-requires-6 : tie.Need-no-day-requires-6
+no-day-requires-6 : tie.Need-no_day-requires-then-month_days-day
 no-day-requires-6 c κs = search rules
 
-returns-6 : tie.Need-returns-6
+returns-6 : tie.Need-returns-then-month_days-day
 returns-6 c =
-    let s = c.before.before.before.before.before.before.before.before.before in
-    let l = c.before.before.before.leap in
-    let e = c.before.before.month-days in
-    c.no-day6.ensures
+    let s = c in
+    let l = c.leap-l in
+    let e = c.month_days in
+    c.no_day-then-month_days-day.ensures
     ∙ day_refused s.args.year s.args.month s.args.day
-    (too_late s.args.year s.args.month s.args.day e.result l.result l.ensures e.ensures.0 c.before.if6.true)
+    (too_late s.args.year s.args.month s.args.day e.result l.result l.ensures e.ensures.0 c.if-month_days-day.true)
 
-before-year-requires : tie.Need-before-year-requires
+before-year-requires : tie.Need-before_year-requires
 before-year-requires c κs = search rules
 
-before-month-requires : tie.Need-before-month-requires
+before-month-requires : tie.Need-before_month-requires
 before-month-requires c κs = search rules
 
-add-t9 : tie.Need-overflow-add-t9
+add-t9 : tie.Need-overflow_add-result
 add-t9 c = search rules
 
-add-t11 : tie.Need-overflow-add-t11
+add-t11 : tie.Need-overflow_add-result-2
 add-t11 c = search rules
 
-returns-7 : tie.Need-returns-7
+returns-7 : tie.Need-returns
 returns-7 c =
-    let s = c.before.before.before.before.before.before.before.before.before.before in
-    let l = c.before.before.before.before in
-    let a = c.before.before-year in
-    let e = c.before.before.before.month-days in
-    day_answer s.args.year s.args.month s.args.day e.result a.result c.before-month.result l.leap.result
-    l.before.before.before.before.before.if1.false l.before.before.before.before.if2.false l.before.before.before.if3.false l.before.before.if4.false l.before.if5.false
-    l.leap.ensures e.ensures.0 c.before.before.if6.false a.ensures.0 c.before-month.ensures.0
+    let s = c in
+    let l = c in
+    let a = c.before_year in
+    let e = c.month_days in
+    day_answer s.args.year s.args.month s.args.day e.result a.result c.before_month.result l.leap-l.result
+    l.if-year-lt-FIRST_YEAR.false l.if-year-gt-LAST_YEAR.false l.if-month-lt1.false l.if-month-gt12.false l.if-day-lt1.false
+    l.leap-l.ensures e.ensures.0 c.if-month_days-day.false a.ensures.0 c.before_month.ensures.0
 
-pub day-of-spec : {M : Type 1} → statement M
-day-of-spec =
+pub day_of_spec : {M : Type 1} → statement M
+day_of_spec =
     tie.close
     (tie.spec
     no-day-requires

@@ -5,24 +5,24 @@ use Rattle.fields.proofs.Columns.{Passed, pass_start, pass_stop, pass_next, pass
 use Rattle.fields.proofs.blanks.Statement.{statement}
 use Rattle.fields.proofs.blanks.Tie as tie
 
-abbrev invariant-loop : tie.invariant-loop
+abbrev invariant-loop : tie.invariant-loop-i
 invariant-loop text at i₀ i = Passed text at i
 
-abbrev decreases-loop : tie.decreases-loop
+abbrev decreases-loop : tie.decreases-loop-i
 decreases-loop text at i₀ i = 10 - i
 
-loop-holds : tie.Need-loop-init invariant-loop decreases-loop
+loop-holds : tie.Need-loop-i-init invariant-loop decreases-loop
 loop-holds c = pass_start _ _ c.requires
 
-returns : tie.Need-returns invariant-loop decreases-loop
-returns c = pass_stop c.before.before.before.loop.invariant c.if1.true
+returns : tie.Need-returns-then-text-at-ne32 invariant-loop decreases-loop
+returns c = pass_stop c.loop-i.invariant c.if-text-at-ne32.true
 
-loop-again : tie.Need-loop-preserved invariant-loop decreases-loop
-loop-again c = pass_next c.before.before.loop-test.true c.before.before.before.loop.invariant c.if1.false
+loop-again : tie.Need-loop-i-preserved invariant-loop decreases-loop
+loop-again c = pass_next c.loop-i-test.true c.loop-i.invariant c.if-text-at-ne32.false
 
-returns-2 : tie.Need-returns-2 invariant-loop decreases-loop
-returns-2 c = pass_end c.loop-test.false c.before.loop.invariant
+returns-2 : tie.Need-returns invariant-loop decreases-loop
+returns-2 c = pass_end c.loop-i-test.false c.loop-i.invariant
 
-pub blanks-spec : {M : Type 1} → statement M
-blanks-spec =
+pub blanks_spec : {M : Type 1} → statement M
+blanks_spec =
     tie.close (tie.spec invariant-loop decreases-loop loop-holds (λ c. omega arith) (λ c. omega arith) returns (λ c. omega arith) (λ c. omega arith) loop-again returns-2)

@@ -5,21 +5,21 @@ use Rattle.fields.proofs.Columns.{none_there, zero_fails}
 use Rattle.fields.proofs.number_at.Statement.{statement}
 use Rattle.fields.proofs.number_at.Tie as tie
 
-returns : tie.Need-returns
+returns : tie.Need-returns-then-text-lt-WIDTH
 returns c = none_there _ _ (omega arith)
 
-returns-2 : tie.Need-returns-2
+returns-2 : tie.Need-returns-then-text-at
 returns-2 c = none_there _ _ (omega arith)
 
-returns-3 : tie.Need-returns-3
-returns-3 c = zero_fails (omega arith) c.before.before.blanks.ensures (sym c.before.zero-leads.ensures ∙ c.if3.true)
+returns-3 : tie.Need-returns-then-zero_leads
+returns-3 c = zero_fails (omega arith) c.blanks-first.ensures (sym c.zero_leads.ensures ∙ c.if-zero_leads.true)
 
 digits-requires : tie.Need-digits-requires
-digits-requires c κs = (omega arith, c.before.before.blanks.ensures, sym c.before.zero-leads.ensures ∙ c.if3.false)
+digits-requires c κs = (omega arith, c.blanks-first.ensures, sym c.zero_leads.ensures ∙ c.if-zero_leads.false)
 
-returns-4 : tie.Need-returns-4
+returns-4 : tie.Need-returns
 returns-4 c = c.digits.ensures
 
-pub number-at-spec : {M : Type 1} → statement M
-number-at-spec =
+pub number_at_spec : {M : Type 1} → statement M
+number_at_spec =
     tie.close (tie.spec returns (λ c. omega arith) returns-2 (λ c κs. omega arith) (λ c κs. omega arith) returns-3 digits-requires returns-4)

@@ -5,10 +5,10 @@ use Rattle.fields.proofs.put_wide.Statement.{statement}
 use Rattle.fields.proofs.put_wide.Tie as tie
 
 put-requires : tie.Need-put-requires
-put-requires c κs = (omega arith, omega (arith, c.before.before.requires))
+put-requires c κs = (omega arith, omega (arith, c.requires))
 
 returns : tie.Need-returns
-returns c = c.before.before.put.ensures
+returns c = c.put.ensures
 
-pub put-wide-spec : {M : Type 1} → statement M
-put-wide-spec = tie.close (tie.spec put-requires (λ c. search rules) returns)
+pub put_wide_spec : {M : Type 1} → statement M
+put_wide_spec = tie.close (tie.spec put-requires (λ c. search rules) returns)

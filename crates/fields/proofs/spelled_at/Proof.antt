@@ -8,32 +8,32 @@ use Rattle.fields.proofs.Spelling.{Spelling, spell_start, most_spelled, low_bits
 use Rattle.fields.proofs.spelled_at.Statement.{statement}
 use Rattle.fields.proofs.spelled_at.Tie as tie
 
-abbrev invariant-loop : tie.invariant-loop
+abbrev invariant-loop : tie.invariant-loop-k
 invariant-loop text at v₀ k₀ v k = Spelling text at (value_at at text) v k
 
-abbrev decreases-loop : tie.decreases-loop
+abbrev decreases-loop : tie.decreases-loop-k
 decreases-loop text at v₀ k₀ v k = 11 - k
 
-loop-holds : tie.Need-loop-init invariant-loop decreases-loop
-loop-holds c = spell_start _ _ c.before.requires
+loop-holds : tie.Need-loop-k-init invariant-loop decreases-loop
+loop-holds c = spell_start _ _ c.requires
 
-mul-v : tie.Need-overflow-mul-v invariant-loop decreases-loop
-mul-v c = omega (arith, most_spelled c.before.before.loop.invariant c.before.loop-test.true)
+mul-v : tie.Need-overflow_mul-v invariant-loop decreases-loop
+mul-v c = omega (arith, most_spelled c.loop-k.invariant c.loop-k-test.true)
 
-add-v : tie.Need-overflow-add-v invariant-loop decreases-loop
-add-v c = let w = c.before.before.before.loop.invariant in let h = c.before.before.loop-test.true in omega (arith, most_spelled w h, low_bits_lem w h, digit w h, c.wide.ensures)
+add-v : tie.Need-overflow_add-v invariant-loop decreases-loop
+add-v c = let w = c.loop-k.invariant in let h = c.loop-k-test.true in omega (arith, most_spelled w h, low_bits_lem w h, digit w h, c.wide.ensures)
 
-loop-again : tie.Need-loop-preserved invariant-loop decreases-loop
-loop-again c = spell_next c.before.before.before.loop.invariant c.before.before.loop-test.true _ c.wide.ensures
+loop-again : tie.Need-loop-k-preserved invariant-loop decreases-loop
+loop-again c = spell_next c.loop-k.invariant c.loop-k-test.true _ c.wide.ensures
 
-cast-result : tie.Need-overflow-cast-result invariant-loop decreases-loop
-cast-result c = let w = c.before.loop.invariant in omega (arith, spell_end w c.loop-test.false, w.known.most)
+cast-result : tie.Need-overflow_cast-result invariant-loop decreases-loop
+cast-result c = let w = c.loop-k.invariant in omega (arith, spell_end w c.loop-k-test.false, w.known.most)
 
 returns : tie.Need-returns invariant-loop decreases-loop
-returns c = spell_end c.before.loop.invariant c.loop-test.false
+returns c = spell_end c.loop-k.invariant c.loop-k-test.false
 
-pub spelled-at-spec : {M : Type 1} → statement M
-spelled-at-spec =
+pub spelled_at_spec : {M : Type 1} → statement M
+spelled_at_spec =
     tie.close
     (tie.spec
     invariant-loop decreases-loop loop-holds (λ c. omega arith) (λ c. omega arith) mul-v (λ c κs. search rules) add-v (λ c. omega arith)
