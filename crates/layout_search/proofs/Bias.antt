@@ -25,4 +25,4 @@ module _ (m : ℕ) (h : m < 2 ^ 62) where
 
 -- such a cost held in an i64
 pub held-cost : (m : ℕ) → m < 2 ^ 62 → (z : ℤ) → z ≡ sub_ℕ m (2 ^ 60) → to_z w64 (of_z w64 z) ≡ sub_ℕ m (2 ^ 60)
-held-cost m h z e = to_z-of_z (rw e (sfits_is _ _ _ (is_sub m (2 ^ 60)) (omega arith) (omega arith))) ∙ e
+held-cost m h z e = to_z-of_z {w = w64} (rw e (sfits_is _ _ _ (is_sub m (2 ^ 60)) (omega arith) (omega arith))) ∙ e

@@ -4,29 +4,29 @@ use Rattle.csv_fields.proofs.CursorLaws.{at_end, at-comma, at_lf, at_other, at_c
 use Rattle.csv_fields.proofs.behind_at.Statement.{statement}
 use Rattle.csv_fields.proofs.behind_at.Tie as tie
 
-returns : tie.Need-returns
-returns c = at_end _ _ c.if1.true
+returns : tie.Need-returns-then-at-text
+returns c = at_end _ _ c.if-at-text.true
 
-returns-2 : tie.Need-returns-2
-returns-2 c = at-comma _ _ (omega arith) c.if2.true
+returns-2 : tie.Need-returns-then-b-eq44
+returns-2 c = at-comma _ _ (omega arith) c.if-b-eq44.true
 
-returns-3 : tie.Need-returns-3
-returns-3 c = at_lf _ _ (omega arith) c.if3.true
+returns-3 : tie.Need-returns-then-b-eq10
+returns-3 c = at_lf _ _ (omega arith) c.if-b-eq10.true
 
-returns-4 : tie.Need-returns-4
-returns-4 c = at_other _ _ (omega arith) c.before.before.if2.false c.before.if3.false c.if4.true
+returns-4 : tie.Need-returns-then-b-ne13
+returns-4 c = at_other _ _ (omega arith) c.if-b-eq44.false c.if-b-eq10.false c.if-b-ne13.true
 
-returns-5 : tie.Need-returns-5
-returns-5 c = at_cr _ _ (omega arith) (omega arith) c.if5.true
+returns-5 : tie.Need-returns-then-at-text-2
+returns-5 c = at_cr _ _ (omega arith) (omega arith) c.if-at-text-2.true
 
-returns-6 : tie.Need-returns-6
-returns-6 c = at_cr_other _ _ (omega arith) (omega arith) (omega arith) c.if6.true
+returns-6 : tie.Need-returns-then-text-at-ne10
+returns-6 c = at_cr_other _ _ (omega arith) (omega arith) (omega arith) c.if-text-at-ne10.true
 
-returns-7 : tie.Need-returns-7
+returns-7 : tie.Need-returns
 returns-7 c = at_crlf _ _ (omega arith) (omega arith) (omega arith) (omega arith)
 
-pub behind-at-spec : {M : Type 1} → statement M
-behind-at-spec =
+pub behind_at_spec : {M : Type 1} → statement M
+behind_at_spec =
     tie.close
     (tie.spec
     returns (λ c. search rules) (λ c. search rules) returns-2 (λ c. search rules) returns-3 returns-4 (λ c. search rules) returns-5

@@ -6,23 +6,23 @@ use Rattle.csv_fields.specs.Reading.{DigitsTo}
 use Rattle.csv_fields.proofs.cell_at.Statement.{statement}
 use Rattle.csv_fields.proofs.cell_at.Tie as tie
 
-passed : (c : tie.Then1) →
-    let s = c.before.before.before.before.before.before in
-    let d = c.before.before.d.given.0 in DigitsTo s.args.text.now s.args.at d.0 d.1.0
-passed c = (run_is c.before.before.before.before.digits-at.ensures c.before.before.d.given.1).passed
+passed : (c : tie.Then-at-e) →
+    let s = c in
+    DigitsTo s.args.text.now s.args.at c.in-Digits.n c.in-Digits.e
+passed c = (run_is c.digits_at-d.ensures c.in-Digits.is).passed
 
-returns : tie.Need-returns
+returns : tie.Need-returns-in-Comma
 returns c =
-    let e = c.before.before.before.before in
-    cell_comma (passed e) (λ z. omega arith) (behind_as c.before.before.before.behind-at.ensures c.before.b.given.1)
+    let e = c in
+    cell_comma (passed e.before.before) (λ z. omega arith) (behind_as c.behind_at-b.ensures c.in-Comma.is)
 
-returns-2 : tie.Need-returns-2
+returns-2 : tie.Need-returns-in-End
 returns-2 c =
-    let e = c.before.before.before.before in
-    cell_end (passed e) (λ z. omega arith) (behind_as c.before.before.before.behind-at.ensures c.before.b2.given.1)
+    let e = c in
+    cell_end (passed e.before.before) (λ z. omega arith) (behind_as c.behind_at-b.ensures c.in-End.is)
 
-pub cell-at-spec : {M : Type 1} → statement M
-cell-at-spec =
+pub cell_at_spec : {M : Type 1} → statement M
+cell_at_spec =
     tie.close
     (tie.spec
     (λ c κs. search rules) (λ c. search rules) (λ c κs. (passed c).spells.high) (λ c. search rules) returns (λ c. search rules) returns-2

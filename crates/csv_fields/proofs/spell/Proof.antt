@@ -5,17 +5,17 @@ use Rattle.model.specs.Bounds.{most_number}
 use Rattle.csv_fields.proofs.spell.Statement.{statement}
 use Rattle.csv_fields.proofs.spell.Tie as tie
 
-returns : tie.Need-returns
-returns c = sym (large_is c.before.before.digits-at.ensures c.enum_told.given.1)
+returns : tie.Need-returns-in_default
+returns c = sym (large_is c.digits_at-d.ensures c.in_default.is)
 
-returns-2 : tie.Need-returns-2
-returns-2 c = sym (spell_other (run_is c.before.before.before.before.digits-at.ensures c.before.before.d.given.1) c.if1.true)
+returns-2 : tie.Need-returns-then-e-s
+returns-2 c = sym (spell_other (run_is c.digits_at-d.ensures c.in-Digits.is) c.if-e-s.true)
 
-returns-3 : tie.Need-returns-3
+returns-3 : tie.Need-returns-then-e-eq0
 returns-3 c = sym (none_empty most_number _ (omega arith))
 
-returns-4 : tie.Need-returns-4
-returns-4 c = sym (spell_all (run_is c.before.before.before.before.before.digits-at.ensures c.before.before.before.d.given.1) (omega arith) c.if2.false)
+returns-4 : tie.Need-returns
+returns-4 c = sym (spell_all (run_is c.digits_at-d.ensures c.in-Digits.is) (omega arith) c.if-e-eq0.false)
 
-pub spell-spec : {M : Type 1} → statement M
-spell-spec = tie.close (tie.spec (λ c κs. search rules) (λ c. search rules) (λ c. search rules) returns returns-2 returns-3 returns-4)
+pub spell_spec : {M : Type 1} → statement M
+spell_spec = tie.close (tie.spec (λ c κs. search rules) (λ c. search rules) (λ c. search rules) returns returns-2 returns-3 returns-4)

@@ -11,34 +11,34 @@ use Rattle.layout_search.proofs.PriceLaws.{holds_less, priced_as}
 use Rattle.layout_search.proofs.candidate.Statement.{statement}
 use Rattle.layout_search.proofs.candidate.Tie as tie
 
-returns : tie.Need-returns
+returns : tie.Need-returns-then-not-partition_ok
 returns c =
     offer_not_ok _ _ _ _ _ _
-    (sym c.before.partition-ok.ensures ∙ not-true c.before.partition-ok.result c.if1.true) refl
+    (sym c.partition_ok.ensures ∙ c.if-not-partition_ok.true) refl
 
-returns-2 : tie.Need-returns-2
+returns-2 : tie.Need-returns-then-y-ge-NONE
 returns-2 c =
-    let s = c.before.before.before.before.before.before.before in
-    offer_no_rest _ _ _ _ _ _ (s.requires.1.1 (s.args.e + 1) (omega arith)) (omega (arith, c.before.entry.ensures)) refl
+    let s = c in
+    offer_no_rest _ _ _ _ _ _ (s.requires.1.1 (s.args.e + 1) (omega arith)) (omega (arith, c.entry-y.ensures)) refl
 
 price-requires : tie.Need-price-requires
 price-requires c κs =
-    let given = c.before.before.before.before.before.before.before.requires in
+    let given = c.requires in
     (holds_less _ _ _ given.0 (omega arith), omega arith)
 
-sub-result : tie.Need-overflow-sub-result
+sub-result : tie.Need-overflow_sub-result
 sub-result c =
-    let entry = c.before.before.entry in
-    let s = c.before.before.before.before.before.before.before.before in
+    let entry = c.entry-y in
+    let s = c in
     let b = (s.requires.1.1 (s.args.e + 1) (omega arith)).near (omega (arith, entry.ensures)) in
     omega (arith, entry.ensures, c.price.ensures)
 
-returns-3 : tie.Need-returns-3
+returns-3 : tie.Need-returns
 returns-3 c =
-    let partition-ok = c.before.before.before.before.partition-ok in
-    let if1 = c.before.before.before.if1 in
-    let entry = c.before.before.entry in
-    let s = c.before.before.before.before.before.before.before.before in
+    let partition-ok = c.partition_ok in
+    let if1 = c.if-not-partition_ok in
+    let entry = c.entry-y in
+    let s = c in
     let b = s.requires.1.1 (s.args.e + 1) (omega arith) in
     let g = b.near (omega (arith, entry.ensures)) in
     let p = priced_as _ _ _ _ (s.args.k + 1) _ (omega arith) c.price.ensures in
@@ -46,7 +46,7 @@ returns-3 c =
     (record {
       start = omega arith;
       inside = omega arith;
-      okay = sym partition-ok.ensures ∙ not-false partition-ok.result if1.false;
+      okay = sym partition-ok.ensures ∙ if1.false;
       rest = b;
       some = omega (arith, entry.ensures);
       is = omega (arith, p.is, p.up, p.down, entry.ensures);
@@ -55,8 +55,8 @@ returns-3 c =
       blocks = s.requires.0.few;
     })
 
-pub candidate-spec : {M : Type 1} → statement M
-candidate-spec =
+pub candidate_spec : {M : Type 1} → statement M
+candidate_spec =
     tie.close
     (tie.spec
     (λ c κs. search rules)

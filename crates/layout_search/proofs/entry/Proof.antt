@@ -8,35 +8,35 @@ use Rattle.layout_search.proofs.entry.Statement.{statement}
 use Rattle.layout_search.proofs.entry.Tie as tie
 
 -- the place in the table
-below : (c : tie.After-index) → c.index.result < length c.before.before.before.before.args.table.now
+below : (c : tie.After-index) → c.index.result < length c.args.table.now
 below c =
-    let a = c.before.before.before.before.args in
+    let a = c.args in
     omega (arith, c.index.ensures, place_below a.n a.k a.k a.a (omega arith) (omega arith) (omega arith))
 
-returns : tie.Need-returns
-returns c = let a = c.before.before.before.args in val_whole a.n a.table.now a.k a.a c.before.if1.true c.if2.true
+returns : tie.Need-returns-then-k-eq0
+returns c = let a = c.args in val_whole a.n a.table.now a.k a.a c.if-a-n.true c.if-k-eq0.true
 
-returns-2 : tie.Need-returns-2
+returns-2 : tie.Need-returns-then-a-n
 returns-2 c =
-    let a = c.before.before.before.args in
-    val_past a.n a.table.now a.k a.a c.before.if1.true (omega arith)
+    let a = c.args in
+    val_past a.n a.table.now a.k a.a c.if-a-n.true (omega arith)
 
-returns-3 : tie.Need-returns-3
+returns-3 : tie.Need-returns-then-k-eq0-2
 returns-3 c =
-    let a = c.before.before.before.args in
-    val_none a.n a.table.now a.k a.a c.before.if1.false c.if3.true
+    let a = c.args in
+    val_none a.n a.table.now a.k a.a c.if-a-n.false c.if-k-eq0-2.true
 
-mul-result : tie.Need-overflow-mul-result
+mul-result : tie.Need-offset_bounds-table-index
 mul-result c = omega (arith, below c)
 
-shared-slice-read-result : tie.Need-shared-slice-read-result
+shared-slice-read-result : tie.Need-bounds-table-index
 shared-slice-read-result c = omega (arith, below c.before)
 
-returns-4 : tie.Need-returns-4
+returns-4 : tie.Need-returns
 returns-4 c =
-    let a = c.before.before.before.before.before.args in
-    let if1 = c.before.before.before.if1 in
-    rw c.before.index.ensures (val_row a.n a.table.now a.k a.a if1.false (omega arith))
+    let a = c.args in
+    let if1 = c.if-a-n in
+    rw c.index.ensures (val_row a.n a.table.now a.k a.a if1.false (omega arith))
 
 pub entry_spec : {M : Type 1} → statement M
 entry_spec =

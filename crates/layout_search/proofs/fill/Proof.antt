@@ -13,37 +13,37 @@ use Rattle.layout_search.proofs.TailLaws.{locals_kept}
 use Rattle.layout_search.proofs.fill.Statement.{statement}
 use Rattle.layout_search.proofs.fill.Tie as tie
 
-abbrev invariant-loop : tie.invariant-loop
+abbrev invariant-loop : tie.invariant-loop-k
 invariant-loop sums fits longest n table₀ top tails₀ k₀ table tails k =
     (k ≤ top) × (length table ≡ length table₀) × Rows (task_of sums fits longest n) k table × LocalPrices sums n n table × (length tails ≡ search_limit)
 
-abbrev decreases-loop : tie.decreases-loop
+abbrev decreases-loop : tie.decreases-loop-k
 decreases-loop sums fits longest n table₀ top tails₀ k₀ table tails k = top - k
 
-loop-holds : tie.Need-loop-init invariant-loop decreases-loop
+loop-holds : tie.Need-loop-k-init invariant-loop decreases-loop
 loop-holds c =
-    let a = c.before.before.before.before.before.before.before.args in
-    (omega arith, refl, rows-zero (task_of a.sums.now a.fits.now a.longest a.n) _, c.before.before.fill-local-prices.ensures, refl)
+    let a = c.args in
+    (omega arith, refl, rows-zero (task_of a.sums.now a.fits.now a.longest a.n) _, c.fill_local_prices.ensures, refl)
 
-slice-aggregate-fill-row : tie.Need-slice-aggregate-fill-row invariant-loop decreases-loop
-slice-aggregate-fill-row c = omega (arith, c.before.before.before.loop.invariant.4)
+slice-aggregate-fill-row : tie.Need-slice_bounds-fill_row-end invariant-loop decreases-loop
+slice-aggregate-fill-row c = omega (arith, c.loop-k.invariant.4)
 
-fill-row-requires : tie.Need-fill-row-requires invariant-loop decreases-loop
+fill-row-requires : tie.Need-fill_row-requires invariant-loop decreases-loop
 fill-row-requires c κs =
-    let s = c.before.before.before.before.before.before.before.before.before.before.before in
-    let l = c.before.before.before.loop in
+    let s = c in
+    let l = c.loop-k in
     (s.requires.0, (omega (arith, l.invariant.1, l.invariant.4, s.requires.0.few), (l.invariant.3, l.invariant.2 l.k (omega arith))))
 
-add-k : tie.Need-overflow-add-k invariant-loop decreases-loop
+add-k : tie.Need-overflow_add-k invariant-loop decreases-loop
 add-k c = omega arith
 
-loop-less : tie.Need-loop-smaller invariant-loop decreases-loop
+loop-less : tie.Need-loop-k-smaller invariant-loop decreases-loop
 loop-less c = omega arith
 
-loop-again : tie.Need-loop-preserved invariant-loop decreases-loop
+loop-again : tie.Need-loop-k-preserved invariant-loop decreases-loop
 loop-again c =
-    let l = c.before.before.before.before.before.before.before.loop in
-    let f = c.before.before.before.fill-row.ensures in (
+    let l = c.loop-k in
+    let f = c.fill_row.ensures in (
       omega arith,
       f.1.long ∙ l.invariant.1,
       rows_more _ _ _ _ l.invariant.2 f.0 f.1,
@@ -51,11 +51,11 @@ loop-again c =
       omega (arith, l.invariant.4),
     )
 
-same_length : tie.Need-same-length invariant-loop decreases-loop
-same_length c = omega (arith, c.before.loop.invariant.1)
+same_length : tie.Need-shape_of-table invariant-loop decreases-loop
+same_length c = omega (arith, c.loop-k.invariant.1)
 
 returns : tie.Need-returns invariant-loop decreases-loop
-returns c = λ j h. c.before.loop.invariant.2 j (omega arith)
+returns c = λ j h. c.loop-k.invariant.2 j (omega arith)
 
 pub fill_spec : {M : Type 1} → statement M
 fill_spec =

@@ -10,51 +10,51 @@ use Rattle.layout_search.proofs.TailLaws.{tails_start, tails_more}
 use Rattle.layout_search.proofs.fill_tails.Statement.{statement}
 use Rattle.layout_search.proofs.fill_tails.Tie as tie
 
-abbrev invariant-loop : tie.invariant-loop
+abbrev invariant-loop : tie.invariant-loop-e
 invariant-loop sums fits longest n table k tails₀ e₀ tails e = (e ≤ n) × (length tails ≡ length tails₀) × Tails sums (task_of sums fits longest n) (λ i. get_or fits i false) k e tails
 
-abbrev decreases-loop : tie.decreases-loop
+abbrev decreases-loop : tie.decreases-loop-e
 decreases-loop sums fits longest n table k tails₀ e₀ tails e = n - e
 
-loop-holds : tie.Need-loop-init invariant-loop decreases-loop
+loop-holds : tie.Need-loop-e-init invariant-loop decreases-loop
 loop-holds c = (omega arith, refl, tails_start _ _ _ _ _ (omega arith))
 
-tail-requires : tie.Need-tail-requires invariant-loop decreases-loop
-tail-requires c κs = let s = c.before.before.before.before.before.before in (s.requires.0, (omega arith, s.requires.1.1))
+tail-requires : tie.Need-tail-x-requires invariant-loop decreases-loop
+tail-requires c κs = let s = c in (s.requires.0, (omega arith, s.requires.1.1))
 
-mul-tails : tie.Need-overflow-mul-tails invariant-loop decreases-loop
+mul-tails : tie.Need-offset_bounds-tails-e invariant-loop decreases-loop
 mul-tails c = omega arith
 
-slice-write-tails : tie.Need-slice-write-tails invariant-loop decreases-loop
+slice-write-tails : tie.Need-bounds-tails-e invariant-loop decreases-loop
 slice-write-tails c = omega arith
 
-add-e : tie.Need-overflow-add-e invariant-loop decreases-loop
+add-e : tie.Need-overflow_add-e invariant-loop decreases-loop
 add-e c = omega arith
 
-loop-less : tie.Need-loop-smaller invariant-loop decreases-loop
+loop-less : tie.Need-loop-e-smaller invariant-loop decreases-loop
 loop-less c = omega arith
 
-loop-again : tie.Need-loop-preserved invariant-loop decreases-loop
+loop-again : tie.Need-loop-e-preserved invariant-loop decreases-loop
 loop-again c =
-    let l = c.before.before.loop in
-    let a = c.before.before.before.before.before.before.before.args in (
+    let l = c.loop-e in
+    let a = c.args in (
       omega arith,
-      length-set l.tails l.e c.tail.result ∙ l.invariant.1,
-      tails_more a.sums.now (task_of a.sums.now a.fits.now a.longest a.n) _ _ _ _ _ l.invariant.2 (omega arith) c.tail.ensures,
+      length-set l.tails l.e c.tail-x.result ∙ l.invariant.1,
+      tails_more a.sums.now (task_of a.sums.now a.fits.now a.longest a.n) _ _ _ _ _ l.invariant.2 (omega arith) c.tail-x.ensures,
     )
 
-same_length : tie.Need-same-length invariant-loop decreases-loop
-same_length c = c.before.loop.invariant.1
+same_length : tie.Need-shape_of-tails invariant-loop decreases-loop
+same_length c = c.loop-e.invariant.1
 
 returns : tie.Need-returns invariant-loop decreases-loop
 returns c =
-    let s = c.before.before.before.before.before.before in
-    let l = c.before.loop in
+    let s = c in
+    let l = c.loop-e in
     let x : l.e ≡ s.args.n = omega arith in
     rw x at l.invariant.2
 
-pub fill-tails-spec : {M : Type 1} → statement M
-fill-tails-spec =
+pub fill_tails_spec : {M : Type 1} → statement M
+fill_tails_spec =
     tie.close
     (tie.spec
     invariant-loop

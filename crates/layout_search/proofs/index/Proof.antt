@@ -10,11 +10,11 @@ use Rattle.layout_search.proofs.index.Tie as tie
 few : (s : tie.Start) → s.args.k * s.args.n ≤ search_limit * search_limit
 few s = mul-le-mul {n₂ = search_limit} {m₂ = search_limit} (omega arith) (omega arith)
 
-mul-result : tie.Need-overflow-mul-result
+mul-result : tie.Need-overflow_mul-result
 mul-result c = omega (arith, few c)
 
-add-result : tie.Need-overflow-add-result
+add-result : tie.Need-overflow_add-result
 add-result c = omega (arith, few c)
 
-pub index-spec : {M : Type 1} → statement M
-index-spec = tie.close (tie.spec mul-result add-result (λ c. search rules))
+pub index_spec : {M : Type 1} → statement M
+index_spec = tie.close (tie.spec mul-result add-result (λ c. search rules))

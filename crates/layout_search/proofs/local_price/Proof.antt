@@ -10,18 +10,18 @@ use Rattle.layout_search.proofs.local_price.Tie as tie
 
 returns : tie.Need-returns
 returns c =
-    let after = c.before in
-    let weighted = after.before.before in
-    let before = weighted.before in
-    let fixed = before.before.before in
-    let s = fixed.before.before in
+    let after = c in
+    let weighted = after in
+    let before = weighted in
+    let fixed = before in
+    let s = fixed in
     let a = s.args in
-    local_price_is a.sums.now (a.e + 1) s.requires.0 a.a a.e s.requires.1 (omega arith) after.times2.result before.times.result _
-    (product_is _ _ _ _ _ after.times2.ensures.0 after.before.sum-over4.ensures.0 refl) (product_is _ _ _ _ _ before.times.ensures.0 before.before.sum-over2.ensures.0 refl)
-    after.times2.ensures.1 before.times.ensures.1 (rw (fixed.Sum-over.ensures.0, weighted.sum-over3.ensures.0, c.sum-over5.ensures.0) refl)
+    local_price_is a.sums.now (a.e + 1) s.requires.0 a.a a.e s.requires.1 (omega arith) after.times-after.result before.times-before.result _
+    (product_is _ _ _ _ _ after.times-after.ensures.0 after.sum_over-2.ensures.0 refl) (product_is _ _ _ _ _ before.times-before.ensures.0 before.sum_over.ensures.0 refl)
+    after.times-after.ensures.1 before.times-before.ensures.1 (rw (fixed.sum_over-fixed.ensures.0, weighted.sum_over-weighted_before.ensures.0, c.sum_over-weighted_after.ensures.0) refl)
 
-pub local-price-spec : {M : Type 1} → statement M
-local-price-spec =
+pub local_price_spec : {M : Type 1} → statement M
+local_price_spec =
     tie.close
     (tie.spec
     (λ c κs. search rules)

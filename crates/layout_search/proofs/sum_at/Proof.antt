@@ -9,5 +9,5 @@ returns : tie.Need-returns
 unfolding sum_at
 returns c = refl
 
-pub sum-at-spec : {M : Type 1} → statement M
-sum-at-spec = tie.close (tie.spec (λ c. search rules) (λ c. search rules) (λ c. search rules) (λ c. search rules) returns)
+pub sum_at_spec : {M : Type 1} → statement M
+sum_at_spec = tie.close (tie.spec (λ c. search rules) (λ c. search rules) (λ c. search rules) (λ c. search rules) returns)

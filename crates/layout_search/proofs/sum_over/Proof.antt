@@ -9,20 +9,20 @@ use Rattle.layout_search.proofs.sum_over.Statement.{statement}
 use Rattle.layout_search.proofs.sum_over.Tie as tie
 
 -- the sum past the last block
-past : (c : tie.After-sum-at2) → (let a = c.before.before.before.args in c.before.sum-at.result ≡ sum_at a.sums.now a.q (a.e + 1))
-past c = let a = c.before.before.before.args in sum_as a.sums.now a.q _ (a.e + 1) _ c.before.sum-at.ensures (omega arith)
+past : (c : tie.After-sum_at-2) → (let a = c.args in c.sum_at.result ≡ sum_at a.sums.now a.q (a.e + 1))
+past c = let a = c.args in sum_as a.sums.now a.q _ (a.e + 1) _ c.sum_at.ensures (omega arith)
 
-sub-result : tie.Need-overflow-sub-result
+sub-result : tie.Need-overflow_sub-result
 sub-result c =
-    let s = c.before.before.before in
+    let s = c in
     let a = s.args in
     omega (arith, past c, rises a.sums.now (a.e + 1) s.requires.0.rising a.q a.a a.e (omega arith) (omega arith) (omega arith))
 
 returns : tie.Need-returns
 returns c =
-    let s = c.before.before.before in
+    let s = c in
     let a = s.args in
     (omega (arith, past c), omega (arith, past c, sum_small a.sums.now (a.e + 1) s.requires.0 a.q (a.e + 1) (omega arith) (omega arith)))
 
-pub sum-over-spec : {M : Type 1} → statement M
-sum-over-spec = tie.close (tie.spec (λ c. search rules) (λ c κs. search rules) (λ c κs. search rules) sub-result returns)
+pub sum_over_spec : {M : Type 1} → statement M
+sum_over_spec = tie.close (tie.spec (λ c. search rules) (λ c κs. search rules) (λ c κs. search rules) sub-result returns)

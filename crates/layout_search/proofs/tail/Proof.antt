@@ -12,57 +12,57 @@ use Rattle.layout_search.proofs.tail.Statement.{statement}
 use Rattle.layout_search.proofs.tail.Tie as tie
 
 -- past both tests: the beginning, and the rest's number
-abbrev at-start : tie.Else2 → tie.Start
+abbrev at-start : tie.Else-y-ge-NONE → tie.Start
 at-start c = c.before.before.before.before.before.before.before
 
-abbrev rest : tie.Else2 → ℕ
-rest c = c.before.entry.result
+abbrev rest : tie.Else-y-ge-NONE → ℕ
+rest c = c.entry-y.result
 
-rest-best : (c : tie.Else2) → (let a = (at-start c).args in Best (task_of a.sums.now a.fits.now a.longest a.n) (a.e + 1) a.k (rest c))
+rest-best : (c : tie.Else-y-ge-NONE) → (let a = (at-start c).args in Best (task_of a.sums.now a.fits.now a.longest a.n) (a.e + 1) a.k (rest c))
 rest-best c =
     let s = at-start c in
     let a = s.args in
-    subst (λ (v : ℕ). Best (task_of a.sums.now a.fits.now a.longest a.n) (a.e + 1) a.k v) (sym c.before.entry.ensures) (s.pre.1.1 (a.e + 1) (omega arith))
+    subst (λ (v : ℕ). Best (task_of a.sums.now a.fits.now a.longest a.n) (a.e + 1) a.k v) (sym c.entry-y.ensures) (s.requires.1.1 (a.e + 1) (omega arith))
 
-rest-high : (c : tie.Else2) → 2 ^ 59 ≤ rest c
-rest-high c = omega (arith, ((rest-best c).near c.if2.false).1, (at-start c).requires.0.few)
+rest-high : (c : tie.Else-y-ge-NONE) → 2 ^ 59 ≤ rest c
+rest-high c = omega (arith, ((rest-best c).near c.if-y-ge-NONE.false).1, (at-start c).requires.0.few)
 
-returns : tie.Need-returns
+returns : tie.Need-returns-then-not-fits-e
 returns c =
-    let a = c.before.before.before.before.before.args in
-    tail_not_ok a.sums.now a.fits.now a.longest a.n a.k a.e _ (not-true _ c.if1.true) refl
+    let a = c.args in
+    tail_not_ok a.sums.now a.fits.now a.longest a.n a.k a.e _ (c.if-not-fits-e.true) refl
 
-returns-2 : tie.Need-returns-2
+returns-2 : tie.Need-returns-then-y-ge-NONE
 returns-2 c =
-    let s = c.before.before.before.before.before.before.before in
+    let s = c in
     let a = s.args in
-    tail_no_rest a.sums.now a.fits.now a.longest a.n a.k a.e _ _ (s.requires.1.1 (a.e + 1) (omega arith)) (omega (arith, c.before.entry.ensures)) refl
+    tail_no_rest a.sums.now a.fits.now a.longest a.n a.k a.e _ _ (s.requires.1.1 (a.e + 1) (omega arith)) (omega (arith, c.entry-y.ensures)) refl
 
-times-requires : tie.Need-times-requires
+times-requires : tie.Need-times-added-requires
 times-requires c κs =
     let s = at-start c.before in
-    omega (arith, sum_small s.args.sums.now s.args.n s.pre.0 per_partition_added (s.args.e + 1) (omega arith) (omega arith), c.sum-at.ensures)
+    omega (arith, sum_small s.args.sums.now s.args.n s.requires.0 per_partition_added (s.args.e + 1) (omega arith) (omega arith), c.sum_at.ensures)
 
-times-requires-2 : tie.Need-times-requires-2
+times-requires-2 : tie.Need-times-saved-requires
 times-requires-2 c κs =
     let s = at-start c.before.before.before in
-    omega (arith, sum_small s.args.sums.now s.args.n s.pre.0 per_partition_saved (s.args.e + 1) (omega arith) (omega arith), c.sum-at2.ensures)
+    omega (arith, sum_small s.args.sums.now s.args.n s.requires.0 per_partition_saved (s.args.e + 1) (omega arith) (omega arith), c.sum_at-2.ensures)
 
-add-result : tie.Need-overflow-add-result
-add-result c = omega (arith, c.before.before.times.ensures.1, c.before.before.before.before.if2.false)
+add-result : tie.Need-overflow_add-result
+add-result c = omega (arith, c.times-added.ensures.1, c.if-y-ge-NONE.false)
 
-sub-result : tie.Need-overflow-sub-result
-sub-result c = omega (arith, rest-high c.before.before.before.before, c.times2.ensures.1)
+sub-result : tie.Need-overflow_sub-result
+sub-result c = omega (arith, rest-high c.before.before.before.before, c.times-saved.ensures.1)
 
-returns-3 : tie.Need-returns-3
+returns-3 : tie.Need-returns
 returns-3 c =
-    let e = c.before.before.before.before in
-    let u = product_is _ _ _ _ _ c.before.before.times.ensures.0 c.before.before.before.sum-at.ensures refl in
-    let d = product_is _ _ _ _ _ c.times2.ensures.0 c.before.sum-at2.ensures refl in
-    some_tail (rest e) (not-false _ e.before.before.if1.false) (rest-best e) e.if2.false (omega (arith, u, d, rest-high e, c.times2.ensures.1))
+    let e = c in
+    let u = product_is _ _ _ _ _ c.times-added.ensures.0 c.sum_at.ensures refl in
+    let d = product_is _ _ _ _ _ c.times-saved.ensures.0 c.sum_at-2.ensures refl in
+    some_tail (rest e.before.before.before.before) (e.if-not-fits-e.false) (rest-best e.before.before.before.before) e.if-y-ge-NONE.false (omega (arith, u, d, rest-high e.before.before.before.before, c.times-saved.ensures.1))
 
-pub tail-spec : {M : Type 1} → statement M
-tail-spec =
+pub tail_spec : {M : Type 1} → statement M
+tail_spec =
     tie.close
     (tie.spec
     (λ c. search rules)

@@ -7,31 +7,31 @@ use Rattle.layout_search.specs.RunningSums.{task_of}
 use Rattle.layout_search.proofs.write_ends.Statement.{statement}
 use Rattle.layout_search.proofs.write_ends.Tie as tie
 
-abbrev invariant-loop : tie.invariant-loop
+abbrev invariant-loop : tie.invariant-loop-i
 invariant-loop sums fits longest n table k out₀ a₀ i₀ out a i = Walked (task_of sums fits longest n) table k i a out₀ out
 
-abbrev decreases-loop : tie.decreases-loop
+abbrev decreases-loop : tie.decreases-loop-i
 decreases-loop sums fits longest n table k out₀ a₀ i₀ out a i = k - i
 
 -- the next end is one of the blocks
-below : (c : tie.After-best-of invariant-loop decreases-loop) → c.best_of.result.first < c.before.before.before.before.before.before.before.args.n
+below : (c : tie.After-best_of-best invariant-loop decreases-loop) → c.best_of-best.result.first < c.args.n
 below c =
-    let given = c.before.before.before.before.before.before.before.requires in
-    (walked_first _ _ _ _ _ _ _ _ _ c.before.before.loop.invariant c.before.loop-test.true given.1.1.0 c.best_of.ensures).cand.inside
+    let given = c.requires in
+    (walked_first _ _ _ _ _ _ _ _ _ c.loop-i.invariant c.loop-i-test.true given.1.1.0 c.best_of-best.ensures).cand.inside
 
-loop-holds : tie.Need-loop-init invariant-loop decreases-loop
-loop-holds c = walked_start _ _ _ _ c.before.before.before.before.requires.1.1.1
+loop-holds : tie.Need-loop-i-init invariant-loop decreases-loop
+loop-holds c = walked_start _ _ _ _ c.requires.1.1.1
 
-sub-best-of : tie.Need-overflow-sub-best-of invariant-loop decreases-loop
+sub-best-of : tie.Need-overflow_sub-k invariant-loop decreases-loop
 sub-best-of c = omega arith
 
-sub-best-of-2 : tie.Need-overflow-sub-best-of-2 invariant-loop decreases-loop
+sub-best-of-2 : tie.Need-overflow_sub-k-in-loop-i invariant-loop decreases-loop
 sub-best-of-2 c = omega arith
 
-best-of-requires : tie.Need-best-of-requires invariant-loop decreases-loop
+best-of-requires : tie.Need-best_of-best-requires invariant-loop decreases-loop
 best-of-requires c κs =
-    let s = c.before.before.before.before.before.before in
-    let l = c.before.loop in (
+    let s = c in
+    let l = c.loop-i in (
       s.requires.0,
       (
         omega (arith, rows_below s.args.n (s.args.k - l.i - 1) s.args.n (omega arith)),
@@ -39,40 +39,40 @@ best-of-requires c κs =
       ),
     )
 
-cast-out : tie.Need-overflow-cast-out invariant-loop decreases-loop
+cast-out : tie.Need-overflow_cast-out invariant-loop decreases-loop
 cast-out c = omega (arith, below c.before)
 
-mul-out : tie.Need-overflow-mul-out invariant-loop decreases-loop
+mul-out : tie.Need-offset_bounds-out-i invariant-loop decreases-loop
 mul-out c = omega arith
 
-slice-write-out : tie.Need-slice-write-out invariant-loop decreases-loop
+slice-write-out : tie.Need-bounds-out-i invariant-loop decreases-loop
 slice-write-out c = omega arith
 
-add_a : tie.Need-overflow-add-a invariant-loop decreases-loop
+add_a : tie.Need-overflow_add-a invariant-loop decreases-loop
 add_a c = omega (arith, below c.before.before)
 
-add-i : tie.Need-overflow-add-i invariant-loop decreases-loop
+add-i : tie.Need-overflow_add-i invariant-loop decreases-loop
 add-i c = omega arith
 
-loop-less : tie.Need-loop-smaller invariant-loop decreases-loop
+loop-less : tie.Need-loop-i-smaller invariant-loop decreases-loop
 loop-less c = omega arith
 
-loop-again : tie.Need-loop-preserved invariant-loop decreases-loop
+loop-again : tie.Need-loop-i-preserved invariant-loop decreases-loop
 loop-again c =
-    let b = c.before.before in
-    let v = b.before.before.loop.invariant in
-    let given = b.before.before.before.before.before.before.before.requires in
+    let b = c in
+    let v = b.loop-i.invariant in
+    let given = b.requires in
     walked_more _ _ _ _ _ _ _ _ v (omega arith) (omega arith)
-    (walked_first _ _ _ _ _ _ _ _ _ v b.before.loop-test.true given.1.1.0 b.best_of.ensures)
+    (walked_first _ _ _ _ _ _ _ _ _ v b.loop-i-test.true given.1.1.0 b.best_of-best.ensures)
 
-same_length : tie.Need-same-length invariant-loop decreases-loop
-same_length c = c.before.loop.invariant.long
+same_length : tie.Need-shape_of-out invariant-loop decreases-loop
+same_length c = c.loop-i.invariant.long
 
 returns : tie.Need-returns invariant-loop decreases-loop
-returns c = walked_done _ _ _ _ _ _ _ c.before.loop.invariant (omega arith) (omega arith)
+returns c = walked_done _ _ _ _ _ _ _ c.loop-i.invariant (omega arith) (omega arith)
 
-pub write-ends-spec : {M : Type 1} → statement M
-write-ends-spec =
+pub write_ends_spec : {M : Type 1} → statement M
+write_ends_spec =
     tie.close
     (tie.spec
     invariant-loop
