@@ -14,7 +14,7 @@ ghost use Rattle.model.specs.GrowerCalls.{grower_call};
 ghost use Rattle.model.specs.CsvCalls.{import_call, export_call};
 ghost use Rattle.model.specs.SnapshotCalls.{write_call, read_call};
 ghost use Rattle.model.specs.SheetCalls.{sheet_call, term_sheet_call};
-ghost use Rattle.model.specs.Lent.{column_in, column_out, set_in, slices_in, slices_out};
+ghost use Rattle.model.specs.Lent.{column_in, column_out, set_in, slices_in, slices_out, column_in_mut, slices_in_mut};
 ghost use Rattle.model.specs.Accesses.{counts};
 ghost use Rattle.model.specs.Tallies.{tally, add_call};
 ghost use Rattle.snapshot.specs.Answers.{read_out};
@@ -107,7 +107,7 @@ pub extern "C" fn meltusk_insert(
     day: u32,
 ) -> Answer
     ensures { record { answer = result; column = column_out directory growers weights yields days }
-        ≡ column_call block_limit (column_in directory growers weights yields days) (insert (delivery grower weight oil_yield day)) }
+        ≡ column_call block_limit (column_in_mut directory growers weights yields days) (insert (delivery grower weight oil_yield day)) }
 {
     let d = Delivery {
         grower,
@@ -132,7 +132,7 @@ pub extern "C" fn meltusk_delete(
     day: u32,
 ) -> Answer
     ensures { record { answer = result; column = column_out directory growers weights yields days }
-        ≡ column_call block_limit (column_in directory growers weights yields days) (delete (delivery grower weight oil_yield day)) }
+        ≡ column_call block_limit (column_in_mut directory growers weights yields days) (delete (delivery grower weight oil_yield day)) }
 {
     let d = Delivery {
         grower,
@@ -158,7 +158,7 @@ pub extern "C" fn meltusk_move(
     new_grower: u32,
 ) -> Answer
     ensures { record { answer = result; column = column_out directory growers weights yields days }
-        ≡ column_call block_limit (column_in directory growers weights yields days) (move (delivery grower weight oil_yield day) new_grower) }
+        ≡ column_call block_limit (column_in_mut directory growers weights yields days) (move (delivery grower weight oil_yield day) new_grower) }
 {
     let d = Delivery {
         grower,
@@ -497,7 +497,7 @@ pub extern "C" fn meltusk_read_snapshot(
     yields: &mut [u32],
     days: &mut [u32],
 ) -> Applied
-    ensures { read_out result growers weights yields days ≡ read_call block_limit text.now (slices_in growers weights yields days) }
+    ensures { read_out result growers weights yields days ≡ read_call block_limit text.now (slices_in_mut growers weights yields days) }
 {
     snapshot::read(text, growers, weights, yields, days)
 }
@@ -551,7 +551,7 @@ pub extern "C" fn meltusk_import_csv(
     days: &mut [u32],
 ) -> Imported
     ensures { record { answer = result; slices = slices_out growers weights yields days }
-        ≡ import_call text.now (slices_in growers weights yields days) }
+        ≡ import_call text.now (slices_in_mut growers weights yields days) }
 {
     csv_calls::import(text, growers, weights, yields, days)
 }

@@ -17,7 +17,7 @@ ghost use Rattle.model.specs.Questions.{lent_checks};
 ghost use Rattle.model.specs.ColumnCalls.{column_call, partition_call};
 ghost use Rattle.model.specs.Growers.{up, down};
 ghost use Rattle.model.specs.GrowerCalls.{grower_call};
-ghost use Rattle.model.specs.Lent.{column_of, column_in, column_out, slices_at, slices_in};
+ghost use Rattle.model.specs.Lent.{column_of, column_in, column_out, slices_at, slices_in, column_in_mut};
 ghost use Rattle.growers.specs.Searches.{direction_of};
 ghost use Rattle.column.specs.Answers.{without_totals, not_located, searched_of, located_of, opened_of, part_of};
 ghost use Rattle.column.specs.Answers.{Ready, put_of, taken_of, shifted_of};
@@ -322,7 +322,7 @@ fn put(
         × (used ≡ sum_of (directory_of block_limit directory.old).lengths)
         × (used < length g.old) }
     ensures { column_out directory g w y n
-        ≡ put_of block_limit (column_in directory g w y n) partition d }
+        ≡ put_of block_limit (column_in_mut directory g w y n) partition d }
 {
     ripple::insert_slots(
         g,
@@ -352,7 +352,7 @@ fn take_out(
     requires { Ready block_limit (column_of directory.old g.old w.old y.old n.old) partition start
         × (slot < get_or (directory_of block_limit directory.old).lengths partition 0) }
     ensures { column_out directory g w y n
-        ≡ taken_of block_limit (column_in directory g w y n) partition slot }
+        ≡ taken_of block_limit (column_in_mut directory g w y n) partition slot }
 {
     let freed = Delivery {
         grower: 0,
@@ -443,7 +443,7 @@ fn shift(
         × (slot < get_or (directory_of block_limit directory.old).lengths from 0)
         × (to < partition_count block_limit directory.old) }
     ensures { column_out directory g w y n
-        ≡ shifted_of block_limit (column_in directory g w y n) from slot to d }
+        ≡ shifted_of block_limit (column_in_mut directory g w y n) from slot to d }
 {
     shift_slots(directory, g, w, y, n, from, from_start, slot, to, d);
     directory::shrink(directory, from);
@@ -472,7 +472,7 @@ pub fn insert(
     d: Delivery,
 ) -> Answer
     ensures { record { answer = result; column = column_out directory growers weights yields days }
-        ≡ column_call block_limit (column_in directory growers weights yields days) (insert d) }
+        ≡ column_call block_limit (column_in_mut directory growers weights yields days) (insert d) }
 {
     let o = open(directory, growers, weights, yields, days, d);
     let n = o.refusal;
@@ -502,7 +502,7 @@ pub fn delete(
     d: Delivery,
 ) -> Answer
     ensures { record { answer = result; column = column_out directory growers weights yields days }
-        ≡ column_call block_limit (column_in directory growers weights yields days) (delete d) }
+        ≡ column_call block_limit (column_in_mut directory growers weights yields days) (delete d) }
 {
     let f = locate(directory, growers, weights, yields, days, d);
     let s = f.counts;
@@ -539,7 +539,7 @@ pub fn move_delivery(
     new_grower: u32,
 ) -> Answer
     ensures { record { answer = result; column = column_out directory growers weights yields days }
-        ≡ column_call block_limit (column_in directory growers weights yields days) (move d new_grower) }
+        ≡ column_call block_limit (column_in_mut directory growers weights yields days) (move d new_grower) }
 {
     let f = locate(directory, growers, weights, yields, days, d);
     let s = f.counts;

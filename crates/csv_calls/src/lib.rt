@@ -4,7 +4,7 @@
 ghost use Rattle.std.specs.Prelude.{◌≡◌, false, ◌&&◌, ◌≤◌, ◌<◌, length};
 ghost use Rattle.model.specs.Lists.{same_list};
 ghost use Rattle.model.specs.Checks.{first_failed};
-ghost use Rattle.model.specs.Lent.{slices_in, slices_out};
+ghost use Rattle.model.specs.Lent.{slices_in, slices_out, slices_in_mut};
 ghost use Rattle.model.specs.Questions.{export_checks};
 ghost use Rattle.model.specs.CsvCalls.{import_call, export_call};
 ghost use Rattle.csv_fields.specs.Reading.{holds_quote};
@@ -276,7 +276,7 @@ pub fn import(
     days: &mut [u32],
 ) -> Imported
     ensures { record { answer = result; slices = slices_out growers weights yields days }
-        ≡ import_call text.now (slices_in growers weights yields days) }
+        ≡ import_call text.now (slices_in_mut growers weights yields days) }
 {
     if !checks::slices_ok(growers, weights, yields, days) {
         return not_imported(UNEVEN_SLICES);

@@ -1,6 +1,6 @@
 -- What is lent to a call as one record: a column or a set, before the call and after it. Contracts cite these.
 use Rattle.std.specs.Prelude.{ℕ, List}
-use Rattle.std.specs.Borrow.{Bor}
+use Rattle.std.specs.Borrow.{Bor, MutBor}
 use denote.Triple.Both.{Both}
 use Rattle.model.specs.Deliveries.{Slices, slices_of}
 use Rattle.model.specs.Blocks.{Set}
@@ -17,22 +17,36 @@ set_of b m gs ws ys ds = record { block = b; used = m; slices = slices_of gs ws 
 abbrev pub slices_at : Bor (List ℕ) → Bor (List ℕ) → Bor (List ℕ) → Bor (List ℕ) → Slices
 slices_at g w y d = slices_of g.now w.now y.now d.now
 
+-- the same where the call may write them
+abbrev pub slices_at_mut : MutBor (List ℕ) → MutBor (List ℕ) → MutBor (List ℕ) → MutBor (List ℕ) → Slices
+slices_at_mut g w y d = slices_of g.now w.now y.now d.now
+
 -- a lent slice at a call's two moments
 abbrev pub Lent : Type 0
 Lent = Both (Bor (List ℕ)) (Bor (List ℕ))
+
+-- the same of a slice that the call may write
+abbrev pub LentMut : Type 0
+LentMut = Both (MutBor (List ℕ)) (MutBor (List ℕ))
 
 -- before the call, and after it
 abbrev pub slices_in : Lent → Lent → Lent → Lent → Slices
 slices_in g w y d = slices_at g.entry w.entry y.entry d.entry
 
-abbrev pub slices_out : Lent → Lent → Lent → Lent → Slices
-slices_out g w y d = slices_at g.exit w.exit y.exit d.exit
+abbrev pub slices_in_mut : LentMut → LentMut → LentMut → LentMut → Slices
+slices_in_mut g w y d = slices_at_mut g.entry w.entry y.entry d.entry
+
+abbrev pub slices_out : LentMut → LentMut → LentMut → LentMut → Slices
+slices_out g w y d = slices_at_mut g.exit w.exit y.exit d.exit
 
 -- the column that directory, growers, weights, yields and days are before the call, and after it
 abbrev pub column_in : Lent → Lent → Lent → Lent → Lent → Column
 column_in ns g w y d = record { directory = ns.entry.now; slices = slices_in g w y d }
 
-abbrev pub column_out : Lent → Lent → Lent → Lent → Lent → Column
+abbrev pub column_in_mut : LentMut → LentMut → LentMut → LentMut → LentMut → Column
+column_in_mut ns g w y d = record { directory = ns.entry.now; slices = slices_in_mut g w y d }
+
+abbrev pub column_out : LentMut → LentMut → LentMut → LentMut → LentMut → Column
 column_out ns g w y d = record { directory = ns.exit.now; slices = slices_out g w y d }
 
 -- the set of block length b and m used slots that growers, weights, yields and days are before the call

@@ -1,6 +1,6 @@
 // The moves of a call on the slices (01: the ripple). A record moves whole, and every store is inside the part that is lent.
 ghost use Rattle.std.specs.Prelude.{◌≡◌, ◌+◌, ◌-◌, ◌≤◌, ◌<◌, length, get_or, set};
-ghost use Rattle.model.specs.Lent.{slices_at};
+ghost use Rattle.model.specs.Lent.{slices_at_mut};
 ghost use Rattle.model.specs.Deliveries.{Even};
 ghost use Rattle.model.specs.Lists.{sum_of};
 ghost use Rattle.model.specs.Partitions.{start_of};
@@ -10,7 +10,7 @@ use model::Delivery;
 
 // Slot p takes the record of slot q.
 fn carry(g: &mut [u32], w: &mut [u32], y: &mut [u32], n: &mut [u32], q: usize, p: usize)
-    requires { (q < length g.old) × (p < length g.old) × Even (slices_at g w y n) }
+    requires { (q < length g.old) × (p < length g.old) × Even (slices_at_mut g w y n) }
     ensures { (g.new ≡ set g.old p (get_or g.old q 0))
         × (w.new ≡ set w.old p (get_or w.old q 0))
         × (y.new ≡ set y.old p (get_or y.old q 0))
@@ -24,7 +24,7 @@ fn carry(g: &mut [u32], w: &mut [u32], y: &mut [u32], n: &mut [u32], q: usize, p
 
 // Slot p takes the delivery.
 fn store(g: &mut [u32], w: &mut [u32], y: &mut [u32], n: &mut [u32], p: usize, d: Delivery)
-    requires { (p < length g.old) × Even (slices_at g w y n) }
+    requires { (p < length g.old) × Even (slices_at_mut g w y n) }
     ensures { (g.new ≡ set g.old p d.grower)
         × (w.new ≡ set w.old p d.weight)
         × (y.new ≡ set y.old p d.oil_yield)
@@ -54,7 +54,7 @@ fn insert_ripple(
     end: usize,
     d: Delivery,
 )
-    requires { (1 ≤ length lens.now) × (sum_of lens.now ≡ «end») × («end» < length g.old) × Even (slices_at g w y n) }
+    requires { (1 ≤ length lens.now) × (sum_of lens.now ≡ «end») × («end» < length g.old) × Even (slices_at_mut g w y n) }
     ensures { (g.new ≡ inserted lens.now 0 d.grower g.old)
         × (w.new ≡ inserted lens.now 0 d.weight w.old)
         × (y.new ≡ inserted lens.now 0 d.oil_yield y.old)
@@ -81,7 +81,7 @@ fn delete_ripple(
     slot: usize,
     d: Delivery,
 )
-    requires { (1 ≤ length lens.now) × (slot < get_or lens.now 0 0) × (sum_of lens.now ≤ length g.old) × Even (slices_at g w y n) }
+    requires { (1 ≤ length lens.now) × (slot < get_or lens.now 0 0) × (sum_of lens.now ≤ length g.old) × Even (slices_at_mut g w y n) }
     ensures { (g.new ≡ deleted lens.now 0 slot d.grower g.old)
         × (w.new ≡ deleted lens.now 0 slot d.weight w.old)
         × (y.new ≡ deleted lens.now 0 slot d.oil_yield y.old)
@@ -110,7 +110,7 @@ fn backward_ripple(
     slot: usize,
     d: Delivery,
 )
-    requires { (1 ≤ length lens.now) × (sum_of lens.now ≡ «end») × («end» + slot < length g.old) × Even (slices_at g w y n) }
+    requires { (1 ≤ length lens.now) × (sum_of lens.now ≡ «end») × («end» + slot < length g.old) × Even (slices_at_mut g w y n) }
     ensures { (g.new ≡ inserted lens.now 0 d.grower (set g.old («end» + slot) (get_or g.old «end» 0)))
         × (w.new ≡ inserted lens.now 0 d.weight (set w.old («end» + slot) (get_or w.old «end» 0)))
         × (y.new ≡ inserted lens.now 0 d.oil_yield (set y.old («end» + slot) (get_or y.old «end» 0)))
@@ -134,7 +134,7 @@ pub fn insert_slots(
     d: Delivery,
 )
     requires { (partition < length lens.now) × (start ≡ start_of lens.now partition) × (used ≡ sum_of lens.now) × (used < length g.old)
-        × Even (slices_at g w y n) }
+        × Even (slices_at_mut g w y n) }
     ensures { (g.new ≡ inserted lens.now partition d.grower g.old)
         × (w.new ≡ inserted lens.now partition d.weight w.old)
         × (y.new ≡ inserted lens.now partition d.oil_yield y.old)
@@ -165,7 +165,7 @@ pub fn delete_slots(
     d: Delivery,
 )
     requires { (partition < length lens.now) × (start ≡ start_of lens.now partition) × (slot < get_or lens.now partition 0)
-        × (sum_of lens.now ≤ length g.old) × Even (slices_at g w y n) }
+        × (sum_of lens.now ≤ length g.old) × Even (slices_at_mut g w y n) }
     ensures { (g.new ≡ deleted lens.now partition slot d.grower g.old)
         × (w.new ≡ deleted lens.now partition slot d.weight w.old)
         × (y.new ≡ deleted lens.now partition slot d.oil_yield y.old)
@@ -196,7 +196,7 @@ pub fn forward_slots(
     d: Delivery,
 )
     requires { (from ≤ to) × (to < length lens.now) × (from_start ≡ start_of lens.now from) × (slot < get_or lens.now from 0)
-        × (sum_of lens.now ≤ length g.old) × Even (slices_at g w y n) }
+        × (sum_of lens.now ≤ length g.old) × Even (slices_at_mut g w y n) }
     ensures { (g.new ≡ moved lens.now from slot to d.grower g.old)
         × (w.new ≡ moved lens.now from slot to d.weight w.old)
         × (y.new ≡ moved lens.now from slot to d.oil_yield y.old)
@@ -225,7 +225,7 @@ pub fn backward_slots(
     d: Delivery,
 )
     requires { (to < from) × (from < length lens.now) × (from_start ≡ start_of lens.now from) × (to_start ≡ start_of lens.now to)
-        × (slot < get_or lens.now from 0) × (sum_of lens.now ≤ length g.old) × Even (slices_at g w y n) }
+        × (slot < get_or lens.now from 0) × (sum_of lens.now ≤ length g.old) × Even (slices_at_mut g w y n) }
     ensures { (g.new ≡ moved lens.now from slot to d.grower g.old)
         × (w.new ≡ moved lens.now from slot to d.weight w.old)
         × (y.new ≡ moved lens.now from slot to d.oil_yield y.old)

@@ -7,7 +7,7 @@ use Rattle.model.specs.Deliveries.{Slices, in_range}
 use Rattle.model.specs.Directory.{Directory, directory_of, no_directory, directory_numbers}
 use Rattle.model.specs.Checks.{Check, ask, first_failed}
 use Rattle.model.specs.Column.{Column, lengths_of, all_records, sound}
-use Rattle.model.specs.Lent.{Lent, slices_out}
+use Rattle.model.specs.Lent.{LentMut, slices_out}
 use Rattle.model.specs.Questions.{lent_checks, write_checks}
 use Rattle.model.specs.Snapshot.{Book, read_book, slots_for_book}
 use Rattle.model.specs.SnapshotCalls.{ReadResult}
@@ -19,7 +19,7 @@ use Rattle.snapshot.specs.Texts.{parts_ok}
 abbrev pub result_of : Applied → Slices → ReadResult
 result_of a s = record { refusal = a.refusal; column = record { directory = a.directory; slices = s } }
 
-abbrev pub read_out : Applied → Lent → Lent → Lent → Lent → ReadResult
+abbrev pub read_out : Applied → LentMut → LentMut → LentMut → LentMut → ReadResult
 read_out a g w y n = result_of a (slices_out g w y n)
 
 -- the checks of writing refused

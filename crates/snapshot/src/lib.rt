@@ -5,7 +5,7 @@ ghost use Rattle.model.specs.Bounds.{block_limit};
 ghost use Rattle.model.specs.Lists.{sum_of, rising};
 ghost use Rattle.model.specs.Deliveries.{rows, Even};
 ghost use Rattle.model.specs.Column.{sound_growers};
-ghost use Rattle.model.specs.Lent.{slices_at, slices_in, column_in};
+ghost use Rattle.model.specs.Lent.{slices_at, slices_in, column_in, slices_in_mut};
 ghost use Rattle.model.specs.Fields.{lines};
 ghost use Rattle.model.specs.Snapshot.{header_ok, partition_rows, delivery_row};
 ghost use Rattle.model.specs.SnapshotCalls.{read_call, write_call};
@@ -330,7 +330,7 @@ pub fn read(
     yields: &mut [u32],
     days: &mut [u32],
 ) -> Applied
-    ensures { read_out result growers weights yields days ≡ read_call block_limit text.now (slices_in growers weights yields days) }
+    ensures { read_out result growers weights yields days ≡ read_call block_limit text.now (slices_in_mut growers weights yields days) }
 {
     if !checks::slices_ok(growers, weights, yields, days) {
         return refused(3);

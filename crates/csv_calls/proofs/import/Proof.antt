@@ -5,7 +5,7 @@ use borrow.Author.Rules.{rules}
 use borrow.Author.Tests.{not-true, not-false}
 use lib.ListN.{length}
 use lib.Seq.{length-take-le}
-use Rattle.model.specs.Lent.{slices_at}
+use Rattle.model.specs.Lent.{slices_at_mut}
 use Rattle.model.specs.Blocks.{slices_ok}
 use Rattle.csv_calls.specs.Checking.{GoodText}
 use Rattle.csv_calls.proofs.ImportAnswers.{answer_slices, answer_text, days_room, storable, answer-rows}
@@ -17,7 +17,7 @@ use Rattle.csv_calls.proofs.import.Tie as tie
 abbrev start : tie.Else1 → tie.Start
 start c = c.before.before.before.before.before.before.before.before.before.before.before
 
-even : (c : tie.Else1) → let a = (start c).args in slices_ok (slices_at a.growers a.weights a.yields a.days) ≡ true
+even : (c : tie.Else1) → let a = (start c).args in slices_ok (slices_at_mut a.growers a.weights a.yields a.days) ≡ true
 even c = sym c.before.slices_ok_lem.ensures ∙ not-false _ c.if1.false
 
 good : (c : tie.Else2)

@@ -5,7 +5,7 @@ use native.Mathlib.Omega.{arith}
 use borrow.Author.Rules.{rules}
 use lib.ListN.{length, length-take, length-drop}
 use Rattle.model.proofs.Parts.{start_le, start_mono}
-use Rattle.model.specs.Lent.{slices_at}
+use Rattle.model.specs.Lent.{slices_at_mut}
 use Rattle.ripple.proofs.Compose.{even_from, ahead, back_law}
 use Rattle.ripple.proofs.backward_slots.Statement.{statement}
 use Rattle.ripple.proofs.backward_slots.Tie as tie
@@ -55,7 +55,7 @@ backward-ripple-requires c κs =
       r.0,
       r.1,
       simp (length-take, length-drop) (omega arith),
-      even_from a.to_start (slices_at a.g a.w a.y a.n) p.6,
+      even_from a.to_start (slices_at_mut a.g a.w a.y a.n) p.6,
     )
 
 same_length : tie.Need-same-length

@@ -6,7 +6,7 @@ use native.Mathlib.Omega.{arith}
 use borrow.Author.Rules.{rules}
 use lib.ListN.{length, get_or, take}
 use lib.Seq.{length-take-le}
-use Rattle.model.specs.Lent.{slices_at}
+use Rattle.model.specs.Lent.{slices_at_mut}
 use Rattle.model.specs.Deliveries.{Even}
 use Rattle.model.specs.Lists.{sum_of}
 use Rattle.model.specs.Partitions.{start_of}
@@ -19,7 +19,7 @@ shortened : (s : tie.Start) (u : ℕ)
     → (let a = s.args in
     a.from < u → u ≤ length a.lens.now
     → (a.from < length (take u a.lens.now)) × (a.from_start ≡ start_of (take u a.lens.now) a.from) × (a.slot < get_or (take u a.lens.now) a.from 0)
-    × (sum_of (take u a.lens.now) ≤ length a.g.now) × Even (slices_at a.g a.w a.y a.n))
+    × (sum_of (take u a.lens.now) ≤ length a.g.now) × Even (slices_at_mut a.g a.w a.y a.n))
 shortened s u h k =
     let p = s.requires in
     let r = ready s.args.lens.now s.args.from _ s.args.slot u _ h k p.2 p.3 p.4 in (r.0, r.1, r.2, r.3, p.5)

@@ -10,7 +10,7 @@ use lib.Seq.{length-take-le}
 use mathlib.Core.Bool.{true}
 use Rattle.model.specs.Bounds.{block_limit}
 use Rattle.model.specs.Deliveries.{Slices}
-use Rattle.model.specs.Lent.{slices_at}
+use Rattle.model.specs.Lent.{slices_at_mut}
 use Rattle.model.specs.Blocks.{slices_ok}
 use Rattle.model.proofs.Tests.{of_true}
 use Rattle.model.proofs.SetLaws.{Sliced, sliced}
@@ -31,7 +31,7 @@ abbrev text : tie.Else2 → List ℕ
 text c = (from c).args.text.now
 
 abbrev lentSlices : tie.Else2 → Slices
-lentSlices c = let a = (from c).args in slices_at a.growers a.weights a.yields a.days
+lentSlices c = let a = (from c).args in slices_at_mut a.growers a.weights a.yields a.days
 
 judged : (c : tie.Else2) → c.before.judge.result ≡ judged_of block_limit (text c) (length (from c).args.growers.now)
 judged c = c.before.judge.ensures

@@ -10,20 +10,20 @@ use Rattle.tally.proofs.all_fit.Statement.{statement}
 use Rattle.tally.proofs.all_fit.Tie as tie
 
 -- the first number fits
-first : (c : tie.Else1) → let a = c.before.before.args in leb (a.tally.rr + a.counts.rr) most_tally ≡ true
-first c = sym c.before.has_room.ensures ∙ not-false _ c.if1.false
+first : (c : tie.Else-not-has_room) → let a = c.args in leb (a.tally.rr + a.counts.rr) most_tally ≡ true
+first c = sym c.has_room.ensures ∙ c.if-not-has_room.false
 
-returns : tie.Need-returns
-returns c = rw (sym c.before.has_room.ensures ∙ not-true _ c.if1.true)
+returns : tie.Need-returns-then-not-has_room
+returns c = rw (sym c.has_room.ensures ∙ c.if-not-has_room.true)
 
-returns-2 : tie.Need-returns-2
-returns-2 c = rw (first c.before.before, sym c.before.has-room2.ensures ∙ not-true _ c.if2.true)
+returns-2 : tie.Need-returns-then-not-has_room-2
+returns-2 c = rw (first c.before.before, sym c.has_room-2.ensures ∙ c.if-not-has_room-2.true)
 
-returns-3 : tie.Need-returns-3
-returns-3 c = rw (first c.before.before.before, sym c.before.before.has-room2.ensures ∙ not-false _ c.before.if2.false) c.has-room3.ensures
+returns-3 : tie.Need-returns
+returns-3 c = rw (first c.before.before.before, sym c.has_room-2.ensures ∙ c.if-not-has_room-2.false) c.has_room-3.ensures
 
-pub all-fit-spec : {M : Type 1} → statement M
-all-fit-spec =
+pub all_fit_spec : {M : Type 1} → statement M
+all_fit_spec =
     tie.close
     (tie.spec
     (λ c κs. search rules) returns (λ c κs. search rules) returns-2 (λ c κs. search rules) returns-3)

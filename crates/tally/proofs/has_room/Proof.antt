@@ -14,11 +14,11 @@ room n m h =
     same_test (leb m (most_tally - n)) (leb (n + m) most_tally)
     (λ t. le→leb (n + m) most_tally (omega (arith, h, leb→le m (most_tally - n) t))) (λ t. le→leb m (most_tally - n) (omega (arith, h, leb→le (n + m) most_tally t)))
 
-returns : tie.Need-returns
-returns c = sym (lt-leb (c.before.args.number + c.before.args.more) most_tally (omega (arith, c.if1.true)))
+returns : tie.Need-returns-then-number-gt-MOST_TALLY
+returns c = sym (lt-leb (c.args.number + c.args.more) most_tally (omega (arith, c.if-number-gt-MOST_TALLY.true)))
 
-returns-2 : tie.Need-returns-2
-returns-2 c = room c.before.args.number c.before.args.more (omega arith)
+returns-2 : tie.Need-returns
+returns-2 c = room c.args.number c.args.more (omega arith)
 
-pub has-room-spec : {M : Type 1} → statement M
-has-room-spec = tie.close (tie.spec returns returns-2)
+pub has_room_spec : {M : Type 1} → statement M
+has_room_spec = tie.close (tie.spec returns returns-2)

@@ -7,25 +7,25 @@ use Rattle.tally.proofs.Adding.{Room, room, add_refused, add_done}
 use Rattle.tally.proofs.plus.Statement.{statement}
 use Rattle.tally.proofs.plus.Tie as tie
 
-fit : (c : tie.Else1) → Room c.before.before.args.tally c.before.before.args.counts
-fit c = room _ _ (sym c.before.all-fit.ensures ∙ not-false _ c.if1.false)
+fit : (c : tie.Else-not-all_fit) → Room c.args.tally c.args.counts
+fit c = room _ _ (sym c.all_fit.ensures ∙ c.if-not-all_fit.false)
 
-returns : tie.Need-returns
-returns c = add_refused _ _ (sym c.before.all-fit.ensures ∙ not-true _ c.if1.true)
+returns : tie.Need-returns-then-not-all_fit
+returns c = add_refused _ _ (sym c.all_fit.ensures ∙ c.if-not-all_fit.true)
 
-add-rr : tie.Need-overflow-add-rr
+add-rr : tie.Need-overflow_add-rr
 add-rr c = omega (arith, (fit c.before.before).reads)
 
-add-sr : tie.Need-overflow-add-sr
+add-sr : tie.Need-overflow_add-sr
 add-sr c = omega (arith, (fit c.before.before.before.before).onward)
 
-add-rw : tie.Need-overflow-add-rw
+add-rw : tie.Need-overflow_add-rw
 add-rw c = omega (arith, (fit c.before.before.before.before.before.before).writes)
 
-returns-2 : tie.Need-returns-2
+returns-2 : tie.Need-returns
 returns-2 c =
-    let e = c.before.before.before.before.before.before in
-    add_done _ _ (sym e.before.all-fit.ensures ∙ not-false _ e.if1.false)
+    let e = c in
+    add_done _ _ (sym e.all_fit.ensures ∙ e.if-not-all_fit.false)
 
-pub plus-spec : {M : Type 1} → statement M
-plus-spec = tie.close (tie.spec (λ c κs. search rules) returns add-rr add-sr add-rw returns-2)
+pub plus_spec : {M : Type 1} → statement M
+plus_spec = tie.close (tie.spec (λ c κs. search rules) returns add-rr add-sr add-rw returns-2)
