@@ -6,11 +6,11 @@ use Rattle.histograms.proofs.Counts.{counts_other, counts_all}
 use Rattle.histograms.proofs.counts_ok.Statement.{statement}
 use Rattle.histograms.proofs.counts_ok.Tie as tie
 
-returns : tie.Need-returns
-returns c = counts_other block_limit _ c.if1.true
+returns : tie.Need-returns-then-h-ne-HISTOGRAMS_SIZE
+returns c = counts_other block_limit _ c.if-h-ne-HISTOGRAMS_SIZE.true
 
-returns-2 : tie.Need-returns-2
-returns-2 c = c.within.ensures ∙ counts_all block_limit _ c.before.if1.false
+returns-2 : tie.Need-returns
+returns-2 c = c.within.ensures ∙ counts_all block_limit _ c.if-h-ne-HISTOGRAMS_SIZE.false
 
-pub counts-ok-spec : {M : Type 1} → statement M
-counts-ok-spec = tie.close (tie.spec returns (λ c κs. search rules) returns-2)
+pub counts_ok_spec : {M : Type 1} → statement M
+counts_ok_spec = tie.close (tie.spec returns (λ c κs. search rules) returns-2)

@@ -8,7 +8,7 @@ use Rattle.histograms.proofs.raise.Statement.{statement}
 use Rattle.histograms.proofs.raise.Tie as tie
 
 returns : tie.Need-returns
-returns c = let a = c.before.args in ap (λ (n : ℕ). set a.h.now a.k n) (omega arith)
+returns c = let a = c.args in ap (λ (n : ℕ). set a.h.now a.k n) (omega arith)
 
-pub raise-spec : {M : Type 1} → statement M
-raise-spec = tie.close (tie.spec (λ c. search rules) (λ c. search rules) (λ c. search rules) (λ c. search rules) (λ c. search rules) (λ c. search rules) returns)
+pub raise_spec : {M : Type 1} → statement M
+raise_spec = tie.close (tie.spec (λ c. search rules) (λ c. search rules) (λ c. search rules) (λ c. search rules) (λ c. search rules) (λ c. search rules) returns)

@@ -7,32 +7,32 @@ use Rattle.histograms.proofs.Slots.{Rest, rest_start, rest_low, rest_next, rest_
 use Rattle.histograms.proofs.raise_each.Statement.{statement}
 use Rattle.histograms.proofs.raise_each.Tie as tie
 
-abbrev invariant-loop : tie.invariant-loop
+abbrev invariant-loop : tie.invariant-loop-i
 invariant-loop h₀ f t i₀ h i = Rest h₀ h f t i
 
-abbrev decreases-loop : tie.decreases-loop
+abbrev decreases-loop : tie.decreases-loop-i
 decreases-loop h₀ f t i₀ h i = t - i
 
-loop-holds : tie.Need-loop-init invariant-loop decreases-loop
+loop-holds : tie.Need-loop-i-init invariant-loop decreases-loop
 loop-holds c = rest_start _ _ _ c.requires.0 c.requires.1 c.requires.2
 
-add-h : tie.Need-overflow-add-h invariant-loop decreases-loop
-add-h c = omega (arith, rest_low _ _ _ _ _ c.before.loop-test.true c.before.before.loop.invariant)
+add-h : tie.Need-overflow_add-h invariant-loop decreases-loop
+add-h c = omega (arith, rest_low _ _ _ _ _ c.loop-i-test.true c.loop-i.invariant)
 
-loop-less : tie.Need-loop-smaller invariant-loop decreases-loop
+loop-less : tie.Need-loop-i-smaller invariant-loop decreases-loop
 loop-less c = omega arith
 
-loop-again : tie.Need-loop-preserved invariant-loop decreases-loop
-loop-again c = rest_next _ _ _ _ _ c.before.loop-test.true c.before.before.loop.invariant
+loop-again : tie.Need-loop-i-preserved invariant-loop decreases-loop
+loop-again c = rest_next _ _ _ _ _ c.loop-i-test.true c.loop-i.invariant
 
-same_length : tie.Need-same-length invariant-loop decreases-loop
-same_length c = c.before.loop.invariant.size
+same_length : tie.Need-shape_of-h invariant-loop decreases-loop
+same_length c = c.loop-i.invariant.size
 
 returns : tie.Need-returns invariant-loop decreases-loop
-returns c = rest_end _ _ _ _ _ c.loop-test.false c.before.loop.invariant
+returns c = rest_end _ _ _ _ _ c.loop-i-test.false c.loop-i.invariant
 
-pub raise-each-spec : {M : Type 1} → statement M
-raise-each-spec =
+pub raise_each_spec : {M : Type 1} → statement M
+raise_each_spec =
     tie.close
     (tie.spec
     invariant-loop

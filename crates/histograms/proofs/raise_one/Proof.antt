@@ -11,35 +11,35 @@ use Rattle.histograms.proofs.Slots.{room_none, room_no, room_yes, not_raised, al
 use Rattle.histograms.proofs.raise_one.Statement.{statement}
 use Rattle.histograms.proofs.raise_one.Tie as tie
 
-inside : (c : tie.After-slot) → c.slot.result < length c.before.before.args.h.now
-inside c = let p = c.before.before.requires in omega (arith, c.slot.ensures, p.2, p.0, p.1)
+inside : (c : tie.After-slot-i) → c.slot-i.result < length c.args.h.now
+inside c = let p = c.requires in omega (arith, c.slot-i.ensures, p.2, p.0, p.1)
 
-the-slot : (c : tie.After-slot) → (let a = c.before.before.args in raised_at a.h.now (c.slot.result ∷ []) ≡ raised_at a.h.now ((a.j * block_limit + a.a) ∷ []))
-the-slot c = ap (λ (k : ℕ). raised_at c.before.before.args.h.now (k ∷ [])) c.slot.ensures
+the-slot : (c : tie.After-slot-i) → (let a = c.args in raised_at a.h.now (c.slot-i.result ∷ []) ≡ raised_at a.h.now ((a.j * block_limit + a.a) ∷ []))
+the-slot c = ap (λ (k : ℕ). raised_at c.args.h.now (k ∷ [])) c.slot-i.ensures
 
-slot-requires : tie.Need-slot-requires
-slot-requires c κs = let p = c.before.requires in (p.0, omega arith)
+slot-requires : tie.Need-slot-i-requires
+slot-requires c κs = let p = c.requires in (p.0, omega arith)
 
-mul-if1 : tie.Need-overflow-mul-if1
+mul-if1 : tie.Need-offset_bounds-h-i
 mul-if1 c = omega (arith, inside c)
 
-slice-read-if1 : tie.Need-slice-read-if1
+slice-read-if1 : tie.Need-bounds-h-i
 slice-read-if1 c = inside c.before
 
 raise-requires : tie.Need-raise-requires
-raise-requires c κs = (inside c.before.before.before, c.before.if1.true)
+raise-requires c κs = (inside c.before.before.before, c.if-h-i-lt-MOST_COUNT.true)
 
-returns : tie.Need-returns
+returns : tie.Need-returns-then-h-i-lt-MOST_COUNT
 returns c =
-    let t = c.before.before.before.before in
-    all_raised _ _ _ (room_yes _ _ _ t.if1.true ∙ room_none _) (raise-on _ _ _ _ _ c.before.before.raise.ensures (raise_none _))
-    ∙ the-slot t.before.before
+    let t = c in
+    all_raised _ _ _ (room_yes _ _ _ t.if-h-i-lt-MOST_COUNT.true ∙ room_none _) (raise-on _ _ _ _ _ c.raise.ensures (raise_none _))
+    ∙ the-slot t.before.before.before.before.before.before
 
-returns-2 : tie.Need-returns-2
-returns-2 c = not_raised _ _ (room_no _ _ _ c.if1.false) ∙ the-slot c.before.before
+returns-2 : tie.Need-returns
+returns-2 c = not_raised _ _ (room_no _ _ _ c.if-h-i-lt-MOST_COUNT.false) ∙ the-slot c.before.before
 
-pub raise-one-spec : {M : Type 1} → statement M
-raise-one-spec =
+pub raise_one_spec : {M : Type 1} → statement M
+raise_one_spec =
     tie.close
     (tie.spec
     slot-requires

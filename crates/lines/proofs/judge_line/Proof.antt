@@ -10,34 +10,34 @@ use Rattle.lines.proofs.Reading.{FieldsLeft, fields_start, fields_stop, fields_n
 use Rattle.lines.proofs.judge_line.Statement.{statement}
 use Rattle.lines.proofs.judge_line.Tie as tie
 
-abbrev invariant-loop : tie.invariant-loop
+abbrev invariant-loop : tie.invariant-loop-i
 invariant-loop text at n i₀ e₀ i e = FieldsLeft text at n i e
 
-abbrev decreases-loop : tie.decreases-loop
+abbrev decreases-loop : tie.decreases-loop-i
 decreases-loop text at n i₀ e₀ i e = n - i
 
-loop-holds : tie.Need-loop-init invariant-loop decreases-loop
+loop-holds : tie.Need-loop-i-init invariant-loop decreases-loop
 loop-holds c = fields_start _ _ _
 
-returns : tie.Need-returns invariant-loop decreases-loop
+returns : tie.Need-returns-in_default invariant-loop decreases-loop
 returns c =
     ap text_refusal
-    (fields_stop c.before.before.before.loop-test.true c.before.before.before.before.loop.invariant
-    (ap read_of (sym c.enum_told.given.1) ∙ c.before.before.number_at.ensures))
+    (fields_stop c.loop-i-test.true c.loop-i.invariant
+    (ap read_of (sym c.in_default.is) ∙ c.number_at-f.ensures))
 
-loop-again : tie.Need-loop-preserved invariant-loop decreases-loop
+loop-again : tie.Need-loop-i-preserved invariant-loop decreases-loop
 loop-again c =
-    fields_next c.before.before.before.before.loop-test.true c.before.before.before.before.before.loop.invariant _
-    (ap read_of (sym c.before.f.given.1) ∙ c.before.before.before.number_at.ensures)
+    fields_next c.loop-i-test.true c.loop-i.invariant _
+    (ap read_of (sym c.in-Number.is) ∙ c.number_at-f.ensures)
 
-returns-2 : tie.Need-returns-2 invariant-loop decreases-loop
-returns-2 c = ap text_refusal (sym (not-true _ c.if1.true) ∙ c.before.ends.ensures ∙ fields_end c.before.before.loop-test.false c.before.before.before.loop.invariant)
+returns-2 : tie.Need-returns-then-not-ends invariant-loop decreases-loop
+returns-2 c = ap text_refusal (sym (c.if-not-ends.true) ∙ c.ends.ensures ∙ fields_end c.loop-i-test.false c.loop-i.invariant)
 
-returns-3 : tie.Need-returns-3 invariant-loop decreases-loop
-returns-3 c = ap text_refusal (sym (not-false _ c.if1.false) ∙ c.before.ends.ensures ∙ fields_end c.before.before.loop-test.false c.before.before.before.loop.invariant)
+returns-3 : tie.Need-returns invariant-loop decreases-loop
+returns-3 c = ap text_refusal (sym (c.if-not-ends.false) ∙ c.ends.ensures ∙ fields_end c.loop-i-test.false c.loop-i.invariant)
 
-pub judge-line-spec : {M : Type 1} → statement M
-judge-line-spec =
+pub judge_line_spec : {M : Type 1} → statement M
+judge_line_spec =
     tie.close
     (tie.spec
     invariant-loop decreases-loop loop-holds (λ c κs. search rules) (λ c. search rules) (λ c. search rules) returns (λ c. omega arith) (λ c. omega arith)

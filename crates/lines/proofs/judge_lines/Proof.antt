@@ -8,31 +8,31 @@ use Rattle.lines.proofs.Reading.{passed, refused_by, Left, left_start, left_stop
 use Rattle.lines.proofs.judge_lines.Statement.{statement}
 use Rattle.lines.proofs.judge_lines.Tie as tie
 
-abbrev invariant-loop : tie.invariant-loop
+abbrev invariant-loop : tie.invariant-loop-i
 invariant-loop text at n m stride i₀ e₀ i e = Left (λ k x. lines_ok n k x text) (line_length n) at m i e × (e ≤ at + 56 * i)
 
-abbrev decreases-loop : tie.decreases-loop
+abbrev decreases-loop : tie.decreases-loop-i
 decreases-loop text at n m stride i₀ e₀ i e = m - i
 
-loop-holds : tie.Need-loop-init invariant-loop decreases-loop
+loop-holds : tie.Need-loop-i-init invariant-loop decreases-loop
 loop-holds c = (left_start _ _ _ _, omega arith)
 
-returns : tie.Need-returns invariant-loop decreases-loop
+returns : tie.Need-returns-then-r-ne0 invariant-loop decreases-loop
 returns c =
-    refused_by _ _ c.before.judge-line.ensures c.if1.true
-    (left_stop (lines_judge _ _) c.before.before.before.loop.invariant.0 c.before.before.loop-test.true)
+    refused_by _ _ c.judge_line-r.ensures c.if-r-ne0.true
+    (left_stop (lines_judge _ _) c.loop-i.invariant.0 c.loop-i-test.true)
 
-loop-again : tie.Need-loop-preserved invariant-loop decreases-loop
+loop-again : tie.Need-loop-i-preserved invariant-loop decreases-loop
 loop-again c = (
-  left_next (lines_judge _ _) c.before.before.before.loop.invariant.0 c.before.before.loop-test.true (passed _ c.before.judge-line.ensures c.if1.false),
-  omega (arith, c.before.before.before.before.before.requires.1),
+  left_next (lines_judge _ _) c.loop-i.invariant.0 c.loop-i-test.true (passed _ c.judge_line-r.ensures c.if-r-ne0.false),
+  omega (arith, c.requires.1),
 )
 
-returns-2 : tie.Need-returns-2 invariant-loop decreases-loop
-returns-2 c = ap text_refusal (left_end (lines_judge _ _) c.before.loop.invariant.0 c.loop-test.false)
+returns-2 : tie.Need-returns invariant-loop decreases-loop
+returns-2 c = ap text_refusal (left_end (lines_judge _ _) c.loop-i.invariant.0 c.loop-i-test.false)
 
-pub judge-lines-spec : {M : Type 1} → statement M
-judge-lines-spec =
+pub judge_lines_spec : {M : Type 1} → statement M
+judge_lines_spec =
     tie.close
     (tie.spec
     invariant-loop decreases-loop (λ c. search rules) (λ c. search rules) loop-holds (λ c κs. search rules) returns (λ c. omega arith) (λ c. omega arith)

@@ -5,8 +5,8 @@ use Rattle.lines.proofs.put_one.Statement.{statement}
 use Rattle.lines.proofs.put_one.Tie as tie
 
 returns : tie.Need-returns
-returns c = one_put _ _ _ _ c.before.before.put-number.ensures c.before.before.before.before.before.requires
+returns c = one_put _ _ _ _ c.put_number.ensures c.requires
 
-pub put-one-spec : {M : Type 1} → statement M
-put-one-spec =
+pub put_one_spec : {M : Type 1} → statement M
+put_one_spec =
     tie.close (tie.spec (λ c κs. search rules) (λ c. search rules) (λ c. search rules) (λ c. search rules) returns)

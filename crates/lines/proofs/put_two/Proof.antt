@@ -6,9 +6,9 @@ use Rattle.lines.proofs.put_two.Tie as tie
 
 returns : tie.Need-returns
 returns c =
-    more_put _ _ _ _ _ _ c.before.before.before.before.before.before.put-number.ensures c.before.before.put_one.ensures
-    c.before.before.before.before.before.before.before.before.before.requires
+    more_put _ _ _ _ _ _ c.put_number.ensures c.put_one.ensures
+    c.requires
 
-pub put-two-spec : {M : Type 1} → statement M
-put-two-spec =
+pub put_two_spec : {M : Type 1} → statement M
+put_two_spec =
     tie.close (tie.spec (λ c κs. search rules) (λ c. search rules) (λ c κs. search rules) (λ c. search rules) returns)

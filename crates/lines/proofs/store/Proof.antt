@@ -7,26 +7,26 @@ use Rattle.lines.proofs.Storing.{Storing, store_start, store_field, store_next, 
 use Rattle.lines.proofs.store.Statement.{statement}
 use Rattle.lines.proofs.store.Tie as tie
 
-abbrev invariant-loop : tie.invariant-loop
+abbrev invariant-loop : tie.invariant-loop-i
 invariant-loop text at s₀ m i₀ e₀ s i e = Storing text at s₀ m s i e
 
-abbrev decreases-loop : tie.decreases-loop
+abbrev decreases-loop : tie.decreases-loop-i
 decreases-loop text at s₀ m i₀ e₀ s i e = m - i
 
-loop-holds : tie.Need-loop-init invariant-loop decreases-loop
-loop-holds c = store_start _ _ _ _ c.before.before.requires.2 c.before.before.requires.3
+loop-holds : tie.Need-loop-i-init invariant-loop decreases-loop
+loop-holds c = store_start _ _ _ _ c.requires.2 c.requires.3
 
-spelled-at-requires : tie.Need-spelled-at-requires invariant-loop decreases-loop
-spelled-at-requires c κs = store_field c.loop-test.true c.before.loop.invariant
+spelled-at-requires : tie.Need-spelled_at-requires invariant-loop decreases-loop
+spelled-at-requires c κs = store_field c.loop-i-test.true c.loop-i.invariant
 
-loop-again : tie.Need-loop-preserved invariant-loop decreases-loop
-loop-again c = store_next c.before.loop-test.true c.before.before.loop.invariant c.spelled_at.ensures
+loop-again : tie.Need-loop-i-preserved invariant-loop decreases-loop
+loop-again c = store_next c.loop-i-test.true c.loop-i.invariant c.spelled_at.ensures
 
-same_length : tie.Need-same-length invariant-loop decreases-loop
-same_length c = c.before.loop.invariant.size
+same_length : tie.Need-shape_of-s invariant-loop decreases-loop
+same_length c = c.loop-i.invariant.size
 
 returns : tie.Need-returns invariant-loop decreases-loop
-returns c = store_end c.loop-test.false c.before.loop.invariant
+returns c = store_end c.loop-i-test.false c.loop-i.invariant
 
 pub store_spec : {M : Type 1} → statement M
 store_spec =
