@@ -6,13 +6,13 @@ use borrow.Author.Rules.{rules}
 use Rattle.directory.proofs.directory_block_ok.Statement.{statement}
 use Rattle.directory.proofs.directory_block_ok.Tie as tie
 
-returns : tie.Need-returns
-returns c = no_directory block_limit _ c.if1.true
+returns : tie.Need-returns-then-directory-ne-DIRECTORY_SIZE
+returns c = no_directory block_limit _ c.if-directory-ne-DIRECTORY_SIZE.true
 
-returns-2 : tie.Need-returns-2
-returns-2 c = c.block-length-ok.ensures ∙ directory_block block_limit _ c.before.before.if1.false
+returns-2 : tie.Need-returns
+returns-2 c = c.block_length_ok.ensures ∙ directory_block block_limit _ c.if-directory-ne-DIRECTORY_SIZE.false
 
-pub directory-block-ok-spec : {M : Type 1} → statement M
-directory-block-ok-spec =
+pub directory_block_ok_spec : {M : Type 1} → statement M
+directory_block_ok_spec =
     tie.close
     (tie.spec returns (λ c. search rules) (λ c κs. search rules) returns-2)

@@ -6,7 +6,7 @@ use Rattle.directory.proofs.fences.Statement.{statement}
 use Rattle.directory.proofs.fences.Tie as tie
 
 returns : tie.Need-returns
-returns c = let p = c.before.before.requires in fences_part block_limit _ p.size p.few
+returns c = let p = c.requires in fences_part block_limit _ p.size p.few
 
-pub fences-spec : {M : Type 1} → statement M
-fences-spec = tie.close (tie.spec (λ c. search rules) (λ c. search rules) (λ c. search rules) (λ c. search rules) (λ c. search rules) (λ c. search rules) returns)
+pub fences_spec : {M : Type 1} → statement M
+fences_spec = tie.close (tie.spec (λ c. search rules) (λ c. search rules) (λ c. search rules) (λ c. search rules) (λ c. search rules) (λ c. search rules) returns)

@@ -10,28 +10,28 @@ use Rattle.directory.proofs.Numbers.{has_place, has_length, has_stored, dir_fits
 use Rattle.directory.proofs.grow.Statement.{statement}
 use Rattle.directory.proofs.grow.Tie as tie
 
-add-i : tie.Need-overflow-add-i
+add-i : tie.Need-overflow_add-i
 add-i c = omega (arith, has_place block_limit _ _ c.requires)
 
-mul-directory : tie.Need-overflow-mul-directory
+mul-directory : tie.Need-offset_bounds-directory-i
 mul-directory c = omega (arith, has_place block_limit _ _ c.requires)
 
-slice-read-directory : tie.Need-slice-read-directory
-slice-read-directory c = omega (arith, has_place block_limit _ _ c.before.requires)
+slice-read-directory : tie.Need-bounds-directory-i
+slice-read-directory c = omega (arith, has_place block_limit _ _ c.requires)
 
-add-directory : tie.Need-overflow-add-directory
-add-directory c = let p = c.before.requires in omega (arith, has_length block_limit _ _ p, dir_fits block_limit _ p.shaped c.before.args.partition)
+add-directory : tie.Need-overflow_add-directory
+add-directory c = let p = c.requires in omega (arith, has_length block_limit _ _ p, dir_fits block_limit _ p.shaped c.args.partition)
 
-mul-directory-2 : tie.Need-overflow-mul-directory-2
-mul-directory-2 c = omega (arith, has_place block_limit _ _ c.before.requires)
+mul-directory-2 : tie.Need-offset_bounds-directory-i-2
+mul-directory-2 c = omega (arith, has_place block_limit _ _ c.requires)
 
-slice-write-directory : tie.Need-slice-write-directory
-slice-write-directory c = omega (arith, has_place block_limit _ _ c.before.requires)
+slice-write-directory : tie.Need-bounds-directory-i-2
+slice-write-directory c = omega (arith, has_place block_limit _ _ c.requires)
 
 returns : tie.Need-returns
 returns c =
-    let a = c.before.args in
-    let p = c.before.requires in
+    let a = c.args in
+    let p = c.requires in
     has_stored block_limit _ _ p _
     ∙ ap (λ (n : ℕ). with_lengths (set (directory_of block_limit a.directory.now).lengths a.partition (n + 1)) a.directory.now) (has_length block_limit _ _ p)
 

@@ -6,7 +6,7 @@ use Rattle.directory.proofs.lengths.Statement.{statement}
 use Rattle.directory.proofs.lengths.Tie as tie
 
 returns : tie.Need-returns
-returns c = let p = c.before.before.requires in lengths_part block_limit _ p.size p.few
+returns c = let p = c.requires in lengths_part block_limit _ p.size p.few
 
-pub lengths-spec : {M : Type 1} → statement M
-lengths-spec = tie.close (tie.spec (λ c. search rules) (λ c. search rules) (λ c. search rules) (λ c. search rules) (λ c. search rules) (λ c. search rules) returns)
+pub lengths_spec : {M : Type 1} → statement M
+lengths_spec = tie.close (tie.spec (λ c. search rules) (λ c. search rules) (λ c. search rules) (λ c. search rules) (λ c. search rules) (λ c. search rules) returns)

@@ -10,16 +10,16 @@ use Rattle.directory.proofs.partition_of.Statement.{statement}
 use Rattle.directory.proofs.partition_of.Tie as tie
 
 fences-requires : tie.Need-fences-requires
-fences-requires c κs = let p = c.before.requires in record { size = dir_size block_limit _ p; few = dir_few block_limit _ p }
+fences-requires c κs = let p = c.requires in record { size = dir_size block_limit _ p; few = dir_few block_limit _ p }
 
-place-of-requires : tie.Need-place-of-requires
+place-of-requires : tie.Need-place_of-requires
 place-of-requires c κs =
-    let p = c.before.before.requires in
+    let p = c.requires in
     let n = dir_count block_limit _ p in
     rw c.fences.ensures (omega (arith, n, dir_some block_limit _ p), omega (arith, n, dir_few block_limit _ p), dir_rises block_limit _ p)
 
 returns : tie.Need-returns
-returns c = c.place_of.ensures ∙ ap (λ (l : List ℕ). place l c.before.before.before.args.grower) c.before.fences.ensures
+returns c = c.place_of.ensures ∙ ap (λ (l : List ℕ). place l c.args.grower) c.fences.ensures
 
-pub partition-of-spec : {M : Type 1} → statement M
-partition-of-spec = tie.close (tie.spec fences-requires place-of-requires returns)
+pub partition_of_spec : {M : Type 1} → statement M
+partition_of_spec = tie.close (tie.spec fences-requires place-of-requires returns)

@@ -5,7 +5,7 @@ use lib.ListN.{length-set}
 use Rattle.directory.proofs.put.Statement.{statement}
 use Rattle.directory.proofs.put.Tie as tie
 
-slice-write-directory-2 : tie.Need-slice-write-directory-2
+slice-write-directory-2 : tie.Need-bounds-directory-f
 slice-write-directory-2 c = simp length-set (omega (arith, c.requires.0))
 
 pub put_spec : {M : Type 1} → statement M

@@ -8,17 +8,17 @@ use Rattle.directory.proofs.Numbers.{has_place, has_room, dir_ahead}
 use Rattle.directory.proofs.start_of.Statement.{statement}
 use Rattle.directory.proofs.start_of.Tie as tie
 
-add-e : tie.Need-overflow-add-e
-add-e c = omega (arith, has_place block_limit _ _ c.before.requires)
+add-e : tie.Need-overflow_add-e
+add-e c = omega (arith, has_place block_limit _ _ c.requires)
 
-part-total-end : tie.Need-slice-bounds-total-end
-part-total-end c = omega (arith, has_place block_limit _ _ c.before.requires)
+part-total-end : tie.Need-slice_bounds-total-end
+part-total-end c = omega (arith, has_place block_limit _ _ c.requires)
 
 total-requires : tie.Need-total-requires
-total-requires c κs = simp length-take (omega (arith, has_room block_limit _ _ c.before.before.requires))
+total-requires c κs = simp length-take (omega (arith, has_room block_limit _ _ c.requires))
 
 returns : tie.Need-returns
-returns c = let p = c.before.before.before.requires in c.total.ensures ∙ dir_ahead block_limit _ p.shaped _ (omega (arith, p.there))
+returns c = let p = c.requires in c.total.ensures ∙ dir_ahead block_limit _ p.shaped _ (omega (arith, p.there))
 
-pub start-of-spec : {M : Type 1} → statement M
-start-of-spec = tie.close (tie.spec add-e (λ c. search rules) (λ c. search rules) part-total-end total-requires returns)
+pub start_of_spec : {M : Type 1} → statement M
+start_of_spec = tie.close (tie.spec add-e (λ c. search rules) (λ c. search rules) part-total-end total-requires returns)

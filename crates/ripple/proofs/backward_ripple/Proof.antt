@@ -5,13 +5,13 @@ use Rattle.ripple.proofs.backward_ripple.Tie as tie
 
 returns : tie.Need-returns
 returns c =
-    let b = c.before.before.before.before.before.before.before.before in
-    let a = b.before.before.before.before.before in
-    let e = a.before.before.before.before.before.before.before.before.carry.ensures in
-    rw (e.0, e.1, e.2, e.3) at b.insert-ripple.ensures
+    let b = c in
+    let a = b in
+    let e = a.carry.ensures in
+    rw (e.0, e.1, e.2, e.3) at b.insert_ripple.ensures
 
-pub backward-ripple-spec : {M : Type 1} → statement M
-backward-ripple-spec =
+pub backward_ripple_spec : {M : Type 1} → statement M
+backward_ripple_spec =
     tie.close
     (tie.spec
     (λ c. search rules)

@@ -11,44 +11,44 @@ use Rattle.ripple.proofs.backward_slots.Statement.{statement}
 use Rattle.ripple.proofs.backward_slots.Tie as tie
 
 -- each part begins in its slice; a part's start is asked for twice, by its length too
-inside : (c : tie.After-shared-slice-known)
-    → (let a = c.before.before.before.before.before.args in
+inside : (c : tie.After-shared_slice_known-1)
+    → (let a = c.args in
     (a.to_start ≤ length a.g.now) × (a.to_start ≤ length a.w.now) × (a.to_start ≤ length a.y.now) × (a.to_start ≤ length a.n.now) × (a.to_start ≤ a.from_start))
-inside c = let a = c.before.before.before.before.before.args in omega (arith, start_le a.lens.now a.from, start_mono a.lens.now a.to a.from (omega arith))
+inside c = let a = c.args in omega (arith, start_le a.lens.now a.from, start_mono a.lens.now a.to a.from (omega arith))
 
-sub-end : tie.Need-overflow-sub-end
+sub-end : tie.Need-overflow_sub-end
 sub-end c = (inside c).4
 
-mul-backward-ripple : tie.Need-overflow-mul-backward-ripple
+mul-backward-ripple : tie.Need-offset_bounds-g-to_start
 mul-backward-ripple c = omega (arith, inside c)
 
-in-growers : tie.Need-overflow-sub-backward-ripple
+in-growers : tie.Need-slice_bounds-backward_ripple-count
 in-growers c = (inside c).0
 
-mul-backward-ripple-2 : tie.Need-overflow-mul-backward-ripple-2
+mul-backward-ripple-2 : tie.Need-offset_bounds-w-to_start
 mul-backward-ripple-2 c = omega (arith, inside c.before)
 
-in-weights : tie.Need-overflow-sub-backward-ripple-2
+in-weights : tie.Need-slice_bounds-backward_ripple-count-2
 in-weights c = (inside c.before).1
 
-mul-backward-ripple-3 : tie.Need-overflow-mul-backward-ripple-3
+mul-backward-ripple-3 : tie.Need-offset_bounds-y-to_start
 mul-backward-ripple-3 c = omega (arith, inside c.before.before)
 
-in-yields : tie.Need-overflow-sub-backward-ripple-3
+in-yields : tie.Need-slice_bounds-backward_ripple-count-3
 in-yields c = (inside c.before.before).2
 
-mul-backward-ripple-4 : tie.Need-overflow-mul-backward-ripple-4
+mul-backward-ripple-4 : tie.Need-offset_bounds-n-to_start
 mul-backward-ripple-4 c = omega (arith, inside c.before.before.before)
 
-in-days : tie.Need-overflow-sub-backward-ripple-4
+in-days : tie.Need-slice_bounds-backward_ripple-count-4
 in-days c = (inside c.before.before.before).3
 
-in-lengths : tie.Need-overflow-sub-backward-ripple-5
+in-lengths : tie.Need-slice_bounds-backward_ripple-count-5
 in-lengths c = search rules
 
-backward-ripple-requires : tie.Need-backward-ripple-requires
+backward-ripple-requires : tie.Need-backward_ripple-requires
 backward-ripple-requires c κs =
-    let s = c.before.before.before.before.before.before.before.before.before.before in
+    let s = c in
     let a = s.args in
     let p = s.requires in
     let r = ahead a.lens.now a.to a.from a.from_start a.to_start a.slot (length a.g.now) p.0 p.1 p.2 p.3 p.4 p.5 in (
@@ -58,35 +58,35 @@ backward-ripple-requires c κs =
       even_from a.to_start (slices_at_mut a.g a.w a.y a.n) p.6,
     )
 
-same_length : tie.Need-same-length
-same_length c = c.before.before.before.before.before.before.before.g.given.1
+same_length : tie.Need-shape_of-g
+same_length c = c.g-1.given.1
 
-same-length-2 : tie.Need-same-length-2
-same-length-2 c = c.before.before.before.before.before.w.given.1
+same-length-2 : tie.Need-shape_of-w
+same-length-2 c = c.w-1.given.1
 
-same-length-3 : tie.Need-same-length-3
-same-length-3 c = c.before.before.before.y.given.1
+same-length-3 : tie.Need-shape_of-y
+same-length-3 c = c.y-1.given.1
 
-same-length-4 : tie.Need-same-length-4
-same-length-4 c = c.before.n.given.1
+same-length-4 : tie.Need-shape_of-n
+same-length-4 c = c.n-1.given.1
 
 returns : tie.Need-returns
 returns c =
-    let b = c.before.before.before.before.before.before.before.before in
-    let e = b.backward-ripple.ensures in
-    let l = b.backward-ripple.new in
-    let s = b.before.before.before.before.before.before.before.before.before.before.before in
+    let b = c in
+    let e = b.backward_ripple.ensures in
+    let l = b.backward_ripple.new in
+    let s = b in
     let a = s.args in
     let law = back_law {A = ℕ} 0 a.lens.now a.from a.from_start a.slot a.to a.to_start in
     let p = s.requires in (
-      law a.d.grower a.g.now l.0 p.0 p.1 p.4 (omega arith) p.2 p.3 e.0,
-      law a.d.weight a.w.now l.1.0 p.0 p.1 p.4 (omega arith) p.2 p.3 e.1,
-      law a.d.oil_yield a.y.now l.1.1.0 p.0 p.1 p.4 (omega arith) p.2 p.3 e.2,
-      law a.d.day a.n.now l.1.1.1.0 p.0 p.1 p.4 (omega arith) p.2 p.3 e.3,
+      law a.d.grower a.g.now l.g p.0 p.1 p.4 (omega arith) p.2 p.3 e.0,
+      law a.d.weight a.w.now l.w p.0 p.1 p.4 (omega arith) p.2 p.3 e.1,
+      law a.d.oil_yield a.y.now l.y p.0 p.1 p.4 (omega arith) p.2 p.3 e.2,
+      law a.d.day a.n.now l.n p.0 p.1 p.4 (omega arith) p.2 p.3 e.3,
     )
 
-pub backward-slots-spec : {M : Type 1} → statement M
-backward-slots-spec =
+pub backward_slots_spec : {M : Type 1} → statement M
+backward_slots_spec =
     tie.close
     (tie.spec
     sub-end

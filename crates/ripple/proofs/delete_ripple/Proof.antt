@@ -12,7 +12,7 @@ use Rattle.ripple.proofs.Loops.{Spot, Lowered, spot_first, spot_up, spot_in, spo
 use Rattle.ripple.proofs.delete_ripple.Statement.{statement}
 use Rattle.ripple.proofs.delete_ripple.Tie as tie
 
-abbrev invariant-loop : tie.invariant-loop
+abbrev invariant-loop : tie.invariant-loop-j
 invariant-loop g₀ w₀ y₀ n₀ lens slot d p₀ j₀ g w y n p j
     = Spot lens (p + 1) j
     × (sum_of lens ≤ length g₀)
@@ -22,22 +22,22 @@ invariant-loop g₀ w₀ y₀ n₀ lens slot d p₀ j₀ g w y n p j
     × Lowered lens d.oil_yield y₀ p₀ j₀ y p j
     × Lowered lens d.day n₀ p₀ j₀ n p j
 
-abbrev decreases-loop : tie.decreases-loop
+abbrev decreases-loop : tie.decreases-loop-j
 decreases-loop g₀ w₀ y₀ n₀ lens slot d p₀ j₀ g w y n p j = length lens - j
 
-shared-slice-read-p : tie.Need-shared-slice-read-p invariant-loop decreases-loop
+shared-slice-read-p : tie.Need-bounds-lens-0 invariant-loop decreases-loop
 shared-slice-read-p c = omega arith
 
-cast-p : tie.Need-overflow-cast-p invariant-loop decreases-loop
-cast-p c = omega (arith, c.shared-slice-known2.given 0)
+cast-p : tie.Need-overflow_cast-p invariant-loop decreases-loop
+cast-p c = omega (arith, c.shared_slice_known-2-1.given 0)
 
-sub-p : tie.Need-overflow-sub-p invariant-loop decreases-loop
+sub-p : tie.Need-overflow_sub-p invariant-loop decreases-loop
 sub-p c = omega arith
 
 carry-requires : tie.Need-carry-requires invariant-loop decreases-loop
-carry-requires c κs = omega (arith, elem_le c.before.before.before.before.before.before.before.before.before.before.args.lens.now 0)
+carry-requires c κs = omega (arith, elem_le c.args.lens.now 0)
 
-loop-holds : tie.Need-loop-init invariant-loop decreases-loop
+loop-holds : tie.Need-loop-j-init invariant-loop decreases-loop
 loop-holds c = (
   spot_first _ _ (omega arith) (omega arith),
   omega arith,
@@ -48,37 +48,37 @@ loop-holds c = (
   lowered_start _ _ _ _ _,
 )
 
-shared-slice-read-q : tie.Need-shared-slice-read-q invariant-loop decreases-loop
+shared-slice-read-q : tie.Need-bounds-lens-j invariant-loop decreases-loop
 shared-slice-read-q c = omega arith
 
-cast-q : tie.Need-overflow-cast-q invariant-loop decreases-loop
-cast-q c = omega (arith, c.shared-slice-known3.given c.before.before.loop.j)
+cast-q : tie.Need-overflow_cast-q invariant-loop decreases-loop
+cast-q c = omega (arith, c.shared_slice_known-in-loop-j-1.given c.loop-j.j)
 
-add-q : tie.Need-overflow-add-q invariant-loop decreases-loop
-add-q c = omega (arith, spot_room _ _ _ c.before.loop-test.true c.before.before.loop.invariant.0)
+add-q : tie.Need-overflow_add-q invariant-loop decreases-loop
+add-q c = omega (arith, spot_room _ _ _ c.loop-j-test.true c.loop-j.invariant.0)
 
-carry-requires-2 : tie.Need-carry-requires-2 invariant-loop decreases-loop
+carry-requires-2 : tie.Need-carry-requires-in-loop-j invariant-loop decreases-loop
 carry-requires-2 c κs =
-    let b = c.before.before.before.before.before in
-    omega (arith, spot_room _ _ _ b.loop-test.true b.before.loop.invariant.0)
+    let b = c in
+    omega (arith, spot_room _ _ _ b.loop-j-test.true b.loop-j.invariant.0)
 
-add-j : tie.Need-overflow-add-j invariant-loop decreases-loop
+add-j : tie.Need-overflow_add-j invariant-loop decreases-loop
 add-j c =
-    let a = c.before.before.before.before.before.before.before.before in
-    let t = a.before.before.before.before.before.before in
-    let b = t.before.before.before.before.before.before.before.before.before.before in
-    let s = b.before.before.before.before.before.before.before.before.before.before.before in
-    omega (arith, t.loop-test.true, s.ranges, s.well-formed)
+    let a = c in
+    let t = a in
+    let b = t in
+    let s = b in
+    omega (arith, t.loop-j-test.true, s.ranges, s.well_formed)
 
-loop-less : tie.Need-loop-smaller invariant-loop decreases-loop
+loop-less : tie.Need-loop-j-smaller invariant-loop decreases-loop
 loop-less c = omega arith
 
-loop-again : tie.Need-loop-preserved invariant-loop decreases-loop
+loop-again : tie.Need-loop-j-preserved invariant-loop decreases-loop
 loop-again c =
-    let b = c.before.before.before.before.before.before.before.before in
-    let e = b.carry2.ensures in
-    let i = b.before.before.before.before.before.before.before.loop.invariant in
-    let t = b.before.before.before.before.before.before.loop-test.true in
+    let b = c in
+    let e = b.carry-in-loop-j.ensures in
+    let i = b.loop-j.invariant in
+    let t = b.loop-j-test.true in
     rw (e.0, e.1, e.2, e.3) (
       spot_up _ _ _ t i.0,
       i.1,
@@ -90,38 +90,38 @@ loop-again c =
     )
 
 store-requires : tie.Need-store-requires invariant-loop decreases-loop
-store-requires c κs = omega (arith, spot_in _ _ _ c.before.before.before.before.before.loop.invariant.0)
+store-requires c κs = omega (arith, spot_in _ _ _ c.loop-j.invariant.0)
 
-same_length : tie.Need-same-length invariant-loop decreases-loop
+same_length : tie.Need-shape_of-g invariant-loop decreases-loop
 same_length c = omega arith
 
-same-length-2 : tie.Need-same-length-2 invariant-loop decreases-loop
+same-length-2 : tie.Need-shape_of-w invariant-loop decreases-loop
 same-length-2 c = omega arith
 
-same-length-3 : tie.Need-same-length-3 invariant-loop decreases-loop
+same-length-3 : tie.Need-shape_of-y invariant-loop decreases-loop
 same-length-3 c = omega arith
 
-same-length-4 : tie.Need-same-length-4 invariant-loop decreases-loop
+same-length-4 : tie.Need-shape_of-n invariant-loop decreases-loop
 same-length-4 c = omega arith
 
 returns : tie.Need-returns invariant-loop decreases-loop
 returns c =
-    let b = c.before.before.before.before.before.before.before.before in
+    let b = c in
     let e = b.store.ensures in
-    let t = b.before.before.before.before.before.loop-test.false in
-    let l = b.before.before.before.before.before.before in
-    let i = l.loop.invariant in
-    let a = l.before.before.before.before.before.before.before.before.before in
+    let t = b.loop-j-test.false in
+    let l = b in
+    let i = l.loop-j.invariant in
+    let a = l in
     let f = a.carry.ensures in
-    let r = a.before.before.before.before.before.before.before.before.before.before.before.requires in (
+    let r = a.requires in (
       e.0 ∙ lowered_end 0 _ _ _ _ _ _ _ _ t r.1 r.2 i.0 f.0 i.3,
       e.1 ∙ lowered_end 0 _ _ _ _ _ _ _ _ t r.1 (omega arith) i.0 f.1 i.4,
       e.2 ∙ lowered_end 0 _ _ _ _ _ _ _ _ t r.1 (omega arith) i.0 f.2 i.5,
       e.3 ∙ lowered_end 0 _ _ _ _ _ _ _ _ t r.1 (omega arith) i.0 f.3 i.6,
     )
 
-pub delete-ripple-spec : {M : Type 1} → statement M
-delete-ripple-spec =
+pub delete_ripple_spec : {M : Type 1} → statement M
+delete_ripple_spec =
     tie.close
     (tie.spec
     invariant-loop

@@ -24,17 +24,17 @@ shortened s u h k =
     let p = s.requires in
     let r = ready s.args.lens.now s.args.from _ s.args.slot u _ h k p.2 p.3 p.4 in (r.0, r.1, r.2, r.3, p.5)
 
-slice-aggregate-delete-slots : tie.Need-slice-aggregate-delete-slots
+slice-aggregate-delete-slots : tie.Need-slice_bounds-delete_slots-end
 slice-aggregate-delete-slots c = sym (length-take-le _ _ (omega arith))
 
-delete-slots-requires : tie.Need-delete-slots-requires
-delete-slots-requires c κs = let s = c.before.before.before.before.before.before.before.before.before.before.before in shortened s s.args.to (omega arith) (omega arith)
+delete-slots-requires : tie.Need-delete_slots-requires
+delete-slots-requires c κs = let s = c in shortened s.before.before.before.before.before.before.before.before.before.before s.args.to (omega arith) (omega arith)
 
-returns : tie.Need-returns
+returns : tie.Need-returns-then-from-to
 returns c =
-    let b = c.before.before.before.before.before.before.before.before in
-    let e = b.delete-slots.ensures in
-    let s = b.before.before.before.before.before.before.before.before.before.before.before.before in
+    let b = c in
+    let e = b.delete_slots.ensures in
+    let s = b in
     let a = s.args in
     let law = forward_law {A = ℕ} a.lens.now a.from a.slot a.to in
     let h : a.from < a.to = omega arith in
@@ -45,17 +45,17 @@ returns c =
       e.3 ∙ sym (law a.d.day a.n.now h k),
     )
 
-slice-aggregate-delete-slots-2 : tie.Need-slice-aggregate-delete-slots-2
+slice-aggregate-delete-slots-2 : tie.Need-slice_bounds-delete_slots-end-2
 slice-aggregate-delete-slots-2 c = sym (length-take-le _ _ (omega arith))
 
-delete-slots-requires-2 : tie.Need-delete-slots-requires-2
-delete-slots-requires-2 c κs = let s = c.before.before.before.before.before.before.before.before.before.before.before in shortened s (s.args.from + 1) (omega arith) (omega arith)
+delete-slots-requires-2 : tie.Need-delete_slots-requires-2
+delete-slots-requires-2 c κs = let s = c in shortened s.before.before.before.before.before.before.before.before.before.before (s.args.from + 1) (omega arith) (omega arith)
 
-returns-2 : tie.Need-returns-2
+returns-2 : tie.Need-returns
 returns-2 c =
-    let b = c.before.before.before.before.before.before.before.before in
-    let e = b.delete-slots2.ensures in
-    let a = b.before.before.before.before.before.before.before.before.before.before.before.before.args in
+    let b = c in
+    let e = b.delete_slots-2.ensures in
+    let a = b.args in
     let law = within_law {A = ℕ} a.lens.now a.from a.slot in
     let h : a.from < length a.lens.now = omega arith in
     let k : a.to ≡ a.from = omega arith in
@@ -66,8 +66,8 @@ returns-2 c =
       e.3 ∙ sym (law a.d.day a.n.now h),
     )
 
-pub forward-slots-spec : {M : Type 1} → statement M
-forward-slots-spec =
+pub forward_slots_spec : {M : Type 1} → statement M
+forward_slots_spec =
     tie.close
     (tie.spec
     slice-aggregate-delete-slots

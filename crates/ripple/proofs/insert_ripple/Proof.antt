@@ -9,38 +9,38 @@ use Rattle.ripple.proofs.Loops.{Spot, Lifted, spot_last, spot_sum, spot_down, li
 use Rattle.ripple.proofs.insert_ripple.Statement.{statement}
 use Rattle.ripple.proofs.insert_ripple.Tie as tie
 
-abbrev invariant-loop : tie.invariant-loop
+abbrev invariant-loop : tie.invariant-loop-j
 invariant-loop g₀ w₀ y₀ n₀ lens end d p₀ j₀ g w y n p j = Spot lens p j × (p < length g₀) × Lifted lens g₀ g p j × Lifted lens w₀ w p j × Lifted lens y₀ y p j × Lifted lens n₀ n p j
 
-abbrev decreases-loop : tie.decreases-loop
+abbrev decreases-loop : tie.decreases-loop-j
 decreases-loop g₀ w₀ y₀ n₀ lens end d p₀ j₀ g w y n p j = j
 
-loop-holds : tie.Need-loop-init invariant-loop decreases-loop
+loop-holds : tie.Need-loop-j-init invariant-loop decreases-loop
 loop-holds c = (spot_last _ _ (omega arith) (omega arith), omega arith, lifted_start _ _ _, lifted_start _ _ _, lifted_start _ _ _, lifted_start _ _ _)
 
-sub-j : tie.Need-overflow-sub-j invariant-loop decreases-loop
+sub-j : tie.Need-overflow_sub-j invariant-loop decreases-loop
 sub-j c = omega arith
 
-shared-slice-read-first-slot : tie.Need-shared-slice-read-first-slot invariant-loop decreases-loop
+shared-slice-read-first-slot : tie.Need-bounds-lens-j invariant-loop decreases-loop
 shared-slice-read-first-slot c = omega arith
 
-first-slot-requires : tie.Need-first-slot-requires invariant-loop decreases-loop
-first-slot-requires c κs = omega (arith, spot_sum _ _ _ c.before.before.loop.invariant.0)
+first-slot-requires : tie.Need-first_slot-q-requires invariant-loop decreases-loop
+first-slot-requires c κs = omega (arith, spot_sum _ _ _ c.loop-j.invariant.0)
 
 carry-requires : tie.Need-carry-requires invariant-loop decreases-loop
-carry-requires c κs = omega (arith, c.before.before.before.before.first_slot.ensures)
+carry-requires c κs = omega (arith, c.first_slot-q.ensures)
 
-loop-less : tie.Need-loop-smaller invariant-loop decreases-loop
+loop-less : tie.Need-loop-j-smaller invariant-loop decreases-loop
 loop-less c = omega arith
 
-loop-again : tie.Need-loop-preserved invariant-loop decreases-loop
+loop-again : tie.Need-loop-j-preserved invariant-loop decreases-loop
 loop-again c =
-    let b = c.before.before.before.before.before.before.before.before in
+    let b = c in
     let e = b.carry.ensures in
-    let f = b.before.before.before.before.before.first_slot.ensures in
-    let k = b.before.before.before.before.before.before.before.before in
-    let l = k.loop in
-    let s = k.before.before.before.before.before.before.requires.3 in
+    let f = b.first_slot-q.ensures in
+    let k = b in
+    let l = k.loop-j in
+    let s = k.requires.3 in
     let t : 1 < l.j = omega arith in
     rw (e.0, e.1, e.2, e.3, f) (
       spot_down _ _ _ t l.invariant.0,
@@ -54,23 +54,23 @@ loop-again c =
 store-requires : tie.Need-store-requires invariant-loop decreases-loop
 store-requires c κs = omega arith
 
-same_length : tie.Need-same-length invariant-loop decreases-loop
+same_length : tie.Need-shape_of-g invariant-loop decreases-loop
 same_length c = omega arith
 
-same-length-2 : tie.Need-same-length-2 invariant-loop decreases-loop
+same-length-2 : tie.Need-shape_of-w invariant-loop decreases-loop
 same-length-2 c = omega arith
 
-same-length-3 : tie.Need-same-length-3 invariant-loop decreases-loop
+same-length-3 : tie.Need-shape_of-y invariant-loop decreases-loop
 same-length-3 c = omega arith
 
-same-length-4 : tie.Need-same-length-4 invariant-loop decreases-loop
+same-length-4 : tie.Need-shape_of-n invariant-loop decreases-loop
 same-length-4 c = omega arith
 
 returns : tie.Need-returns invariant-loop decreases-loop
 returns c =
-    let b = c.before.before.before.before.before.before.before.before in
+    let b = c in
     let e = b.store.ensures in
-    let l = b.before.before.before.before.before.before.loop in
+    let l = b.loop-j in
     let i = l.invariant in
     let t : l.j ≤ 1 = omega arith in (
       e.0 ∙ lifted_end _ _ _ _ _ _ t (omega arith) i.0 i.2,
@@ -79,8 +79,8 @@ returns c =
       e.3 ∙ lifted_end _ _ _ _ _ _ t (omega arith) i.0 i.5,
     )
 
-pub insert-ripple-spec : {M : Type 1} → statement M
-insert-ripple-spec =
+pub insert_ripple_spec : {M : Type 1} → statement M
+insert_ripple_spec =
     tie.close
     (tie.spec
     invariant-loop

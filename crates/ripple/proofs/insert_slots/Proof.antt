@@ -10,76 +10,76 @@ use Rattle.ripple.proofs.insert_slots.Statement.{statement}
 use Rattle.ripple.proofs.insert_slots.Tie as tie
 
 -- each part begins in its slice; a part's start is asked for twice, by its length too
-inside : (c : tie.After-shared-slice-known)
-    → (let a = c.before.before.before.before.before.args in
+inside : (c : tie.After-shared_slice_known-1)
+    → (let a = c.args in
     (a.start ≤ length a.g.now) × (a.start ≤ length a.w.now) × (a.start ≤ length a.y.now) × (a.start ≤ length a.n.now) × (a.start ≤ a.used))
-inside c = let a = c.before.before.before.before.before.args in omega (arith, start_le a.lens.now a.partition)
+inside c = let a = c.args in omega (arith, start_le a.lens.now a.partition)
 
-sub-end : tie.Need-overflow-sub-end
+sub-end : tie.Need-overflow_sub-end
 sub-end c = (inside c).4
 
-mul-insert-ripple : tie.Need-overflow-mul-insert-ripple
+mul-insert-ripple : tie.Need-offset_bounds-g-start
 mul-insert-ripple c = omega (arith, inside c)
 
-in-growers : tie.Need-overflow-sub-insert-ripple
+in-growers : tie.Need-slice_bounds-insert_ripple-count
 in-growers c = (inside c).0
 
-mul-insert-ripple-2 : tie.Need-overflow-mul-insert-ripple-2
+mul-insert-ripple-2 : tie.Need-offset_bounds-w-start
 mul-insert-ripple-2 c = omega (arith, inside c.before)
 
-in-weights : tie.Need-overflow-sub-insert-ripple-2
+in-weights : tie.Need-slice_bounds-insert_ripple-count-2
 in-weights c = (inside c.before).1
 
-mul-insert-ripple-3 : tie.Need-overflow-mul-insert-ripple-3
+mul-insert-ripple-3 : tie.Need-offset_bounds-y-start
 mul-insert-ripple-3 c = omega (arith, inside c.before.before)
 
-in-yields : tie.Need-overflow-sub-insert-ripple-3
+in-yields : tie.Need-slice_bounds-insert_ripple-count-3
 in-yields c = (inside c.before.before).2
 
-mul-insert-ripple-4 : tie.Need-overflow-mul-insert-ripple-4
+mul-insert-ripple-4 : tie.Need-offset_bounds-n-start
 mul-insert-ripple-4 c = omega (arith, inside c.before.before.before)
 
-in-days : tie.Need-overflow-sub-insert-ripple-4
+in-days : tie.Need-slice_bounds-insert_ripple-count-4
 in-days c = (inside c.before.before.before).3
 
-in-lengths : tie.Need-overflow-sub-insert-ripple-5
+in-lengths : tie.Need-slice_bounds-insert_ripple-count-5
 in-lengths c = search rules
 
-insert-ripple-requires : tie.Need-insert-ripple-requires
+insert-ripple-requires : tie.Need-insert_ripple-requires
 insert-ripple-requires c κs =
-    let s = c.before.before.before.before.before.before.before.before.before.before in
+    let s = c in
     let h = start_rest s.args.lens.now s.args.partition in
     rw tail_part (simp (length-take, length-drop) (omega arith))
 
-same_length : tie.Need-same-length
-same_length c = c.before.before.before.before.before.before.before.g.given.1
+same_length : tie.Need-shape_of-g
+same_length c = c.g-1.given.1
 
-same-length-2 : tie.Need-same-length-2
-same-length-2 c = c.before.before.before.before.before.w.given.1
+same-length-2 : tie.Need-shape_of-w
+same-length-2 c = c.w-1.given.1
 
-same-length-3 : tie.Need-same-length-3
-same-length-3 c = c.before.before.before.y.given.1
+same-length-3 : tie.Need-shape_of-y
+same-length-3 c = c.y-1.given.1
 
-same-length-4 : tie.Need-same-length-4
-same-length-4 c = c.before.n.given.1
+same-length-4 : tie.Need-shape_of-n
+same-length-4 c = c.n-1.given.1
 
 returns : tie.Need-returns
 returns c =
-    let b = c.before.before.before.before.before.before.before.before in
-    let e = b.insert-ripple.ensures in
-    let l = b.insert-ripple.new in
-    let s = b.before.before.before.before.before.before.before.before.before.before.before in
+    let b = c in
+    let e = b.insert_ripple.ensures in
+    let l = b.insert_ripple.new in
+    let s = b in
     let a = s.args in
     let law = put_law {A = ℕ} a.lens.now a.partition a.start in
     let h = s.requires.1 in (
-      law a.d.grower a.g.now l.0 h e.0,
-      law a.d.weight a.w.now l.1.0 h e.1,
-      law a.d.oil_yield a.y.now l.1.1.0 h e.2,
-      law a.d.day a.n.now l.1.1.1.0 h e.3,
+      law a.d.grower a.g.now l.g h e.0,
+      law a.d.weight a.w.now l.w h e.1,
+      law a.d.oil_yield a.y.now l.y h e.2,
+      law a.d.day a.n.now l.n h e.3,
     )
 
-pub insert-slots-spec : {M : Type 1} → statement M
-insert-slots-spec =
+pub insert_slots_spec : {M : Type 1} → statement M
+insert_slots_spec =
     tie.close
     (tie.spec
     sub-end
