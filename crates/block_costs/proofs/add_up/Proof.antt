@@ -9,45 +9,45 @@ use Rattle.block_costs.proofs.TermLaws.{cleared_summed, summed_as}
 use Rattle.block_costs.proofs.add_up.Statement.{statement}
 use Rattle.block_costs.proofs.add_up.Tie as tie
 
-abbrev invariant-loop : tie.invariant-loop
+abbrev invariant-loop : tie.invariant-loop-i
 invariant-loop card h n sums₀ i₀ sums i = (i ≤ n) × Loaded block_limit card h ((i + 1) * sums_per_place) sums₀ sums
 
-abbrev decreases-loop : tie.decreases-loop
+abbrev decreases-loop : tie.decreases-loop-i
 decreases-loop card h n sums₀ i₀ sums i = n - i
 
-clear-first-requires : tie.Need-clear-first-requires invariant-loop decreases-loop
+clear-first-requires : tie.Need-clear_first-requires invariant-loop decreases-loop
 clear-first-requires c κs = omega arith
 
-loop-holds : tie.Need-loop-init invariant-loop decreases-loop
-loop-holds c = (omega arith, record { long = refl; summed = cleared_summed _ _ _ _ _ c.before.before.clear_first.ensures })
+loop-holds : tie.Need-loop-i-init invariant-loop decreases-loop
+loop-holds c = (omega arith, record { long = refl; summed = cleared_summed _ _ _ _ _ c.clear_first.ensures })
 
-add-block-requires : tie.Need-add-block-requires invariant-loop decreases-loop
+add-block-requires : tie.Need-add_block-requires invariant-loop decreases-loop
 add-block-requires c κs =
-    let l = c.before.before.loop in
+    let l = c.loop-i in
     let first = l.invariant.1 in
-    let cleared = c.before.before.before.before.before.clear_first.ensures in
-    let s = c.before.before.before.before.before.before.before.before.before in
+    let cleared = c.clear_first.ensures in
+    let s = c in
     (s.requires.0, (s.requires.1.0, (omega (arith, first.long, cleared.long), first.summed)))
 
-add-i : tie.Need-overflow-add-i invariant-loop decreases-loop
+add-i : tie.Need-overflow_add-i invariant-loop decreases-loop
 add-i c = omega arith
 
-loop-less : tie.Need-loop-smaller invariant-loop decreases-loop
+loop-less : tie.Need-loop-i-smaller invariant-loop decreases-loop
 loop-less c = omega arith
 
-loop-again : tie.Need-loop-preserved invariant-loop decreases-loop
+loop-again : tie.Need-loop-i-preserved invariant-loop decreases-loop
 loop-again c =
-    let f = c.before.before.add-block.ensures in
-    let l = c.before.before.before.before.before.loop in
+    let f = c.add_block.ensures in
+    let l = c.loop-i in
     (omega arith, record { long = f.long ∙ l.invariant.1.long; summed = summed_as _ _ _ _ _ _ (omega arith) f.summed })
 
-same_length : tie.Need-same-length invariant-loop decreases-loop
-same_length c = omega (arith, c.before.loop.invariant.1.long, c.before.before.before.before.clear_first.ensures.long)
+same_length : tie.Need-shape_of-sums invariant-loop decreases-loop
+same_length c = omega (arith, c.loop-i.invariant.1.long, c.clear_first.ensures.long)
 
 returns : tie.Need-returns invariant-loop decreases-loop
 returns c =
-    let l = c.before.loop in
-    record { long = l.invariant.1.long ∙ c.before.before.before.before.clear_first.ensures.long; summed = summed_as _ _ _ _ _ _ (omega arith) l.invariant.1.summed }
+    let l = c.loop-i in
+    record { long = l.invariant.1.long ∙ c.clear_first.ensures.long; summed = summed_as _ _ _ _ _ _ (omega arith) l.invariant.1.summed }
 
-pub add-up-spec : {M : Type 1} → statement M
-add-up-spec = tie.close (tie.spec invariant-loop decreases-loop clear-first-requires loop-holds add-block-requires add-i loop-less loop-again same_length returns)
+pub add_up_spec : {M : Type 1} → statement M
+add_up_spec = tie.close (tie.spec invariant-loop decreases-loop clear-first-requires loop-holds add-block-requires add-i loop-less loop-again same_length returns)

@@ -11,16 +11,16 @@ use Rattle.block_costs.proofs.fixed.Tie as tie
 returns : tie.Need-returns
 unfolding fixed_of slot position
 returns c =
-    let writes = c.before.before in
-    let scans = writes.before.before in
-    let reads = scans.before.before in
-    four_products _ _ _ _ _ _ _ _ (product_is _ _ _ _ _ reads.product.ensures.0 (omega arith) (omega (arith, reads.before.counts.ensures.0)))
-    (product_is _ _ _ _ _ scans.product2.ensures.0 (omega arith) (omega (arith, scans.before.counts2.ensures.0)))
-    (product_is _ _ _ _ _ writes.product3.ensures.0 (omega arith) (omega (arith, writes.before.counts3.ensures.0)))
-    (product_is _ _ _ _ _ c.product4.ensures.0 (omega arith) (omega (arith, c.before.counts4.ensures.0)))
+    let writes = c in
+    let scans = writes in
+    let reads = scans in
+    four_products _ _ _ _ _ _ _ _ (product_is _ _ _ _ _ reads.product-reads.ensures.0 (omega arith) (omega (arith, reads.counts.ensures.0)))
+    (product_is _ _ _ _ _ scans.product-scans.ensures.0 (omega arith) (omega (arith, scans.counts-2.ensures.0)))
+    (product_is _ _ _ _ _ writes.product-writes.ensures.0 (omega arith) (omega (arith, writes.counts-3.ensures.0)))
+    (product_is _ _ _ _ _ c.product-moves.ensures.0 (omega arith) (omega (arith, c.counts-4.ensures.0)))
 
-pub fixed-spec : {M : Type 1} → statement M
-fixed-spec =
+pub fixed_spec : {M : Type 1} → statement M
+fixed_spec =
     tie.close
     (tie.spec
     (λ c. search rules)

@@ -11,8 +11,8 @@ returns : tie.Need-returns
 unfolding per_block_after_of slot position
 returns c = product_is _ _ _ _ _ c.product.ensures.0 (omega arith) (omega arith)
 
-pub per-block-after-spec : {M : Type 1} → statement M
-per-block-after-spec =
+pub per_block_after_spec : {M : Type 1} → statement M
+per_block_after_spec =
     tie.close
     (tie.spec
     (λ c κs. search rules)

@@ -11,8 +11,8 @@ returns : tie.Need-returns
 unfolding per_block_before_of slot position
 returns c = product_is _ _ _ _ _ c.product.ensures.0 (omega arith) (omega arith)
 
-pub per-block-before-spec : {M : Type 1} → statement M
-per-block-before-spec =
+pub per_block_before_spec : {M : Type 1} → statement M
+per_block_before_spec =
     tie.close
     (tie.spec
     (λ c κs. search rules)

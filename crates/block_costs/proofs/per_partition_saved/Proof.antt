@@ -11,6 +11,6 @@ returns : tie.Need-returns
 unfolding per_partition_saved_of slot position
 returns c = product_is _ _ _ _ _ c.product.ensures.0 (omega arith) (omega arith)
 
-pub per-partition-saved-spec : {M : Type 1} → statement M
-per-partition-saved-spec =
+pub per_partition_saved_spec : {M : Type 1} → statement M
+per_partition_saved_spec =
     tie.close (tie.spec (λ c κs. search rules) (λ c. search rules) (λ c κs. search rules) returns)

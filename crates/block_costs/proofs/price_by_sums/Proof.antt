@@ -6,5 +6,5 @@ use Rattle.block_costs.proofs.price_by_sums.Tie as tie
 returns : tie.Need-returns
 returns c = (price_is_01, sums_fit)
 
-pub price-by-sums-spec : {M : Type 1} → statement M
-price-by-sums-spec = tie.close (tie.spec returns)
+pub price_by_sums_spec : {M : Type 1} → statement M
+price_by_sums_spec = tie.close (tie.spec returns)

@@ -7,11 +7,11 @@ use borrow.Author.Rules.{rules}
 use Rattle.block_costs.proofs.product.Statement.{statement}
 use Rattle.block_costs.proofs.product.Tie as tie
 
-mul-result : tie.Need-overflow-mul-result
-mul-result c = let a = c.before.args in omega (arith, small c.wide.result a.c 2 5 (omega arith) (omega arith))
+mul-result : tie.Need-overflow_mul-result
+mul-result c = let a = c.args in omega (arith, small c.wide.result a.c 2 5 (omega arith) (omega arith))
 
 returns : tie.Need-returns
-returns c = let a = c.before.args in (ap (λ (p : ℕ). p * a.c) c.wide.ensures, small c.wide.result a.c 2 5 (omega arith) (omega arith))
+returns c = let a = c.args in (ap (λ (p : ℕ). p * a.c) c.wide.ensures, small c.wide.result a.c 2 5 (omega arith) (omega arith))
 
-pub product-spec : {M : Type 1} → statement M
-product-spec = tie.close (tie.spec (λ c κs. search rules) mul-result returns)
+pub product_spec : {M : Type 1} → statement M
+product_spec = tie.close (tie.spec (λ c κs. search rules) mul-result returns)

@@ -10,48 +10,48 @@ use Rattle.block_costs.proofs.TermLaws.{before_small, after_small, term_as}
 use Rattle.block_costs.proofs.term.Statement.{statement}
 use Rattle.block_costs.proofs.term.Tie as tie
 
-returns : tie.Need-returns
+returns : tie.Need-returns-then-q-eq-FIXED
 unfolding term_of
-returns c = c.fixed.ensures ∙ term_as block_limit _ _ _ _ fixed c.before.if1.true
+returns c = c.fixed.ensures ∙ term_as block_limit _ _ _ _ fixed c.if-q-eq-FIXED.true
 
-returns-2 : tie.Need-returns-2
+returns-2 : tie.Need-returns-then-q-eq-PER_BLOCK_BEFORE
 unfolding term_of
-returns-2 c = c.per-block-before.ensures ∙ term_as block_limit _ _ _ _ per_block_before c.before.if2.true
+returns-2 c = c.per_block_before.ensures ∙ term_as block_limit _ _ _ _ per_block_before c.if-q-eq-PER_BLOCK_BEFORE.true
 
 weighted-requires : tie.Need-weighted-requires
 weighted-requires c κs =
-    let s = c.before.before.before.before.before in
-    omega (arith, before_small block_limit s.args.card s.args.h.now s.args.i s.requires.1.0 s.requires.0, c.per-block-before2.ensures)
+    let s = c in
+    omega (arith, before_small block_limit s.args.card s.args.h.now s.args.i s.requires.1.0 s.requires.0, c.per_block_before-then-q-eq-WEIGHTED_BEFORE.ensures)
 
-returns-3 : tie.Need-returns-3
+returns-3 : tie.Need-returns-then-q-eq-WEIGHTED_BEFORE
 unfolding term_of
-returns-3 c = product_is _ _ _ _ _ c.weighted.ensures c.before.per-block-before2.ensures refl ∙ term_as block_limit _ _ _ _ weighted_before c.before.before.if3.true
+returns-3 c = product_is _ _ _ _ _ c.weighted.ensures c.per_block_before-then-q-eq-WEIGHTED_BEFORE.ensures refl ∙ term_as block_limit _ _ _ _ weighted_before c.if-q-eq-WEIGHTED_BEFORE.true
 
-returns-4 : tie.Need-returns-4
+returns-4 : tie.Need-returns-then-q-eq-PER_BLOCK_AFTER
 unfolding term_of
-returns-4 c = c.per-block-after.ensures ∙ term_as block_limit _ _ _ _ per_block_after c.before.if4.true
+returns-4 c = c.per_block_after.ensures ∙ term_as block_limit _ _ _ _ per_block_after c.if-q-eq-PER_BLOCK_AFTER.true
 
-weighted-requires-2 : tie.Need-weighted-requires-2
+weighted-requires-2 : tie.Need-weighted-requires-then-q-eq-WEIGHTED_AFTER
 weighted-requires-2 c κs =
-    let s = c.before.before.before.before.before.before.before in
-    omega (arith, after_small block_limit s.args.card s.args.h.now s.args.i s.requires.1.0 s.requires.0, c.per-block-after2.ensures)
+    let s = c in
+    omega (arith, after_small block_limit s.args.card s.args.h.now s.args.i s.requires.1.0 s.requires.0, c.per_block_after-then-q-eq-WEIGHTED_AFTER.ensures)
 
-returns-5 : tie.Need-returns-5
+returns-5 : tie.Need-returns-then-q-eq-WEIGHTED_AFTER
 unfolding term_of
-returns-5 c = product_is _ _ _ _ _ c.weighted2.ensures c.before.per-block-after2.ensures refl ∙ term_as block_limit _ _ _ _ weighted_after c.before.before.if5.true
+returns-5 c = product_is _ _ _ _ _ c.weighted-then-q-eq-WEIGHTED_AFTER.ensures c.per_block_after-then-q-eq-WEIGHTED_AFTER.ensures refl ∙ term_as block_limit _ _ _ _ weighted_after c.if-q-eq-WEIGHTED_AFTER.true
 
-returns-6 : tie.Need-returns-6
+returns-6 : tie.Need-returns-then-q-eq-PER_PARTITION_ADDED
 unfolding term_of
-returns-6 c = c.per-partition-added.ensures ∙ term_as block_limit _ _ _ _ per_partition_added c.before.if6.true
+returns-6 c = c.per_partition_added.ensures ∙ term_as block_limit _ _ _ _ per_partition_added c.if-q-eq-PER_PARTITION_ADDED.true
 
-returns-7 : tie.Need-returns-7
+returns-7 : tie.Need-returns
 unfolding term_of
 returns-7 c =
-    let s = c.before.before.before.before.before.before.before.before in
-    c.per-partition-saved.ensures ∙ term_as block_limit _ _ _ s.args.q per_partition_saved (omega arith)
+    let s = c in
+    c.per_partition_saved.ensures ∙ term_as block_limit _ _ _ s.args.q per_partition_saved (omega arith)
 
-pub term-spec : {M : Type 1} → statement M
-term-spec =
+pub term_spec : {M : Type 1} → statement M
+term_spec =
     tie.close
     (tie.spec
     (λ c κs. search rules)

@@ -7,8 +7,8 @@ use Rattle.model.specs.Bounds.{block_limit}
 use Rattle.block_costs.proofs.weighted.Statement.{statement}
 use Rattle.block_costs.proofs.weighted.Tie as tie
 
-mul-result : tie.Need-overflow-mul-result
+mul-result : tie.Need-overflow_mul-result
 mul-result c = let r : c.args.x * c.args.i ≤ 2 ^ 33 * block_limit = mul-le-mul {n₂ = 2 ^ 33} {m₂ = block_limit} (omega arith) (omega arith) in omega arith
 
-pub weighted-spec : {M : Type 1} → statement M
-weighted-spec = tie.close (tie.spec mul-result (λ c. search rules))
+pub weighted_spec : {M : Type 1} → statement M
+weighted_spec = tie.close (tie.spec mul-result (λ c. search rules))

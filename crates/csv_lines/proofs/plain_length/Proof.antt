@@ -5,10 +5,10 @@ use Rattle.csv_lines.proofs.plain_length.Statement.{statement}
 use Rattle.csv_lines.proofs.plain_length.Tie as tie
 
 returns : tie.Need-returns
-returns c = plain_length _ _ _ _ c.before.before.reaches-three.ensures c.before.reaches-three2.ensures c.reaches-three3.ensures
+returns c = plain_length _ _ _ _ c.reaches_three-small.ensures c.reaches_three-middle.ensures c.reaches_three-large.ensures
 
-pub plain-length-spec : {M : Type 1} → statement M
-plain-length-spec =
+pub plain_length_spec : {M : Type 1} → statement M
+plain_length_spec =
     tie.close
     (tie.spec
     (λ c κs. search rules) (λ c κs. search rules) (λ c κs. search rules) (λ c. search rules) (λ c. search rules) (λ c. search rules) returns)

@@ -7,16 +7,16 @@ use Rattle.fields.proofs.WritingLaws.{front_room, byte_behind, wrote_byte}
 use Rattle.csv_lines.proofs.put_field.Statement.{statement}
 use Rattle.csv_lines.proofs.put_field.Tie as tie
 
-put-plain-requires : tie.Need-put-plain-requires
-put-plain-requires c κs = let s = c.before.before in front_room s.args.at (plain_number s.args.n) (s.args.behind ∷ []) s.args.text.now s.requires
+put-plain-requires : tie.Need-put_plain-e-requires
+put-plain-requires c κs = let s = c in front_room s.args.at (plain_number s.args.n) (s.args.behind ∷ []) s.args.text.now s.requires
 
-slice-write-text : tie.Need-slice-write-text
-slice-write-text c = byte_behind c.before.before.put-plain.ensures _ c.before.before.before.before.before.requires
+slice-write-text : tie.Need-bounds-text-e
+slice-write-text c = byte_behind c.put_plain-e.ensures _ c.requires
 
 returns : tie.Need-returns
-returns c = wrote_byte c.before.before.put-plain.ensures _ c.before.before.before.before.before.requires
+returns c = wrote_byte c.put_plain-e.ensures _ c.requires
 
-pub put-field-spec : {M : Type 1} → statement M
-put-field-spec =
+pub put_field_spec : {M : Type 1} → statement M
+put_field_spec =
     tie.close
     (tie.spec put-plain-requires slice-write-text (λ c. omega (arith, slice-write-text c)) (λ c. search rules) returns)

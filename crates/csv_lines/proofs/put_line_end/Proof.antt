@@ -11,6 +11,6 @@ use Rattle.csv_lines.proofs.put_line_end.Tie as tie
 returns : tie.Need-returns
 returns c = wrote_byte (wrote_one c.args.text.now c.args.at carriage_return (omega (arith, c.requires))) line_end c.requires
 
-pub put-line-end-spec : {M : Type 1} → statement M
-put-line-end-spec =
+pub put_line_end_spec : {M : Type 1} → statement M
+put_line_end_spec =
     tie.close (tie.spec (λ c. search rules) (λ c. search rules) (λ c. simp length-set (omega (arith, c.requires))) (λ c. search rules) (λ c. search rules) returns)

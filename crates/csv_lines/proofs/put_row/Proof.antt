@@ -8,47 +8,47 @@ use Rattle.csv_lines.proofs.put_row.Tie as tie
 
 -- Places: the grower written, then the weight, then the yield.
 
-abbrev start : tie.After-put-field-arg2 → tie.Start
+abbrev start : tie.After-put_field-arg-2-1 → tie.Start
 start c = c.before.before.before.before.before.before
 
-abbrev first : tie.After-put-plain-arg → tie.After-put-field-arg2
+abbrev first : tie.After-put_plain-arg-1 → tie.After-put_field-arg-2-1
 first c = c.before.before.before.before
 
-abbrev second : tie.After-put-line-end-arg → tie.After-put-plain-arg
+abbrev second : tie.After-put_line_end-arg-1 → tie.After-put_plain-arg-1
 second c = c.before.before.before.before
 
 abbrev row : tie.Start → Delivery
 row s = delivery s.args.g s.args.w s.args.y 0
 
-put-field-requires : tie.Need-put-field-requires
-put-field-requires c κs = let s = c.before.before in grower_room (row s) s.args.text.now s.args.at s.requires
+put-field-requires : tie.Need-put_field-a-requires
+put-field-requires c κs = let s = c in grower_room (row s.before.before) s.args.text.now s.args.at s.requires
 
-put-field-requires-2 : tie.Need-put-field-requires-2
-put-field-requires-2 c κs = let s = start c in weight_room (row s) s.pre c.before.before.before.put-field.ensures
+put-field-requires-2 : tie.Need-put_field-b-requires
+put-field-requires-2 c κs = let s = start c in weight_room (row s) s.requires c.put_field-a.ensures
 
-put-plain-requires : tie.Need-put-plain-requires
+put-plain-requires : tie.Need-put_plain-c-requires
 put-plain-requires c κs =
     let f = first c in
     let s = start f in
-    yield_room (row s) s.pre f.before.before.before.put-field.ensures c.before.before.before.put-field2.ensures
+    yield_room (row s) s.requires f.put_field-a.ensures c.put_field-b.ensures
 
-put-line-end-requires : tie.Need-put-line-end-requires
+put-line-end-requires : tie.Need-put_line_end-requires
 put-line-end-requires c κs =
     let d = second c in
     let f = first d in
     let s = start f in
-    end_room (row s) s.pre f.before.before.before.put-field.ensures d.before.before.before.put-field2.ensures c.before.before.before.put-plain.ensures
+    end_room (row s) s.requires f.put_field-a.ensures d.put_field-b.ensures c.put_plain-c.ensures
 
 returns : tie.Need-returns
 returns c =
-    let l = c.before.before.before in
-    let d = second l in
+    let l = c in
+    let d = second l.before.before.before in
     let f = first d in
     let s = start f in
-    row_done (row s) s.pre f.before.before.before.put-field.ensures d.before.before.before.put-field2.ensures
-    l.before.before.before.put-plain.ensures c.before.before.put-line-end.ensures
+    row_done (row s) s.requires f.put_field-a.ensures d.put_field-b.ensures
+    l.put_plain-c.ensures c.put_line_end.ensures
 
-pub put-row-spec : {M : Type 1} → statement M
-put-row-spec =
+pub put_row_spec : {M : Type 1} → statement M
+put_row_spec =
     tie.close
     (tie.spec put-field-requires put-field-requires-2 put-plain-requires put-line-end-requires (λ c. search rules) returns)

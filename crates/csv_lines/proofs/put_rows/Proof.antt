@@ -8,31 +8,31 @@ use Rattle.csv_lines.proofs.RowLaws.{RowsLeft, rows_start, row_room, rows_next, 
 use Rattle.csv_lines.proofs.put_rows.Statement.{statement}
 use Rattle.csv_lines.proofs.put_rows.Tie as tie
 
-abbrev invariant-loop : tie.invariant-loop
+abbrev invariant-loop : tie.invariant-loop-i
 invariant-loop text₀ at g w y n i₀ e₀ text i e = RowsLeft text₀ at (slices_of g w y n) text i e
 
-abbrev decreases-loop : tie.decreases-loop
+abbrev decreases-loop : tie.decreases-loop-i
 decreases-loop text₀ at g w y n i₀ e₀ text i e = length g - i
 
-loop-holds : tie.Need-loop-init invariant-loop decreases-loop
-loop-holds c = let p = c.before.before.before.before.before.requires in rows_start _ _ _ p.0 p.1
+loop-holds : tie.Need-loop-i-init invariant-loop decreases-loop
+loop-holds c = let p = c.requires in rows_start _ _ _ p.0 p.1
 
-put-row-requires : tie.Need-put-row-requires invariant-loop decreases-loop
-put-row-requires c κs = row_room c.before.before.before.before.before.loop.invariant c.before.before.before.before.loop-test.true
+put-row-requires : tie.Need-put_row-e-requires invariant-loop decreases-loop
+put-row-requires c κs = row_room c.loop-i.invariant c.loop-i-test.true
 
-loop-again : tie.Need-loop-preserved invariant-loop decreases-loop
+loop-again : tie.Need-loop-i-preserved invariant-loop decreases-loop
 loop-again c =
-    let top = c.before.before.before.before.before.before.before in
-    rows_next top.before.loop.invariant top.loop-test.true c.before.before.put-row.ensures
+    let top = c in
+    rows_next top.loop-i.invariant top.loop-i-test.true c.put_row-e.ensures
 
-same_length : tie.Need-same-length invariant-loop decreases-loop
-same_length c = c.before.loop.invariant.left.size
+same_length : tie.Need-shape_of-text invariant-loop decreases-loop
+same_length c = c.loop-i.invariant.left.size
 
 returns : tie.Need-returns invariant-loop decreases-loop
-returns c = rows_end c.before.loop.invariant c.loop-test.false
+returns c = rows_end c.loop-i.invariant c.loop-i-test.false
 
-pub put-rows-spec : {M : Type 1} → statement M
-put-rows-spec =
+pub put_rows_spec : {M : Type 1} → statement M
+put_rows_spec =
     tie.close
     (tie.spec
     invariant-loop decreases-loop loop-holds (λ c. search rules) (λ c. omega arith) (λ c. search rules) (λ c. omega arith) (λ c. search rules)

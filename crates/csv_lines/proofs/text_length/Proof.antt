@@ -6,11 +6,11 @@ use Rattle.csv_lines.proofs.text_length.Tie as tie
 
 returns : tie.Need-returns
 returns c =
-    text_length c.before.before.before.before.before.before.before.requires.0 c.before.before.digits-total.ensures c.before.digits-total2.ensures
-    c.digits-total3.ensures
+    text_length c.requires.0 c.digits_total.ensures c.digits_total-2.ensures
+    c.digits_total-3.ensures
 
-pub text-length-spec : {M : Type 1} → statement M
-text-length-spec =
+pub text_length_spec : {M : Type 1} → statement M
+text_length_spec =
     tie.close
     (tie.spec
     (λ c. search rules) (λ c. search rules) (λ c κs. search rules) (λ c. search rules) (λ c κs. search rules) (λ c. search rules)

@@ -7,7 +7,7 @@ use Rattle.scan.proofs.bad_scan.Statement.{statement}
 use Rattle.scan.proofs.bad_scan.Tie as tie
 
 returns : tie.Need-returns
-returns c = ap (λ (t : Totals). record { good = false; totals = t; blocks = 0 }) c.none.ensures
+returns c = ap (λ (t : Totals). record { good = false; totals = t; blocks = 0 }) c.none-totals.ensures
 
-pub bad-scan-spec : {M : Type 1} → statement M
-bad-scan-spec = tie.close (tie.spec (λ c κs. search rules) returns)
+pub bad_scan_spec : {M : Type 1} → statement M
+bad_scan_spec = tie.close (tie.spec (λ c κs. search rules) returns)

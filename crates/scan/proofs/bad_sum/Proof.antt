@@ -7,7 +7,7 @@ use Rattle.scan.proofs.bad_sum.Statement.{statement}
 use Rattle.scan.proofs.bad_sum.Tie as tie
 
 returns : tie.Need-returns
-returns c = ap (λ (t : Totals). record { good = false; totals = t }) c.none.ensures
+returns c = ap (λ (t : Totals). record { good = false; totals = t }) c.none-totals.ensures
 
-pub bad-sum-spec : {M : Type 1} → statement M
-bad-sum-spec = tie.close (tie.spec (λ c κs. search rules) returns)
+pub bad_sum_spec : {M : Type 1} → statement M
+bad_sum_spec = tie.close (tie.spec (λ c κs. search rules) returns)

@@ -12,5 +12,5 @@ returns : tie.Need-returns
 unfolding blocks_of ceil_div
 returns c = ap (λ (n : ℕ). n / c.args.block) (omega arith)
 
-pub blocks-of-spec : {M : Type 1} → statement M
-blocks-of-spec = tie.close (tie.spec (λ c. search rules) (λ c. search rules) (λ c. search rules) returns)
+pub blocks_of_spec : {M : Type 1} → statement M
+blocks_of_spec = tie.close (tie.spec (λ c. search rules) (λ c. search rules) (λ c. search rules) returns)

@@ -2,11 +2,11 @@
 use Rattle.scan.proofs.both.Statement.{statement}
 use Rattle.scan.proofs.both.Tie as tie
 
-returns : tie.Need-returns
-returns c = rw c.if1.true
+returns : tie.Need-returns-then-a
+returns c = rw c.if-a.true
 
-returns-2 : tie.Need-returns-2
-returns-2 c = rw c.if1.false
+returns-2 : tie.Need-returns
+returns-2 c = rw c.if-a.false
 
-pub both-spec : {M : Type 1} → statement M
-both-spec = tie.close (tie.spec returns returns-2)
+pub both_spec : {M : Type 1} → statement M
+both_spec = tie.close (tie.spec returns returns-2)

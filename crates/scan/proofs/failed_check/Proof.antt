@@ -21,25 +21,25 @@ inside : (c : tie.After-total) → (start c).args.start + c.total.result ≤ len
 inside c =
     let s = start c in
     let a = s.args in
-    omega (arith, c.total.ensures, parts_end a.lens.now a.from (a.to + 1 - a.from) a.start s.pre.4, s.pre.3)
+    omega (arith, c.total.ensures, parts_end a.lens.now a.from (a.to + 1 - a.from) a.start s.requires.4, s.requires.3)
 
-values : (c : tie.After-values-ok) (b : Bool) → c.values_ok_lem.result ≡ b
+values : (c : tie.After-values_ok) (b : Bool) → c.values_ok.result ≡ b
     → let a = (start c.before.before.before).args in every in_range (records_in a.lens.now a.from (a.to + 1 - a.from) (rows (slices_at a.g a.w a.y a.n))) ≡ b
 values c b e =
-    let t = c.before.before.before in
-    let s = start t in
+    let t = c in
+    let s = start t.before.before.before in
     let a = s.args in
-    parts_values a.lens.now a.from (a.to + 1 - a.from) a.start s.pre.4 (slices_at a.g a.w a.y a.n) s.pre.6 t.total.result t.total.ensures
-    ∙ sym c.values_ok_lem.ensures ∙ e
+    parts_values a.lens.now a.from (a.to + 1 - a.from) a.start s.requires.4 (slices_at a.g a.w a.y a.n) s.requires.6 t.total.result t.total.ensures
+    ∙ sym c.values_ok.ensures ∙ e
 
-returns : tie.Need-returns
-returns c = rw (values c.before _ c.if1.true)
+returns : tie.Need-returns-then-values_ok
+returns c = rw (values c.before _ c.if-values_ok.true)
 
-returns-2 : tie.Need-returns-2
-returns-2 c = rw (values c.before _ c.if1.false)
+returns-2 : tie.Need-returns
+returns-2 c = rw (values c.before _ c.if-values_ok.false)
 
-pub failed-check-spec : {M : Type 1} → statement M
-failed-check-spec =
+pub failed_check_spec : {M : Type 1} → statement M
+failed_check_spec =
     tie.close
     (tie.spec
     (λ c. omega arith)

@@ -6,11 +6,11 @@ use Rattle.model.proofs.Tests.{of_true}
 use Rattle.scan.proofs.is_every_day.Statement.{statement}
 use Rattle.scan.proofs.is_every_day.Tie as tie
 
-returns : tie.Need-returns
+returns : tie.Need-returns-then-first-ne0
 returns c = λ e. absurd (of_true false e)
 
-returns-2 : tie.Need-returns-2
-returns-2 c = λ e. (omega (arith, c.if1.false), eqb-true _ _ e)
+returns-2 : tie.Need-returns
+returns-2 c = λ e. (omega (arith, c.if-first-ne0.false), eqb-true _ _ e)
 
-pub is-every-day-spec : {M : Type 1} → statement M
-is-every-day-spec = tie.close (tie.spec returns returns-2)
+pub is_every_day_spec : {M : Type 1} → statement M
+is_every_day_spec = tie.close (tie.spec returns returns-2)

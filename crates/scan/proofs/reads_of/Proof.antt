@@ -6,12 +6,12 @@ use Rattle.model.proofs.AccessLaws.{reads_some}
 use Rattle.scan.proofs.reads_of.Statement.{statement}
 use Rattle.scan.proofs.reads_of.Tie as tie
 
-returns : tie.Need-returns
+returns : tie.Need-returns-then-blocks-eq0
 unfolding reads_of
-returns c = rw c.if1.true
+returns c = rw c.if-blocks-eq0.true
 
-returns-2 : tie.Need-returns-2
+returns-2 : tie.Need-returns
 returns-2 c = sym (reads_some _ (omega arith))
 
-pub reads-of-spec : {M : Type 1} → statement M
-reads-of-spec = tie.close (tie.spec returns (λ c. omega arith) returns-2)
+pub reads_of_spec : {M : Type 1} → statement M
+reads_of_spec = tie.close (tie.spec returns (λ c. omega arith) returns-2)

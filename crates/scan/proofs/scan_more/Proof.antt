@@ -23,61 +23,61 @@ use Rattle.scan.proofs.Summing.{sums, sum_light}
 use Rattle.scan.proofs.scan_more.Statement.{statement}
 use Rattle.scan.proofs.scan_more.Tie as tie
 
-abbrev start : tie.After-sum-part → tie.Start
+abbrev start : tie.After-sum_part-more → tie.Start
 start c = c.before.before.before.before.before.before.before
 
-abbrev records : tie.After-sum-part → List Delivery
+abbrev records : tie.After-sum_part-more → List Delivery
 records c = let a = (start c).args in rows (slices_at a.g a.w a.y a.n)
 
-size : (c : tie.After-sum-part) → length (records c) ≡ length (start c).args.g.now
+size : (c : tie.After-sum_part-more) → length (records c) ≡ length (start c).args.g.now
 size c = let a = (start c).args in length-rows (slices_at a.g a.w a.y a.n) (start c).requires.1
 
-abbrev totals : tie.After-sum-part → Totals
+abbrev totals : tie.After-sum_part-more → Totals
 totals c = let a = (start c).args in totals_during a.lo a.hi (span a.first a.last) (records c)
 
 -- what the sum of the partition's records says
-fits : (c : tie.After-sum-part) (b : Bool) → c.sum-part.result.good ≡ b → all_fit (records c) ≡ b
+fits : (c : tie.After-sum_part-more) (b : Bool) → c.sum_part-more.result.good ≡ b → all_fit (records c) ≡ b
 unfolding sum_all
-fits c = judged_says sums (all_fit (records c)) (totals c) c.sum-part.result c.sum-part.ensures
+fits c = judged_says sums (all_fit (records c)) (totals c) c.sum_part-more.result c.sum_part-more.ensures
 
-summed : (c : tie.After-sum-part) → c.sum-part.result.good ≡ true → c.sum-part.result.totals ≡ totals c
+summed : (c : tie.After-sum_part-more) → c.sum_part-more.result.good ≡ true → c.sum_part-more.result.totals ≡ totals c
 unfolding sum_all
-summed c = judged_value sums (all_fit (records c)) (totals c) c.sum-part.result c.sum-part.ensures
+summed c = judged_value sums (all_fit (records c)) (totals c) c.sum_part-more.result c.sum_part-more.ensures
 
-returns : tie.Need-returns
+returns : tie.Need-returns-then-not-s
 unfolding scan_more
-returns c = c.bad-scan.ensures ∙ rw (not-true c.before.before.before.before.before.before.before.args.s.good c.before.if1.true)
+returns c = c.bad_scan.ensures ∙ rw (not-true c.args.s.good c.if-not-s.true)
 
-returns-2 : tie.Need-returns-2
+returns-2 : tie.Need-returns-then-not-more
 unfolding scan_more
 returns-2 c =
-    let m = c.before.before.before in
-    c.bad-scan2.ensures ∙ rw (not-false (start m).args.s.good m.before.if1.false, fits m false (not-true _ c.before.if2.true))
+    let m = c in
+    c.bad_scan-then-not-more.ensures ∙ rw (not-false (start m.before.before.before).args.s.good m.if-not-s.false, fits m.before.before.before false (not-true _ c.if-not-more.true))
 
-plus-requires : tie.Need-plus-requires
+plus-requires : tie.Need-plus-totals-requires
 plus-requires c κs =
-    let m = c.before.before in
-    let a = (start m).args in
-    let small = sum_light a.lo a.hi (span a.first a.last) (records m) (omega (arith, size m)) in
-    ((start m).requires.3.light, subst (λ (x : Sum). LightTotals most_slots x.totals) (sym m.sum-part.ensures) small)
+    let m = c in
+    let a = (start m.before.before.before.before).args in
+    let small = sum_light a.lo a.hi (span a.first a.last) (records m.before.before.before.before) (omega (arith, size m.before.before.before.before)) in
+    ((start m.before.before.before.before).requires.3.light, subst (λ (x : Sum). LightTotals most_slots x.totals) (sym m.sum_part-more.ensures) small)
 
-add-blocks : tie.Need-overflow-add-blocks
+add-blocks : tie.Need-overflow_add-blocks
 add-blocks c =
-    let s = start c.before.before.before.before.before in
-    omega (arith, s.pre.3.short, c.before.blocks-of.ensures, blocks_most s.args.block (length s.args.g.now) s.pre.2)
+    let s = start c.before.before.before.before.before.before.before in
+    omega (arith, s.requires.3.short, c.blocks_of.ensures, blocks_most s.args.block (length s.args.g.now) s.requires.2)
 
-returns-3 : tie.Need-returns-3
+returns-3 : tie.Need-returns
 unfolding scan_more
 returns-3 c =
-    let m = c.before.before.before.before.before in
-    let a = (start m).args in
-    let good = not-false _ c.before.before.before.if2.false in
-    let t = c.before.before.plus.ensures ∙ ap (plus_totals a.s.totals) (summed m good) in
-    let k = c.before.blocks-of.ensures ∙ ap (blocks_of a.block) (sym (size m)) in
-    good_on bad_scan (not-false a.s.good m.before.if1.false) (fits m true good) (λ i. record { good = true; totals = t i; blocks = a.s.blocks + k i })
+    let m = c in
+    let a = (start m.before.before.before.before.before.before.before).args in
+    let good = not-false _ c.if-not-more.false in
+    let t = c.plus-totals.ensures ∙ ap (plus_totals a.s.totals) (summed m.before.before.before.before.before.before.before good) in
+    let k = c.blocks_of.ensures ∙ ap (blocks_of a.block) (sym (size m.before.before.before.before.before.before.before)) in
+    good_on bad_scan (not-false a.s.good m.if-not-s.false) (fits m.before.before.before.before.before.before.before true good) (λ i. record { good = true; totals = t i; blocks = a.s.blocks + k i })
 
-pub scan-more-spec : {M : Type 1} → statement M
-scan-more-spec =
+pub scan_more_spec : {M : Type 1} → statement M
+scan_more_spec =
     tie.close
     (tie.spec
     (λ c κs. search rules)

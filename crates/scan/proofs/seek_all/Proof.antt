@@ -12,48 +12,48 @@ use Rattle.scan.proofs.Seeking.{seek_start, seeking_next}
 use Rattle.scan.proofs.seek_all.Statement.{statement}
 use Rattle.scan.proofs.seek_all.Tie as tie
 
-abbrev invariant-loop : tie.invariant-loop
+abbrev invariant-loop : tie.invariant-loop-i
 invariant-loop g w y n d s₀ i₀ s i = Strides (seek_all d) (slices_of g w y n) s i
 
-abbrev decreases-loop : tie.decreases-loop
+abbrev decreases-loop : tie.decreases-loop-i
 decreases-loop g w y n d s₀ i₀ s i = length g - i
 
-abbrev start : tie.At-loop invariant-loop decreases-loop → tie.Start invariant-loop decreases-loop
+abbrev start : tie.At-loop-i invariant-loop decreases-loop → tie.Start invariant-loop decreases-loop
 start c = c.before.before.before.before.before
 
-seek-more-requires : tie.Need-seek-more-requires invariant-loop decreases-loop
+seek-more-requires : tie.Need-seek_more-s-requires invariant-loop decreases-loop
 seek-more-requires c κs =
-    let l = c.before.before.before.before.before in
-    let a = (start l).args in
-    let i = l.loop.i in
-    (simp (length-take, length-drop) (omega arith), even_part (slices_at a.g a.w a.y a.n) (i + 128 - i) i (start l).requires.1, omega arith)
+    let l = c in
+    let a = (start l.before.before.before.before.before).args in
+    let i = l.loop-i.i in
+    (simp (length-take, length-drop) (omega arith), even_part (slices_at a.g a.w a.y a.n) (i + 128 - i) i (start l.before.before.before.before.before).requires.1, omega arith)
 
-loop-again : tie.Need-loop-preserved invariant-loop decreases-loop
+loop-again : tie.Need-loop-i-preserved invariant-loop decreases-loop
 loop-again c =
-    let l = c.before.before.before.before.before.before in
-    let a = (start l).args in
-    let i = l.loop.i in
+    let l = c in
+    let a = (start l.before.before.before.before.before.before).args in
+    let i = l.loop-i.i in
     let e : i + 128 - i ≡ 128 = omega arith in
-    seeking_next a.d (slices_at a.g a.w a.y a.n) (start l).requires.1 l.loop.s i l.loop.invariant 128 _ (omega arith) (rw e at c.seek-more.ensures)
+    seeking_next a.d (slices_at a.g a.w a.y a.n) (start l.before.before.before.before.before.before).requires.1 l.loop-i.s i l.loop-i.invariant 128 _ (omega arith) (rw e at c.seek_more-s.ensures)
 
-seek-more-requires-2 : tie.Need-seek-more-requires-2 invariant-loop decreases-loop
+seek-more-requires-2 : tie.Need-seek_more-requires invariant-loop decreases-loop
 seek-more-requires-2 c κs =
-    let l = c.before.before.before.before.before in
-    let a = (start l).args in
-    let i = l.loop.i in
-    (simp (length-take, length-drop) (omega arith), even_part (slices_at a.g a.w a.y a.n) (length a.g.now - i) i (start l).requires.1, omega arith)
+    let l = c in
+    let a = (start l.before.before.before.before.before).args in
+    let i = l.loop-i.i in
+    (simp (length-take, length-drop) (omega arith), even_part (slices_at a.g a.w a.y a.n) (length a.g.now - i) i (start l.before.before.before.before.before).requires.1, omega arith)
 
 returns : tie.Need-returns invariant-loop decreases-loop
 returns c =
-    let l = c.before.before.before.before.before.before in
-    let a = (start l).args in
-    let i = l.loop.i in
+    let l = c in
+    let a = (start l.before.before.before.before.before.before).args in
+    let i = l.loop-i.i in
     let n = length a.g.now - i in
-    let k = seeking_next a.d (slices_at a.g a.w a.y a.n) (start l).requires.1 l.loop.s i l.loop.invariant n _ (omega arith) c.seek-more2.ensures in
-    strides_end (seek_all a.d) (slices_at a.g a.w a.y a.n) (start l).requires.1 _ (i + n) k (omega arith)
+    let k = seeking_next a.d (slices_at a.g a.w a.y a.n) (start l.before.before.before.before.before.before).requires.1 l.loop-i.s i l.loop-i.invariant n _ (omega arith) c.seek_more.ensures in
+    strides_end (seek_all a.d) (slices_at a.g a.w a.y a.n) (start l.before.before.before.before.before.before).requires.1 _ (i + n) k (omega arith)
 
-pub seek-all-spec : {M : Type 1} → statement M
-seek-all-spec =
+pub seek_all_spec : {M : Type 1} → statement M
+seek_all_spec =
     tie.close
     (tie.spec
     invariant-loop

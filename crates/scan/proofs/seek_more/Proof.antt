@@ -14,47 +14,47 @@ use Rattle.scan.proofs.Judging.{good_on}
 use Rattle.scan.proofs.seek_more.Statement.{statement}
 use Rattle.scan.proofs.seek_more.Tie as tie
 
-abbrev start : tie.After-all-fit → tie.Start
+abbrev start : tie.After-all_fit → tie.Start
 start c = c.before.before.before.before.before.before.before
 
 -- whether the new records pass both checks
-fits : (c : tie.After-all-fit) (b : Bool) → c.all-fit.result ≡ b → let a = (start c).args in all_fit (rows (slices_at a.g a.w a.y a.n)) ≡ b
-fits c b e = sym c.all-fit.ensures ∙ e
+fits : (c : tie.After-all_fit) (b : Bool) → c.all_fit.result ≡ b → let a = (start c).args in all_fit (rows (slices_at a.g a.w a.y a.n)) ≡ b
+fits c b e = sym c.all_fit.ensures ∙ e
 
-returns : tie.Need-returns
+returns : tie.Need-returns-then-not-s
 unfolding seek_more
-returns c = c.bad-sought.ensures ∙ rw (not-true c.before.before.before.before.before.before.before.args.s.good c.before.if1.true)
+returns c = c.bad_sought.ensures ∙ rw (not-true c.args.s.good c.if-not-s.true)
 
-returns-2 : tie.Need-returns-2
+returns-2 : tie.Need-returns-then-not-all_fit
 unfolding seek_more
 returns-2 c =
-    let f = c.before.before in
-    c.bad-sought2.ensures ∙ rw (not-false (start f).args.s.good f.before.if1.false, fits f false (not-true _ c.before.if2.true))
+    let f = c in
+    c.bad_sought-then-not-all_fit.ensures ∙ rw (not-false (start f.before.before).args.s.good f.if-not-s.false, fits f.before.before false (c.if-not-all_fit.true))
 
-returns-3 : tie.Need-returns-3
+returns-3 : tie.Need-returns-then-found-i
 unfolding seek_more
 returns-3 c =
-    let f = c.before.before in
-    let a = (start f).args in
-    good_on bad_sought (not-false a.s.good f.before.if1.false) (fits f true (not-false _ c.before.if2.false)) (rw (lt-ltb a.s.slot a.i c.if3.true))
+    let f = c in
+    let a = (start f.before.before).args in
+    good_on bad_sought (not-false a.s.good f.if-not-s.false) (fits f.before.before true (c.if-not-all_fit.false)) (rw (lt-ltb a.s.slot a.i c.if-found-i.true))
 
-add-slot : tie.Need-overflow-add-slot
+add-slot : tie.Need-overflow_add-slot
 add-slot c =
     let s = start c.before.before.before in
     let a = s.args in
     let ds = rows (slices_at a.g a.w a.y a.n) in
-    omega (arith, c.first-in-stride.ensures, first_most a.d ds, length-rows (slices_at a.g a.w a.y a.n) s.pre.1)
+    omega (arith, c.first_in_stride.ensures, first_most a.d ds, length-rows (slices_at a.g a.w a.y a.n) s.requires.1)
 
-returns-4 : tie.Need-returns-4
+returns-4 : tie.Need-returns
 unfolding seek_more
 returns-4 c =
-    let f = c.before.before.before in
-    let a = (start f).args in
-    good_on bad_sought (not-false a.s.good f.before.if1.false) (fits f true (not-false _ c.before.before.if2.false))
-    (rw (le-ltb a.s.slot a.i c.before.if3.false, c.first-in-stride.ensures))
+    let f = c in
+    let a = (start f.before.before.before).args in
+    good_on bad_sought (not-false a.s.good f.if-not-s.false) (fits f.before.before.before true (c.if-not-all_fit.false))
+    (rw (le-ltb a.s.slot a.i c.if-found-i.false, c.first_in_stride.ensures))
 
-pub seek-more-spec : {M : Type 1} → statement M
-seek-more-spec =
+pub seek_more_spec : {M : Type 1} → statement M
+seek_more_spec =
     tie.close
     (tie.spec
     (λ c κs. search rules)

@@ -17,49 +17,49 @@ use Rattle.scan.proofs.Summing.{measured, over_every_day}
 use Rattle.scan.proofs.sum_more.Statement.{statement}
 use Rattle.scan.proofs.sum_more.Tie as tie
 
-abbrev start : tie.After-all-fit → tie.Start
+abbrev start : tie.After-all_fit → tie.Start
 start c = c.before.before.before.before.before.before.before
 
-abbrev records : tie.After-all-fit → List Delivery
+abbrev records : tie.After-all_fit → List Delivery
 records c = let a = (start c).args in rows (slices_at a.g a.w a.y a.n)
 
 -- whether the new records pass both checks, and may then be totalled
-fits : (c : tie.After-all-fit) (b : Bool) → c.all-fit.result ≡ b → all_fit (records c) ≡ b
-fits c b e = sym c.all-fit.ensures ∙ e
+fits : (c : tie.After-all_fit) (b : Bool) → c.all_fit.result ≡ b → all_fit (records c) ≡ b
+fits c b e = sym c.all_fit.ensures ∙ e
 
-fit : (c : tie.Else2) → let a = (start c.before).args in Measured (slices_at a.g a.w a.y a.n)
+fit : (c : tie.Else-not-all_fit) → let a = (start c.before).args in Measured (slices_at a.g a.w a.y a.n)
 fit c =
     let s = start c.before in
     let a = s.args in
-    measured (slices_at a.g a.w a.y a.n) s.pre.0 s.pre.1 (fits c.before true (not-false _ c.if2.false))
+    measured (slices_at a.g a.w a.y a.n) s.requires.0 s.requires.1 (fits c.before true (c.if-not-all_fit.false))
 
-returns : tie.Need-returns
+returns : tie.Need-returns-then-not-s
 unfolding sum_more
-returns c = c.bad_sum.ensures ∙ rw (not-true c.before.before.before.before.before.before.before.args.s.good c.before.if1.true)
+returns c = c.bad_sum.ensures ∙ rw (not-true c.args.s.good c.if-not-s.true)
 
-returns-2 : tie.Need-returns-2
+returns-2 : tie.Need-returns-then-not-all_fit
 unfolding sum_more
 returns-2 c =
-    let f = c.before.before in
-    c.bad-sum2.ensures ∙ rw (not-false (start f).args.s.good f.before.if1.false, fits f false (not-true _ c.before.if2.true))
+    let f = c in
+    c.bad_sum-then-not-all_fit.ensures ∙ rw (not-false (start f.before.before).args.s.good f.if-not-s.false, fits f.before.before false (c.if-not-all_fit.true))
 
-plus-requires : tie.Need-plus-requires
+plus-requires : tie.Need-plus-totals-requires
 plus-requires c κs =
-    let s = start c.before.before in
+    let s = start c.before.before.before in
     let a = s.args in
-    (s.pre.2, measured_light a.lo a.hi (slices_at a.g a.w a.y a.n) (fit c.before) _ c.total-stride.ensures)
+    (s.requires.2, measured_light a.lo a.hi (slices_at a.g a.w a.y a.n) (fit c.before.before) _ c.total_stride-more.ensures)
 
-returns-3 : tie.Need-returns-3
+returns-3 : tie.Need-returns
 unfolding sum_more
 returns-3 c =
-    let f = c.before.before.before in
-    let a = (start f).args in
-    let good = not-false _ c.before.before.if2.false in
-    let t = c.plus.ensures ∙ ap (plus_totals a.s.totals) (c.before.total-stride.ensures ∙ over_every_day a.lo a.hi (records f) (fits f true good)) in
-    good_on bad_sum (not-false a.s.good f.before.if1.false) (fits f true good) (ap (λ (x : Totals). record { good = true; totals = x }) t)
+    let f = c in
+    let a = (start f.before.before.before.before).args in
+    let good = c.if-not-all_fit.false in
+    let t = c.plus-totals.ensures ∙ ap (plus_totals a.s.totals) (c.total_stride-more.ensures ∙ over_every_day a.lo a.hi (records f.before.before.before.before) (fits f.before.before.before.before true good)) in
+    good_on bad_sum (not-false a.s.good f.if-not-s.false) (fits f.before.before.before.before true good) (ap (λ (x : Totals). record { good = true; totals = x }) t)
 
-pub sum-more-spec : {M : Type 1} → statement M
-sum-more-spec =
+pub sum_more_spec : {M : Type 1} → statement M
+sum_more_spec =
     tie.close
     (tie.spec
     (λ c κs. search rules)

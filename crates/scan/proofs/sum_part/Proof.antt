@@ -9,12 +9,12 @@ use Rattle.scan.specs.Scans.{sum_all}
 use Rattle.scan.proofs.sum_part.Statement.{statement}
 use Rattle.scan.proofs.sum_part.Tie as tie
 
-returns : tie.Need-returns
+returns : tie.Need-returns-then-is_every_day
 returns c =
-    let d = c.before.before in
-    let a = d.before.before.before.before.before.args in
-    let e = d.is-every-day.ensures c.before.if1.true in
-    c.sum-all.ensures ∙ ap₂ (λ (x y : ℕ). sum_all a.lo a.hi (span x y) (rows (slices_at a.g a.w a.y a.n))) (sym e.0) (sym e.1)
+    let d = c in
+    let a = d.args in
+    let e = d.is_every_day.ensures c.if-is_every_day.true in
+    c.sum_all.ensures ∙ ap₂ (λ (x y : ℕ). sum_all a.lo a.hi (span x y) (rows (slices_at a.g a.w a.y a.n))) (sym e.0) (sym e.1)
 
-pub sum-part-spec : {M : Type 1} → statement M
-sum-part-spec = tie.close (tie.spec (λ c κs. search rules) (λ c κs. search rules) returns (λ c κs. search rules) (λ c. search rules))
+pub sum_part_spec : {M : Type 1} → statement M
+sum_part_spec = tie.close (tie.spec (λ c κs. search rules) (λ c κs. search rules) returns (λ c κs. search rules) (λ c. search rules))
