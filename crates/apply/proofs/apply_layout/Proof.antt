@@ -8,18 +8,18 @@ use Rattle.apply.proofs.Filling.{layout_same, accepted, apply_refused, apply_acc
 use Rattle.apply.proofs.apply_layout.Statement.{statement}
 use Rattle.apply.proofs.apply_layout.Tie as tie
 
-returns : tie.Need-returns
-returns c = apply_refused block_limit _ _ _ c.if1.true c.before.layout-refusal.ensures
+returns : tie.Need-returns-then-n-ne0
+returns c = apply_refused block_limit _ _ _ c.if-n-ne0.true c.layout_refusal-n.ensures
 
-directory-of-requires : tie.Need-directory-of-requires
+directory-of-requires : tie.Need-directory_of-directory-requires
 directory-of-requires c κs =
-    let g = c.before.before.before.before.before.before.before.args in
-    let a = accepted block_limit _ _ (sym c.before.layout-refusal.ensures ∙ c.if1.false) in
+    let g = c.args in
+    let a = accepted block_limit _ _ (sym c.layout_refusal-n.ensures ∙ c.if-n-ne0.false) in
     (a.0.sized, layout_same block_limit g.block g.used _ (slices_of g.growers.now [] [] []) g.ends.now refl a.1)
 
-returns-2 : tie.Need-returns-2
-returns-2 c = apply_accepted block_limit _ _ _ _ c.before.if1.false c.before.before.layout-refusal.ensures (c.directory-of.ensures _ _ _)
+returns-2 : tie.Need-returns
+returns-2 c = apply_accepted block_limit _ _ _ _ c.if-n-ne0.false c.layout_refusal-n.ensures (c.directory_of-directory.ensures _ _ _)
 
-pub apply-layout-spec : {M : Type 1} → statement M
-apply-layout-spec =
+pub apply_layout_spec : {M : Type 1} → statement M
+apply_layout_spec =
     tie.close (tie.spec (λ c κs. search rules) returns directory-of-requires returns-2)

@@ -12,46 +12,46 @@ use Rattle.apply.proofs.Filling.{Filling, fill_start, fill_next, fill_end, layou
 use Rattle.apply.proofs.directory_of.Statement.{statement}
 use Rattle.apply.proofs.directory_of.Tie as tie
 
-abbrev invariant-loop : tie.invariant-loop
+abbrev invariant-loop : tie.invariant-loop-i
 invariant-loop block used g ends d₀ start₀ i₀ d start i = (ws ys ns : List ℕ) → Filling block_limit (set_of block used g ws ys ns) ends d start i
 
-abbrev decreases-loop : tie.decreases-loop
+abbrev decreases-loop : tie.decreases-loop-i
 decreases-loop block used g ends d₀ start₀ i₀ d start i = length ends - i
 
 few : (c : tie.Start invariant-loop decreases-loop) → length c.args.ends.now ≤ block_limit
 few c = few_ends block_limit _ _ _ c.requires.0 c.requires.1
 
-blank-requires : tie.Need-blank-requires invariant-loop decreases-loop
+blank-requires : tie.Need-blank-d-requires invariant-loop decreases-loop
 blank-requires c κs = few c.before.before
 
-loop-holds : tie.Need-loop-init invariant-loop decreases-loop
-loop-holds c = λ ws ys ns. rw c.blank.ensures (fill_start block_limit _ _ (few c.before.before.before))
+loop-holds : tie.Need-loop-i-init invariant-loop decreases-loop
+loop-holds c = λ ws ys ns. rw c.blank-d.ensures (fill_start block_limit _ _ (few c.before.before.before))
 
-slice-aggregate-put : tie.Need-slice-aggregate-put invariant-loop decreases-loop
-slice-aggregate-put c = sym (c.before.before.before.before.before.loop.invariant [] [] []).long
+slice-aggregate-put : tie.Need-slice_bounds-put-end invariant-loop decreases-loop
+slice-aggregate-put c = sym (c.loop-i.invariant [] [] []).long
 
-sub-put : tie.Need-overflow-sub-put invariant-loop decreases-loop
-sub-put c = omega (arith, (c.before.before.before.before.before.loop.invariant [] [] []).reached (omega arith), c.before.before.block-stop.ensures [] [] [] [])
+sub-put : tie.Need-overflow_sub-stop invariant-loop decreases-loop
+sub-put c = omega (arith, (c.loop-i.invariant [] [] []).reached (omega arith), c.block_stop-stop.ensures [] [] [] [])
 
 put-requires : tie.Need-put-requires invariant-loop decreases-loop
-put-requires c κs = let v = c.before.before.before.before.before.loop.invariant [] [] [] in (v.long, omega (arith, v.few))
+put-requires c κs = let v = c.loop-i.invariant [] [] [] in (v.long, omega (arith, v.few))
 
-loop-less : tie.Need-loop-smaller invariant-loop decreases-loop
+loop-less : tie.Need-loop-i-smaller invariant-loop decreases-loop
 loop-less c = omega arith
 
-loop-again : tie.Need-loop-preserved invariant-loop decreases-loop
+loop-again : tie.Need-loop-i-preserved invariant-loop decreases-loop
 loop-again c =
     λ ws ys ns.
-    fill_next block_limit _ _ _ _ _ c.before.before.before.before.before.before.loop-test.true
-    (layout_same block_limit _ _ _ (slices_of _ ws ys ns) _ refl c.before.before.before.before.before.before.before.before.before.before.before.requires.1)
-    (c.before.before.before.before.before.before.before.loop.invariant ws ys ns) _ _ _ c.before.put.ensures
-    (c.before.before.before.before.block-stop.ensures [] ws ys ns) (c.before.before.before.last-grower.ensures ws ys ns)
+    fill_next block_limit _ _ _ _ _ c.loop-i-test.true
+    (layout_same block_limit _ _ _ (slices_of _ ws ys ns) _ refl c.requires.1)
+    (c.loop-i.invariant ws ys ns) _ _ _ c.put.ensures
+    (c.block_stop-stop.ensures [] ws ys ns) (c.last_grower-fence.ensures ws ys ns)
 
 returns : tie.Need-returns invariant-loop decreases-loop
-returns c = λ ws ys ns. fill_end block_limit _ _ _ _ _ c.loop-test.false (c.before.loop.invariant ws ys ns)
+returns c = λ ws ys ns. fill_end block_limit _ _ _ _ _ c.loop-i-test.false (c.loop-i.invariant ws ys ns)
 
-pub directory-of-spec : {M : Type 1} → statement M
-directory-of-spec =
+pub directory_of_spec : {M : Type 1} → statement M
+directory_of_spec =
     tie.close
     (tie.spec invariant-loop decreases-loop blank-requires loop-holds (λ c. search rules) (λ c. search rules) (λ c κs. search rules) (λ c κs. search rules)
     slice-aggregate-put sub-put put-requires (λ c. search rules) loop-less loop-again returns)

@@ -4,14 +4,14 @@ use Rattle.csv_rows.proofs.ShortLaws.{grower_elsewhere, weight_elsewhere, yield_
 use Rattle.csv_rows.proofs.in_order.Statement.{statement}
 use Rattle.csv_rows.proofs.in_order.Tie as tie
 
-returns : tie.Need-returns
-returns c = grower_elsewhere _ c.if1.true
+returns : tie.Need-returns-then-c-ne0
+returns c = grower_elsewhere _ c.if-c-ne0.true
 
-returns-2 : tie.Need-returns-2
-returns-2 c = weight_elsewhere _ (omega (arith, c.before.before.if1.false)) c.if2.true
+returns-2 : tie.Need-returns-then-c-ne1
+returns-2 c = weight_elsewhere _ (omega (arith, c.if-c-ne0.false)) c.if-c-ne1.true
 
-returns-3 : tie.Need-returns-3
-returns-3 c = yield_decides _ (omega (arith, c.before.before.before.if1.false)) (omega (arith, c.before.if2.false))
+returns-3 : tie.Need-returns
+returns-3 c = yield_decides _ (omega (arith, c.if-c-ne0.false)) (omega (arith, c.if-c-ne1.false))
 
-pub in-order-spec : {M : Type 1} → statement M
-in-order-spec = tie.close (tie.spec returns returns-2 returns-3)
+pub in_order_spec : {M : Type 1} → statement M
+in_order_spec = tie.close (tie.spec returns returns-2 returns-3)

@@ -5,13 +5,13 @@ use Rattle.csv_rows.proofs.RecordLaws.{step_read, step_skipped}
 use Rattle.csv_rows.proofs.next_field.Statement.{statement}
 use Rattle.csv_rows.proofs.next_field.Tie as tie
 
-returns : tie.Need-returns
-returns c = step_read c.before.Cell-at.ensures c.pick_all.ensures
+returns : tie.Need-returns-then-wanted
+returns c = step_read c.cell_at-f.ensures c.pick_all-p.ensures
 
-returns-2 : tie.Need-returns-2
-returns-2 c = step_skipped (sym c.before.if1.false ∙ c.before.before.wanted.ensures) c.skip-field.ensures
+returns-2 : tie.Need-returns
+returns-2 c = step_skipped (sym c.if-wanted.false ∙ c.wanted.ensures) c.skip_field-b.ensures
 
-pub next-field-spec : {M : Type 1} → statement M
-next-field-spec =
+pub next_field_spec : {M : Type 1} → statement M
+next_field_spec =
     tie.close
     (tie.spec (λ c κs. search rules) (λ c κs. search rules) (λ c κs. search rules) returns (λ c κs. search rules) returns-2)

@@ -3,11 +3,11 @@ use Rattle.csv_rows.proofs.RecordLaws.{picked_new, picked_old}
 use Rattle.csv_rows.proofs.picked.Statement.{statement}
 use Rattle.csv_rows.proofs.picked.Tie as tie
 
-returns : tie.Need-returns
-returns c = picked_new c.if1.true
+returns : tie.Need-returns-then-k-column
+returns c = picked_new c.if-k-column.true
 
-returns-2 : tie.Need-returns-2
-returns-2 c = picked_old c.if1.false
+returns-2 : tie.Need-returns
+returns-2 c = picked_old c.if-k-column.false
 
-pub picked-spec : {M : Type 1} → statement M
-picked-spec = tie.close (tie.spec returns returns-2)
+pub picked_spec : {M : Type 1} → statement M
+picked_spec = tie.close (tie.spec returns returns-2)

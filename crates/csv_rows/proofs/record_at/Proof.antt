@@ -5,9 +5,9 @@ use Rattle.csv_rows.proofs.ShortLaws.{three_is}
 use Rattle.csv_rows.proofs.record_at.Statement.{statement}
 use Rattle.csv_rows.proofs.record_at.Tie as tie
 
-returns-2 : tie.Need-returns-2
-returns-2 c = three_is c.before.before.before.short-record.ensures c.before.f.given.1
+returns-2 : tie.Need-returns
+returns-2 c = three_is c.short_record-f.ensures c.in-Three.is
 
-pub record-at-spec : {M : Type 1} → statement M
-record-at-spec =
+pub record_at_spec : {M : Type 1} → statement M
+record_at_spec =
     tie.close (tie.spec (λ c κs. search rules) (λ c. search rules) (λ c. search rules) (λ c κs. search rules) (λ c. search rules) returns-2)

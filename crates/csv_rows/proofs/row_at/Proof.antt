@@ -9,56 +9,55 @@ use Rattle.csv_rows.proofs.row_at.Tie as tie
 
 -- Past the test of the count, and past each number.
 
-read : (c : tie.Else1) →
-    let s = c.before.before.before.before.before.before.before in
-    let f = c.before.before.before.count.given.0 in
-    ReadAt s.args.text.now s.args.at s.args.c f.0 f.1.0 f.1.1.0 f.1.1.1.0 f.1.1.1.1.0
-read c = whole_is c.before.before.before.before.before.record-at.ensures c.before.before.before.count.given.1
+read : (c : tie.Else-count-c) →
+    let s = c in
+    ReadAt s.args.text.now s.args.at s.args.c c.in-Whole.count c.in-Whole.grower c.in-Whole.weight c.in-Whole.oil_yield c.in-Whole.next
+read c = whole_is c.record_at.ensures c.in-Whole.is
 
-abbrev counted : tie.After-known-told2 → tie.Else1
-counted c = c.before.before.before
+abbrev counted : tie.In-Value → tie.Else-count-c
+counted c = c.before
 
-abbrev grown : tie.After-known-told3 → tie.After-known-told2
-grown c = c.before.before.before
+abbrev grown : tie.In-Value-weight → tie.In-Value
+grown c = c.before
 
-abbrev weighed : tie.After-known-told4 → tie.After-known-told3
-weighed c = c.before.before.before
+abbrev weighed : tie.In-Value-oil_yield → tie.In-Value-weight
+weighed c = c.before
 
-returns : tie.Need-returns
-returns c = row_broken (broken_is c.before.before.record-at.ensures c.enum_told.given.1)
+returns : tie.Need-returns-in_default
+returns c = row_broken (broken_is c.record_at.ensures c.in_default.is)
 
-returns-2 : tie.Need-returns-2
-returns-2 c = row_count (whole_is c.before.before.before.before.before.record-at.ensures c.before.before.before.count.given.1) (λ z. omega arith)
+returns-2 : tie.Need-returns-then-count-c
+returns-2 c = row_count (whole_is c.record_at.ensures c.in-Whole.is) (λ z. omega arith)
 
-returns-3 : tie.Need-returns-3
-returns-3 c = let e = c.before.before in row_no_grower (read e) (omega arith) c.enum-told2.given.1
+returns-3 : tie.Need-returns-in_default-grower
+returns-3 c = let e = c in row_no_grower (read e.before) (omega arith) c.in_default-grower.is
 
-returns-4 : tie.Need-returns-4
-returns-4 c = let e = counted c.before.before in row_no_weight (read e) (omega arith) (none_there most_weight c.enum-told3.given.1)
+returns-4 : tie.Need-returns-in_default-weight
+returns-4 c = let e = counted c.before in row_no_weight (read e) (omega arith) (none_there most_weight c.in_default-weight.is)
 
-returns-5 : tie.Need-returns-5
-returns-5 c = let e = counted (grown c.before.before) in row_no_yield (read e) (omega arith) (none_there most_yield c.enum-told4.given.1)
+returns-5 : tie.Need-returns-in_default-oil_yield
+returns-5 c = let e = counted (grown c.before) in row_no_yield (read e) (omega arith) (none_there most_yield c.in_default-oil_yield.is)
 
-returns-6 : tie.Need-returns-6
+returns-6 : tie.Need-returns-then-v-gt-MOST_WEIGHT
 returns-6 c =
     let w = weighed c.before in
-    let e = counted (grown w) in row_no_weight (read e) (omega arith) (too_large most_weight w.before.weight.given.1 (omega arith))
+    let e = counted (grown w) in row_no_weight (read e) (omega arith) (too_large most_weight w.in-Value-weight.is (omega arith))
 
-returns-7 : tie.Need-returns-7
+returns-7 : tie.Need-returns-then-z-gt-MOST_YIELD
 returns-7 c =
-    let y = c.before.before in
-    let e = counted (grown (weighed y)) in row_no_yield (read e) (omega arith) (too_large most_yield y.before.oil-yield.given.1 (omega arith))
+    let y = c in
+    let e = counted (grown (weighed y.before.before)) in row_no_yield (read e) (omega arith) (too_large most_yield y.in-Value-oil_yield.is (omega arith))
 
-returns-8 : tie.Need-returns-8
+returns-8 : tie.Need-returns
 returns-8 c =
-    let y = c.before.before in
-    let w = weighed y in
+    let y = c in
+    let w = weighed y.before.before in
     let e = counted (grown w) in
-    row_good (read e) (omega arith) (grown w).before.grower.given.1 (in_range_lem most_weight w.before.weight.given.1 (omega arith))
-    (in_range_lem most_yield y.before.oil-yield.given.1 (omega arith))
+    row_good (read e) (omega arith) (grown w).in-Value.is (in_range_lem most_weight w.in-Value-weight.is (omega arith))
+    (in_range_lem most_yield y.in-Value-oil_yield.is (omega arith))
 
-pub row-at-spec : {M : Type 1} → statement M
-row-at-spec =
+pub row_at_spec : {M : Type 1} → statement M
+row_at_spec =
     tie.close
     (tie.spec
     (λ c κs. search rules) (λ c. search rules) (λ c. search rules) returns returns-2 (λ c. search rules) (λ c. search rules) returns-3

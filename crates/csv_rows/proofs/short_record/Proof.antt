@@ -13,30 +13,29 @@ use Rattle.csv_rows.proofs.short_record.Tie as tie
 
 -- the first number and the second
 
-abbrev from : tie.After-known-told → tie.Start
-from c = c.before.before.before.before.before.before.before
+abbrev from : tie.In-Read → tie.Start
+from c = c.before.before.before.before.before
 
-abbrev one : tie.After-known-told2 → tie.After-known-told
-one c = c.before.before.before.before
+abbrev one : tie.In-Read-b → tie.In-Read
+one c = c.before.before
 
-first : (c : tie.After-known-told) →
-    let a = c.before.a.given.0 in CellAt (from c).args.text.now (from c).args.at (Value a.0) true a.1.0
-first c = short_cell_is c.before.before.before.short-before-comma.ensures c.before.a.given.1
+first : (c : tie.In-Read) →
+    CellAt (from c).args.text.now (from c).args.at (Value c.in-Read.g) true c.in-Read.p
+first c = short_cell_is c.short_before_comma-a.ensures c.in-Read.is
 
-second : (c : tie.After-known-told2) →
-    let a = (one c).before.a.given.0 in
-    let b = c.before.b.given.0 in CellAt (from (one c)).args.text.now a.1.0 (Value b.0) true b.1.0
-second c = short_cell_is c.before.before.before.short-before-comma2.ensures c.before.b.given.1
+second : (c : tie.In-Read-b) →
+    CellAt (from (one c)).args.text.now (one c).in-Read.p (Value c.in-Read-b.w) true c.in-Read-b.q
+second c = short_cell_is c.short_before_comma-b.ensures c.in-Read-b.is
 
-returns-5 : tie.Need-returns-5
+returns-5 : tie.Need-returns
 returns-5 c =
-    let b = c.before.before.before.before in
-    let a = one b in
-    short_three _ (from a).pre (first a) (second b) (short_cell_is c.before.before.before.short-before-end.ensures c.before.e.given.1)
-    (sym a.before.before.before.before.before.in_order.ensures ∙ not-false _ a.before.before.before.before.if1.left)
+    let b = c in
+    let a = one b.before.before in
+    short_three _ (from a).requires (first a) (second b.before.before) (short_cell_is c.short_before_end-e.ensures c.in-Read-e.is)
+    (sym a.in_order.ensures ∙ a.if-not-in_order.false)
 
-pub short-record-spec : {M : Type 1} → statement M
-short-record-spec =
+pub short_record_spec : {M : Type 1} → statement M
+short_record_spec =
     tie.close
     (tie.spec
     (λ c κs. search rules) (λ c. search rules) (λ c κs. search rules) (λ c. search rules) (λ c. search rules) (λ c. search rules)

@@ -6,9 +6,9 @@ use Rattle.csv_rows.proofs.store.Tie as tie
 
 returns : tie.Need-returns
 returns c =
-    let r = c.before.before.before.before.before.before in
-    let l = r.before.before.before.before in
-    all_stored l.before.before.before.before.before.requires l.least.ensures _ r.read-rows.ensures
+    let r = c in
+    let l = r in
+    all_stored l.requires l.least-room.ensures _ r.read_rows.ensures
 
 pub store_spec : {M : Type 1} → statement M
 store_spec =

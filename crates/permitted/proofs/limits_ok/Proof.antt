@@ -5,13 +5,13 @@ use Rattle.checks.proofs.Answers.{and_no, and_yes}
 use Rattle.permitted.proofs.limits_ok.Statement.{statement}
 use Rattle.permitted.proofs.limits_ok.Tie as tie
 
-returns : tie.Need-returns
+returns : tie.Need-returns-then-limits-gt-MOST_LIMIT
 unfolding limits_ok
-returns c = and_no _ _ (lt-leb _ _ c.if1.true)
+returns c = and_no _ _ (lt-leb _ _ c.if-limits-gt-MOST_LIMIT.true)
 
-returns-2 : tie.Need-returns-2
+returns-2 : tie.Need-returns
 unfolding limits_ok
-returns-2 c = and_yes _ _ (le-leb _ _ c.before.if1.false)
+returns-2 c = and_yes _ _ (le-leb _ _ c.if-limits-gt-MOST_LIMIT.false)
 
-pub limits-ok-spec : {M : Type 1} → statement M
-limits-ok-spec = tie.close (tie.spec returns returns-2)
+pub limits_ok_spec : {M : Type 1} → statement M
+limits_ok_spec = tie.close (tie.spec returns returns-2)

@@ -12,19 +12,19 @@ use Rattle.permitted.proofs.longest_partition.Tie as tie
 small : (s : tie.Start) → (s.args.limits.read - s.args.card.rr) / s.args.card.sr ≤ most_number
 small s = omega (arith, div-le_self (s.args.limits.read - s.args.card.rr) s.args.card.sr)
 
-cast-result : tie.Need-overflow-cast-result
+cast-result : tie.Need-overflow_cast-result
 cast-result c = omega (arith, small c.before.before.before.before.before.before)
 
-add-result : tie.Need-overflow-add-result
+add-result : tie.Need-overflow_add-result
 add-result c = omega (arith, small c.before.before.before.before.before.before)
 
-returns : tie.Need-returns
+returns : tie.Need-returns-then-card-limits
 returns c =
-    let a = c.before.before.before.before.before.before.args in
-    omega (arith, longest_some a.card a.limits c.before.before.before.if1.true)
+    let a = c.args in
+    omega (arith, longest_some a.card a.limits c.if-card-limits.true)
 
-returns-2 : tie.Need-returns-2
-returns-2 c = let a = c.before.before.before.args in longest_none a.card a.limits (omega arith)
+returns-2 : tie.Need-returns
+returns-2 c = let a = c.args in longest_none a.card a.limits (omega arith)
 
-pub longest-partition-spec : {M : Type 1} → statement M
-longest-partition-spec = tie.close (tie.spec (λ c. search rules) cast-result add-result returns returns-2)
+pub longest_partition_spec : {M : Type 1} → statement M
+longest_partition_spec = tie.close (tie.spec (λ c. search rules) cast-result add-result returns returns-2)

@@ -8,42 +8,42 @@ use Rattle.permitted.proofs.Given.{marked_start, marked_more}
 use Rattle.permitted.proofs.mark.Statement.{statement}
 use Rattle.permitted.proofs.mark.Tie as tie
 
-abbrev invariant-loop : tie.invariant-loop
+abbrev invariant-loop : tie.invariant-loop-i
 invariant-loop block used growers n fits₀ i₀ fits i = (i ≤ n) × Marked block used growers i fits₀ fits
 
-abbrev decreases-loop : tie.decreases-loop
+abbrev decreases-loop : tie.decreases-loop-i
 decreases-loop block used growers n fits₀ i₀ fits i = n - i
 
-loop-holds : tie.Need-loop-init invariant-loop decreases-loop
+loop-holds : tie.Need-loop-i-init invariant-loop decreases-loop
 loop-holds c = (omega arith, marked_start _ _ _ _)
 
-cast-separates-none : tie.Need-overflow-cast-separates-none invariant-loop decreases-loop
+cast-separates-none : tie.Need-overflow_cast-i invariant-loop decreases-loop
 cast-separates-none c = omega arith
 
-separates-none-requires : tie.Need-separates-none-requires invariant-loop decreases-loop
-separates-none-requires c κs = c.before.before.before.before.requires.0
+separates-none-requires : tie.Need-separates_none-v-requires invariant-loop decreases-loop
+separates-none-requires c κs = c.requires.0
 
-slice-write-fits : tie.Need-slice-write-fits invariant-loop decreases-loop
-slice-write-fits c = omega (arith, c.before.before.loop.invariant.1.long)
+slice-write-fits : tie.Need-bounds-fits-i invariant-loop decreases-loop
+slice-write-fits c = omega (arith, c.loop-i.invariant.1.long)
 
-add-i : tie.Need-overflow-add-i invariant-loop decreases-loop
+add-i : tie.Need-overflow_add-i invariant-loop decreases-loop
 add-i c = omega arith
 
-loop-less : tie.Need-loop-smaller invariant-loop decreases-loop
+loop-less : tie.Need-loop-i-smaller invariant-loop decreases-loop
 loop-less c = omega arith
 
-loop-again : tie.Need-loop-preserved invariant-loop decreases-loop
+loop-again : tie.Need-loop-i-preserved invariant-loop decreases-loop
 loop-again c =
-    let loop = c.before.before.loop in
-    (omega arith, marked_more _ _ _ _ _ _ _ loop.invariant.1 (omega arith) (c.separates-none.ensures [] [] []))
+    let loop = c.loop-i in
+    (omega arith, marked_more _ _ _ _ _ _ _ loop.invariant.1 (omega arith) (c.separates_none-v.ensures [] [] []))
 
-same_length : tie.Need-same-length invariant-loop decreases-loop
-same_length c = c.before.loop.invariant.1.long
+same_length : tie.Need-shape_of-fits invariant-loop decreases-loop
+same_length c = c.loop-i.invariant.1.long
 
 returns : tie.Need-returns invariant-loop decreases-loop
 returns c =
-    let a = c.before.before.before.before.args in
-    let l = c.before.loop in
+    let a = c.args in
+    let l = c.loop-i in
     let x : l.i ≡ a.n = omega arith in
     rw x at l.invariant.1
 

@@ -7,18 +7,18 @@ use borrow.Author.Rules.{rules}
 use Rattle.permitted.proofs.most_partitions.Statement.{statement}
 use Rattle.permitted.proofs.most_partitions.Tie as tie
 
-returns : tie.Need-returns
+returns : tie.Need-returns-then-x-eq0
 unfolding most_partitions
 returns c = omega arith
 
-cast-result : tie.Need-overflow-cast-result
+cast-result : tie.Need-overflow_cast-result
 cast-result c =
-    let a = c.before.before.before.args in
+    let a = c.args in
     omega (arith, div-le_self a.limits.insert (a.card.rr + a.card.«rw»))
 
-returns-2 : tie.Need-returns-2
+returns-2 : tie.Need-returns
 unfolding most_partitions
 returns-2 c = omega arith
 
-pub most-partitions-spec : {M : Type 1} → statement M
-most-partitions-spec = tie.close (tie.spec (λ c. search rules) (λ c. search rules) returns (λ c. search rules) cast-result returns-2)
+pub most_partitions_spec : {M : Type 1} → statement M
+most_partitions_spec = tie.close (tie.spec (λ c. search rules) (λ c. search rules) returns (λ c. search rules) cast-result returns-2)

@@ -7,14 +7,14 @@ use Rattle.permitted.proofs.Given.{counted_given}
 use Rattle.permitted.proofs.plan_refusal.Statement.{statement}
 use Rattle.permitted.proofs.plan_refusal.Tie as tie
 
-returns : tie.Need-returns
-returns c = fails 1 _ _ (sym c.before.given-ok.ensures ∙ not-true _ c.if1.true)
+returns : tie.Need-returns-then-not-given_ok
+returns c = fails 1 _ _ (sym c.given_ok.ensures ∙ c.if-not-given_ok.true)
 
-returns-2 : tie.Need-returns-2
+returns-2 : tie.Need-returns
 returns-2 c =
-    let given-ok = c.before.before.given-ok in
-    passes 1 _ _ _ (sym given-ok.ensures ∙ not-false _ c.before.if1.false) (c.counted-refusal.ensures ∙ counted_given _ _ _)
+    let given-ok = c.given_ok in
+    passes 1 _ _ _ (sym given-ok.ensures ∙ c.if-not-given_ok.false) (c.counted_refusal.ensures ∙ counted_given _ _ _)
 
-pub plan-refusal-spec : {M : Type 1} → statement M
-plan-refusal-spec =
+pub plan_refusal_spec : {M : Type 1} → statement M
+plan_refusal_spec =
     tie.close (tie.spec (λ c κs. search rules) returns (λ c κs. search rules) returns-2)

@@ -8,22 +8,22 @@ use borrow.Author.Rules.{rules}
 use Rattle.permitted.proofs.prices_ok.Statement.{statement}
 use Rattle.permitted.proofs.prices_ok.Tie as tie
 
-rr-ok : (c : tie.Else1) → price_ok c.before.before.args.card.rr ≡ true
-rr-ok c = sym c.before.price-ok.ensures ∙ not-false _ c.if1.false
+rr-ok : (c : tie.Else-not-price_ok) → price_ok c.args.card.rr ≡ true
+rr-ok c = sym c.price_ok.ensures ∙ c.if-not-price_ok.false
 
-returns : tie.Need-returns
-returns c = rr_fails _ (sym c.before.price-ok.ensures ∙ not-true _ c.if1.true)
+returns : tie.Need-returns-then-not-price_ok
+returns c = rr_fails _ (sym c.price_ok.ensures ∙ c.if-not-price_ok.true)
 
-returns-2 : tie.Need-returns-2
-returns-2 c = sr_fails _ (rr-ok c.before.before) (sym c.before.price-ok2.ensures ∙ not-true _ c.if2.true)
+returns-2 : tie.Need-returns-then-not-price_ok-2
+returns-2 c = sr_fails _ (rr-ok c.before.before) (sym c.price_ok-2.ensures ∙ c.if-not-price_ok-2.true)
 
-returns-3 : tie.Need-returns-3
+returns-3 : tie.Need-returns
 returns-3 c =
-    let e = c.before in
-    c.price-ok3.ensures ∙ rw_left _ (rr-ok e.before.before) (sym e.before.price-ok2.ensures ∙ not-false _ e.if2.false)
+    let e = c in
+    c.price_ok-3.ensures ∙ rw_left _ (rr-ok e.before.before.before) (sym e.price_ok-2.ensures ∙ e.if-not-price_ok-2.false)
 
-pub prices-ok-spec : {M : Type 1} → statement M
-prices-ok-spec =
+pub prices_ok_spec : {M : Type 1} → statement M
+prices_ok_spec =
     tie.close
     (tie.spec
     (λ c κs. search rules)

@@ -13,33 +13,33 @@ use Rattle.model.specs.Lent.{set_of}
 use Rattle.sets.proofs.all_separate_none.Statement.{statement}
 use Rattle.sets.proofs.all_separate_none.Tie as tie
 
-abbrev invariant-loop : tie.invariant-loop
+abbrev invariant-loop : tie.invariant-loop-i
 invariant-loop block used g ends i₀ i = Flagged (separates_none (set_of block used g [] [] [])) ends true i
 
-abbrev decreases-loop : tie.decreases-loop
+abbrev decreases-loop : tie.decreases-loop-i
 decreases-loop block used g ends i₀ i = length ends - i
 
-loop-holds : tie.Need-loop-init invariant-loop decreases-loop
+loop-holds : tie.Need-loop-i-init invariant-loop decreases-loop
 loop-holds c = flag_start _ _
 
-returns : tie.Need-returns invariant-loop decreases-loop
+returns : tie.Need-returns-then-not-separates_none invariant-loop decreases-loop
 returns c =
-    let t = c.before.before.before in
-    λ ws ys ns. (flag_bad _ _ _ _ t.loop-test.true t.before.loop.invariant (sym (c.before.separates-none.ensures [] [] []) ∙ not-true _ c.if1.true)).so_far
+    let t = c in
+    λ ws ys ns. (flag_bad _ _ _ _ t.loop-i-test.true t.loop-i.invariant (sym (c.separates_none.ensures [] [] []) ∙ c.if-not-separates_none.true)).so_far
 
-loop-less : tie.Need-loop-smaller invariant-loop decreases-loop
+loop-less : tie.Need-loop-i-smaller invariant-loop decreases-loop
 loop-less c = omega arith
 
-loop-again : tie.Need-loop-preserved invariant-loop decreases-loop
+loop-again : tie.Need-loop-i-preserved invariant-loop decreases-loop
 loop-again c =
-    let t = c.before.before.before in
-    flag_good _ _ _ _ t.loop-test.true t.before.loop.invariant (sym (c.before.separates-none.ensures [] [] []) ∙ not-false _ c.if1.false)
+    let t = c in
+    flag_good _ _ _ _ t.loop-i-test.true t.loop-i.invariant (sym (c.separates_none.ensures [] [] []) ∙ c.if-not-separates_none.false)
 
-returns-2 : tie.Need-returns-2 invariant-loop decreases-loop
-returns-2 c = λ ws ys ns. flag_end _ _ _ _ c.loop-test.false c.before.loop.invariant
+returns-2 : tie.Need-returns invariant-loop decreases-loop
+returns-2 c = λ ws ys ns. flag_end _ _ _ _ c.loop-i-test.false c.loop-i.invariant
 
-pub all-separate-none-spec : {M : Type 1} → statement M
-all-separate-none-spec =
+pub all_separate_none_spec : {M : Type 1} → statement M
+all_separate_none_spec =
     tie.close
     (tie.spec
     invariant-loop

@@ -10,36 +10,36 @@ use Rattle.sets.proofs.Blocks.{Seeking, seek_next, seek_found, seek_end}
 use Rattle.sets.proofs.block_of.Statement.{statement}
 use Rattle.sets.proofs.block_of.Tie as tie
 
-abbrev invariant-loop : tie.invariant-loop
+abbrev invariant-loop : tie.invariant-loop-i
 invariant-loop block used g x last i₀ i = Seeking block used g x last i
 
-abbrev decreases-loop : tie.decreases-loop
+abbrev decreases-loop : tie.decreases-loop-i
 decreases-loop block used g x last i₀ i = last - i
 
-sub-last : tie.Need-overflow-sub-last invariant-loop decreases-loop
-sub-last c = omega (arith, c.block-count.ensures, blocks-least c.before.before.requires)
+sub-last : tie.Need-overflow_sub-last invariant-loop decreases-loop
+sub-last c = omega (arith, c.block_count-last.ensures, blocks-least c.requires)
 
-loop-holds : tie.Need-loop-init invariant-loop decreases-loop
-loop-holds c = record { at = omega arith; is_last = omega (arith, c.block-count.ensures, blocks-least c.before.before.requires); before = λ j h. absurd (omega arith) }
+loop-holds : tie.Need-loop-i-init invariant-loop decreases-loop
+loop-holds c = record { at = omega arith; is_last = omega (arith, c.block_count-last.ensures, blocks-least c.requires); before = λ j h. absurd (omega arith) }
 
-returns : tie.Need-returns invariant-loop decreases-loop
+returns : tie.Need-returns-then-x-k invariant-loop decreases-loop
 returns c =
-    let t = c.before.before in
-    λ ws ys ns. seek_found _ _ _ _ _ _ t.before.loop.invariant ws ys ns t.loop-test.true (rw (sym (c.before.last-grower.ensures [] [] [])) c.if1.true)
+    let t = c in
+    λ ws ys ns. seek_found _ _ _ _ _ _ t.loop-i.invariant ws ys ns t.loop-i-test.true (rw (sym (c.last_grower-k.ensures [] [] [])) c.if-x-k.true)
 
-loop-less : tie.Need-loop-smaller invariant-loop decreases-loop
+loop-less : tie.Need-loop-i-smaller invariant-loop decreases-loop
 loop-less c = omega arith
 
-loop-again : tie.Need-loop-preserved invariant-loop decreases-loop
+loop-again : tie.Need-loop-i-preserved invariant-loop decreases-loop
 loop-again c =
-    let t = c.before.before in
-    seek_next _ _ _ _ _ _ t.before.loop.invariant t.loop-test.true (rw (sym (c.before.last-grower.ensures [] [] [])) c.if1.false)
+    let t = c in
+    seek_next _ _ _ _ _ _ t.loop-i.invariant t.loop-i-test.true (rw (sym (c.last_grower-k.ensures [] [] [])) c.if-x-k.false)
 
-returns-2 : tie.Need-returns-2 invariant-loop decreases-loop
-returns-2 c = λ ws ys ns. seek_end _ _ _ _ _ _ c.before.loop.invariant ws ys ns c.loop-test.false
+returns-2 : tie.Need-returns invariant-loop decreases-loop
+returns-2 c = λ ws ys ns. seek_end _ _ _ _ _ _ c.loop-i.invariant ws ys ns c.loop-i-test.false
 
-pub block-of-spec : {M : Type 1} → statement M
-block-of-spec =
+pub block_of_spec : {M : Type 1} → statement M
+block_of_spec =
     tie.close
     (tie.spec
     invariant-loop

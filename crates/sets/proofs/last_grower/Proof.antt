@@ -8,19 +8,19 @@ use lib.ListN.{get_or}
 use Rattle.sets.proofs.last_grower.Statement.{statement}
 use Rattle.sets.proofs.last_grower.Tie as tie
 
-sub-x : tie.Need-overflow-sub-x
-sub-x c = omega (arith, c.block-stop.ensures [] [] [] [])
+sub-x : tie.Need-overflow_sub-x
+sub-x c = omega (arith, c.block_stop.ensures [] [] [] [])
 
-shared-slice-read-result : tie.Need-shared-slice-read-result
-shared-slice-read-result c = omega (arith, c.before.block-stop.ensures [] [] [] [])
+shared-slice-read-result : tie.Need-bounds-g-x
+shared-slice-read-result c = omega (arith, c.block_stop.ensures [] [] [] [])
 
 returns : tie.Need-returns
 returns c =
     λ ws ys ns.
-    let g = c.before.before.before.args in
-    ap (λ (n : ℕ). get_or g.g.now (n - 1) 0) (c.before.block-stop.ensures g.g.now ws ys ns)
+    let g = c.args in
+    ap (λ (n : ℕ). get_or g.g.now (n - 1) 0) (c.block_stop.ensures g.g.now ws ys ns)
 
-pub last-grower-spec : {M : Type 1} → statement M
-last-grower-spec =
+pub last_grower_spec : {M : Type 1} → statement M
+last_grower_spec =
     tie.close
     (tie.spec (λ c κs. search rules) (λ c. search rules) sub-x (λ c. search rules) shared-slice-read-result returns)

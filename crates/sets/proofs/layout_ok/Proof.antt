@@ -11,33 +11,33 @@ use Rattle.sets.proofs.Sets.{layout_empty, layout_falls, layout_short, layout_pa
 use Rattle.sets.proofs.layout_ok.Statement.{statement}
 use Rattle.sets.proofs.layout_ok.Tie as tie
 
-rises : (c : tie.Else2) → rising c.before.before.before.before.before.args.ends.now ≡ true
-rises c = sym c.before.strictly-rising.ensures ∙ not-false _ c.if2.false
+rises : (c : tie.Else-not-strictly_rising) → rising c.args.ends.now ≡ true
+rises c = sym c.strictly_rising.ensures ∙ c.if-not-strictly_rising.false
 
-returns : tie.Need-returns
-returns c = λ ws ys ns. layout_empty _ _ c.if1.true
+returns : tie.Need-returns-then-k-lt1
+returns c = λ ws ys ns. layout_empty _ _ c.if-k-lt1.true
 
-returns-2 : tie.Need-returns-2
-returns-2 c = λ ws ys ns. layout_falls _ _ c.before.before.if1.false (sym c.before.strictly-rising.ensures ∙ not-true _ c.if2.true)
+returns-2 : tie.Need-returns-then-not-strictly_rising
+returns-2 c = λ ws ys ns. layout_falls _ _ c.if-k-lt1.false (sym c.strictly_rising.ensures ∙ c.if-not-strictly_rising.true)
 
-cast-if3 : tie.Need-overflow-cast-if3
-cast-if3 c = omega (arith, c.shared-slice-known3.given (length c.before.before.before.before.before.before.args.ends.now - 1))
+cast-if3 : tie.Need-overflow_cast-ends
+cast-if3 c = omega (arith, c.shared_slice_known-3-1.given (length c.args.ends.now - 1))
 
-add-if3 : tie.Need-overflow-add-if3
-add-if3 c = omega (arith, c.shared-slice-known3.given (length c.before.before.before.before.before.before.args.ends.now - 1))
+add-if3 : tie.Need-overflow_add-ends
+add-if3 c = omega (arith, c.shared_slice_known-3-1.given (length c.args.ends.now - 1))
 
-returns-3 : tie.Need-returns-3
+returns-3 : tie.Need-returns-then-ends-last
 returns-3 c =
-    let e = c.before.before.before in
-    λ ws ys ns. layout_short _ _ e.before.before.if1.false (rises e) (λ z. c.if3.true (z ∙ sym c.before.block-count.ensures))
+    let e = c in
+    λ ws ys ns. layout_short _ _ e.if-k-lt1.false (rises e.before.before.before) (λ z. c.if-ends-last.true (z ∙ sym c.block_count.ensures))
 
-returns-4 : tie.Need-returns-4
+returns-4 : tie.Need-returns
 returns-4 c =
-    let e = c.before.before.before.before in
-    λ ws ys ns. c.all-separate-none.ensures ws ys ns ∙ layout_parts _ _ e.before.before.if1.false (rises e) (c.before.if3.false ∙ c.before.before.block-count.ensures)
+    let e = c in
+    λ ws ys ns. c.all_separate_none.ensures ws ys ns ∙ layout_parts _ _ e.if-k-lt1.false (rises e.before.before.before.before) (c.if-ends-last.false ∙ c.block_count.ensures)
 
-pub layout-ok-spec : {M : Type 1} → statement M
-layout-ok-spec =
+pub layout_ok_spec : {M : Type 1} → statement M
+layout_ok_spec =
     tie.close
     (tie.spec
     returns

@@ -14,67 +14,67 @@ use Rattle.sets.proofs.Sets.{SetDecided, set_decided}
 use Rattle.sets.proofs.layout_refusal.Statement.{statement}
 use Rattle.sets.proofs.layout_refusal.Tie as tie
 
-abbrev start : tie.After-set-refusal → tie.Start
+abbrev start : tie.After-set_refusal-r → tie.Start
 start c = c.before.before.before.before.before.before
 
 abbrev the-set : tie.Start → Set
 the-set s = let a = s.args in set_of a.block a.used a.g.now a.w.now a.y.now a.n.now
 
-abbrev checks : tie.Else1 → List Check
+abbrev checks : tie.Else-r-ne0 → List Check
 checks c = let s = start c.before in apply_checks block_limit (the-set s) s.args.ends.now
 
-decision : (c : tie.After-set-refusal) → SetDecided block_limit (the-set (start c)) c.set-refusal.result
-decision c = set_decided block_limit _ _ c.set-refusal.ensures
+decision : (c : tie.After-set_refusal-r) → SetDecided block_limit (the-set (start c)) c.set_refusal-r.result
+decision c = set_decided block_limit _ _ c.set_refusal-r.ensures
 
-past-set : (c : tie.Else1) → first_failed (drop 4 (checks c)) ≡ first_failed (checks c)
+past-set : (c : tie.Else-r-ne0) → first_failed (drop 4 (checks c)) ≡ first_failed (checks c)
 unfolding apply_checks
-past-set c = ((decision c.before).passed c.if1.false).rest _
+past-set c = ((decision c.before).passed c.if-r-ne0.false).rest _
 
-past-layout : (c : tie.Else2) → (let cs = checks c.before.before in first_failed (drop 5 cs) ≡ first_failed cs)
+past-layout : (c : tie.Else-not-layout_ok) → (let cs = checks c.before.before in first_failed (drop 5 cs) ≡ first_failed cs)
 unfolding apply_checks
-past-layout c = passes 6 _ _ _ (sym (c.before.layout-ok.ensures _ _ _) ∙ not-false _ c.if2.false) refl ∙ past-set c.before.before
+past-layout c = passes 6 _ _ _ (sym (c.layout_ok.ensures _ _ _) ∙ c.if-not-layout_ok.false) refl ∙ past-set c.before.before
 
-past_values : (c : tie.Else3) → (let cs = checks c.before.before.before.before in first_failed (drop 6 cs) ≡ first_failed cs)
+past_values : (c : tie.Else-not-set_values_ok) → (let cs = checks c.before.before.before.before in first_failed (drop 6 cs) ≡ first_failed cs)
 unfolding apply_checks
-past_values c = passes 8 _ _ _ (sym (c.before.set-values-ok.ensures _) ∙ not-false _ c.if3.false) refl ∙ past-layout c.before.before
+past_values c = passes 8 _ _ _ (sym (c.set_values_ok.ensures _) ∙ c.if-not-set_values_ok.false) refl ∙ past-layout c.before.before
 
-returns : tie.Need-returns
+returns : tie.Need-returns-then-r-ne0
 unfolding apply_checks
-returns c = (decision c.before).refused _ c.if1.true
+returns c = (decision c.before).refused _ c.if-r-ne0.true
 
-layout-ok-requires : tie.Need-layout-ok-requires
-layout-ok-requires c κs = ((decision c.before).passed c.if1.false).whole_set.sized
+layout-ok-requires : tie.Need-layout_ok-requires
+layout-ok-requires c κs = ((decision c.before).passed c.if-r-ne0.false).whole_set.sized
 
-returns-2 : tie.Need-returns-2
+returns-2 : tie.Need-returns-then-not-layout_ok
 unfolding apply_checks
-returns-2 c = fails 6 _ _ (sym (c.before.layout-ok.ensures _ _ _) ∙ not-true _ c.if2.true) ∙ past-set c.before.before
+returns-2 c = fails 6 _ _ (sym (c.layout_ok.ensures _ _ _) ∙ c.if-not-layout_ok.true) ∙ past-set c.before.before
 
-set-values-ok-requires : tie.Need-set-values-ok-requires
+set-values-ok-requires : tie.Need-set_values_ok-requires
 set-values-ok-requires c κs =
-    let e = c.before.before in
-    let w = ((decision e.before).passed e.if1.false).whole_set in
+    let e = c in
+    let w = ((decision e.before.before.before).passed e.if-r-ne0.false).whole_set in
     (w.sized.used_fits, w.even)
 
-returns-3 : tie.Need-returns-3
+returns-3 : tie.Need-returns-then-not-set_values_ok
 unfolding apply_checks
-returns-3 c = fails 8 _ _ (sym (c.before.set-values-ok.ensures _) ∙ not-true _ c.if3.true) ∙ past-layout c.before.before
+returns-3 c = fails 8 _ _ (sym (c.set_values_ok.ensures _) ∙ c.if-not-set_values_ok.true) ∙ past-layout c.before.before
 
-set-days-ok-requires : tie.Need-set-days-ok-requires
+set-days-ok-requires : tie.Need-set_days_ok-requires
 set-days-ok-requires c κs =
-    let e = c.before.before.before.before in
-    let w = ((decision e.before).passed e.if1.false).whole_set in
+    let e = c in
+    let w = ((decision e.before.before.before.before.before).passed e.if-r-ne0.false).whole_set in
     (w.sized.used_fits, w.even)
 
-returns-4 : tie.Need-returns-4
+returns-4 : tie.Need-returns-then-not-set_days_ok
 unfolding apply_checks
-returns-4 c = fails 19 _ _ (sym (c.before.set-days-ok.ensures _) ∙ not-true _ c.if4.true) ∙ past_values c.before.before
+returns-4 c = fails 19 _ _ (sym (c.set_days_ok.ensures _) ∙ c.if-not-set_days_ok.true) ∙ past_values c.before.before
 
-returns-5 : tie.Need-returns-5
+returns-5 : tie.Need-returns
 unfolding apply_checks
-returns-5 c = passes 19 0 _ _ (sym (c.before.set-days-ok.ensures _) ∙ not-false _ c.if4.false) none_failed ∙ past_values c.before.before
+returns-5 c = passes 19 0 _ _ (sym (c.set_days_ok.ensures _) ∙ c.if-not-set_days_ok.false) none_failed ∙ past_values c.before.before
 
-pub layout-refusal-spec : {M : Type 1} → statement M
-layout-refusal-spec =
+pub layout_refusal_spec : {M : Type 1} → statement M
+layout_refusal_spec =
     tie.close
     (tie.spec
     (λ c κs. search rules)

@@ -5,16 +5,16 @@ use Rattle.sets.proofs.Sets.{ends_all, ends_between}
 use Rattle.sets.proofs.separates_none.Statement.{statement}
 use Rattle.sets.proofs.separates_none.Tie as tie
 
-returns : tie.Need-returns
-returns c = λ ws ys ns. ends_all (set_of _ _ c.before.before.before.args.g.now ws ys ns) _ _ c.before.block_start.ensures c.if1.true
+returns : tie.Need-returns-then-used-x
+returns c = λ ws ys ns. ends_all (set_of _ _ c.args.g.now ws ys ns) _ _ c.block_start-x.ensures c.if-used-x.true
 
-returns-2 : tie.Need-returns-2
+returns-2 : tie.Need-returns
 returns-2 c =
-    let s = c.before.before.before in
-    λ ws ys ns. ends_between (set_of _ _ s.before.before.args.g.now ws ys ns) _ _ s.block_start.ensures c.before.before.if1.false
+    let s = c in
+    λ ws ys ns. ends_between (set_of _ _ s.args.g.now ws ys ns) _ _ s.block_start-x.ensures c.if-used-x.false
 
-pub separates-none-spec : {M : Type 1} → statement M
-separates-none-spec =
+pub separates_none_spec : {M : Type 1} → statement M
+separates_none_spec =
     tie.close
     (tie.spec
     (λ c. search rules)

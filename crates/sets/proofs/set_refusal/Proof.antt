@@ -17,48 +17,48 @@ use Rattle.sets.proofs.Sets.{block_most, used_fits}
 use Rattle.sets.proofs.set_refusal.Statement.{statement}
 use Rattle.sets.proofs.set_refusal.Tie as tie
 
-abbrev checks : tie.Else1 → List Check
-checks c = let a = c.before.before.before.before.before.before.args in set_checks block_limit (set_of a.block a.used a.g.now a.w.now a.y.now a.n.now)
+abbrev checks : tie.Else-not-block_length_ok → List Check
+checks c = let a = c.args in set_checks block_limit (set_of a.block a.used a.g.now a.w.now a.y.now a.n.now)
 
-block_ok : (c : tie.Else1) → block_length_ok c.before.before.before.before.before.before.args.block ≡ true
-block_ok c = sym c.before.block-length-ok.ensures ∙ not-false _ c.if1.false
+block_ok : (c : tie.Else-not-block_length_ok) → block_length_ok c.args.block ≡ true
+block_ok c = sym c.block_length_ok.ensures ∙ c.if-not-block_length_ok.false
 
-past-block : (c : tie.Else1) → first_failed (drop 1 (checks c)) ≡ first_failed (checks c)
+past-block : (c : tie.Else-not-block_length_ok) → first_failed (drop 1 (checks c)) ≡ first_failed (checks c)
 past-block c = passes 2 _ _ _ (block_ok c) refl
 
-past_slices : (c : tie.Else2) → (let cs = checks c.before.before in first_failed (drop 2 cs) ≡ first_failed cs)
-past_slices c = passes 3 _ _ _ (sym c.before.slices_ok_lem.ensures ∙ not-false _ c.if2.false) refl ∙ past-block c.before.before
+past_slices : (c : tie.Else-not-slices_ok) → (let cs = checks c.before.before in first_failed (drop 2 cs) ≡ first_failed cs)
+past_slices c = passes 3 _ _ _ (sym c.slices_ok.ensures ∙ c.if-not-slices_ok.false) refl ∙ past-block c.before.before
 
-past-used : (c : tie.Else3) → (let cs = checks c.before.before.before.before in first_failed (drop 3 cs) ≡ first_failed cs)
+past-used : (c : tie.Else-not-used_ok) → (let cs = checks c.before.before.before.before in first_failed (drop 3 cs) ≡ first_failed cs)
 unfolding used_ok
-past-used c = passes 4 _ _ _ (sym c.before.used-ok.ensures ∙ not-false _ c.if3.false) refl ∙ past_slices c.before.before
+past-used c = passes 4 _ _ _ (sym c.used_ok.ensures ∙ c.if-not-used_ok.false) refl ∙ past_slices c.before.before
 
-returns : tie.Need-returns
-returns c = fails 2 _ _ (sym c.before.block-length-ok.ensures ∙ not-true _ c.if1.true)
+returns : tie.Need-returns-then-not-block_length_ok
+returns c = fails 2 _ _ (sym c.block_length_ok.ensures ∙ c.if-not-block_length_ok.true)
 
-returns-2 : tie.Need-returns-2
-returns-2 c = fails 3 _ _ (sym c.before.slices_ok_lem.ensures ∙ not-true _ c.if2.true) ∙ past-block c.before.before
+returns-2 : tie.Need-returns-then-not-slices_ok
+returns-2 c = fails 3 _ _ (sym c.slices_ok.ensures ∙ c.if-not-slices_ok.true) ∙ past-block c.before.before
 
-used-ok-requires : tie.Need-used-ok-requires
+used-ok-requires : tie.Need-used_ok-requires
 used-ok-requires c κs = block_most _ (block_ok c.before.before)
 
-returns-3 : tie.Need-returns-3
+returns-3 : tie.Need-returns-then-not-used_ok
 unfolding used_ok
-returns-3 c = fails 4 _ _ (sym c.before.used-ok.ensures ∙ not-true _ c.if3.true) ∙ past_slices c.before.before
+returns-3 c = fails 4 _ _ (sym c.used_ok.ensures ∙ c.if-not-used_ok.true) ∙ past_slices c.before.before
 
-slice-aggregate-never-falling : tie.Need-slice-aggregate-never-falling
-slice-aggregate-never-falling c = sym (length-take-le _ _ (used_fits _ _ _ (sym c.before.before.used-ok.ensures ∙ not-false _ c.before.if3.false)))
+slice-aggregate-never-falling : tie.Need-slice_bounds-never_falling-end
+slice-aggregate-never-falling c = sym (length-take-le _ _ (used_fits _ _ _ (sym c.used_ok.ensures ∙ c.if-not-used_ok.false)))
 
-returns-4 : tie.Need-returns-4
+returns-4 : tie.Need-returns-then-not-never_falling
 unfolding growers_ok
-returns-4 c = fails 5 _ _ (sym c.before.never-falling.ensures ∙ not-true _ c.if4.true) ∙ past-used c.before.before.before
+returns-4 c = fails 5 _ _ (sym c.never_falling.ensures ∙ c.if-not-never_falling.true) ∙ past-used c.before.before
 
-returns-5 : tie.Need-returns-5
+returns-5 : tie.Need-returns
 unfolding growers_ok
-returns-5 c = passes 5 0 _ _ (sym c.before.never-falling.ensures ∙ not-false _ c.if4.false) none_failed ∙ past-used c.before.before.before
+returns-5 c = passes 5 0 _ _ (sym c.never_falling.ensures ∙ c.if-not-never_falling.false) none_failed ∙ past-used c.before.before
 
-pub set-refusal-spec : {M : Type 1} → statement M
-set-refusal-spec =
+pub set_refusal_spec : {M : Type 1} → statement M
+set_refusal_spec =
     tie.close
     (tie.spec
     (λ c κs. search rules)

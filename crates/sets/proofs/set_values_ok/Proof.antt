@@ -7,16 +7,16 @@ use Rattle.sets.proofs.Sets.{values_law}
 use Rattle.sets.proofs.set_values_ok.Statement.{statement}
 use Rattle.sets.proofs.set_values_ok.Tie as tie
 
-slice-aggregate-values-ok : tie.Need-slice-aggregate-values-ok
+slice-aggregate-values-ok : tie.Need-slice_bounds-values_ok-end
 slice-aggregate-values-ok c = sym (length-take-le _ _ (omega arith))
 
-slice-aggregate-values-ok-2 : tie.Need-slice-aggregate-values-ok-2
+slice-aggregate-values-ok-2 : tie.Need-slice_bounds-values_ok-end-2
 slice-aggregate-values-ok-2 c = sym (length-take-le _ _ (omega arith))
 
 returns : tie.Need-returns
-returns c = let p = c.before.before.before.before.before.before.before.requires in λ b. c.values_ok_lem.ensures ∙ values_law _ p.1
+returns c = let p = c.requires in λ b. c.values_ok.ensures ∙ values_law _ p.1
 
-pub set-values-ok-spec : {M : Type 1} → statement M
-set-values-ok-spec =
+pub set_values_ok_spec : {M : Type 1} → statement M
+set_values_ok_spec =
     tie.close
     (tie.spec slice-aggregate-values-ok slice-aggregate-values-ok-2 (λ c κs. search rules) returns)

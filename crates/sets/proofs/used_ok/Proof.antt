@@ -4,14 +4,14 @@ use Rattle.sets.proofs.Sets.{used_none, used_over, used_last}
 use Rattle.sets.proofs.used_ok.Statement.{statement}
 use Rattle.sets.proofs.used_ok.Tie as tie
 
-returns : tie.Need-returns
-returns c = used_none _ _ _ c.if1.true
+returns : tie.Need-returns-then-m-lt1
+returns c = used_none _ _ _ c.if-m-lt1.true
 
-returns-2 : tie.Need-returns-2
-returns-2 c = used_over _ _ _ c.before.if1.false c.if2.true
+returns-2 : tie.Need-returns-then-c-m
+returns-2 c = used_over _ _ _ c.if-m-lt1.false c.if-c-m.true
 
-returns-3 : tie.Need-returns-3
-returns-3 c = used_last _ _ _ c.before.if1.false c.if2.false
+returns-3 : tie.Need-returns
+returns-3 c = used_last _ _ _ c.if-m-lt1.false c.if-c-m.false
 
-pub used-ok-spec : {M : Type 1} → statement M
-used-ok-spec = tie.close (tie.spec returns returns-2 (λ c. search rules) returns-3)
+pub used_ok_spec : {M : Type 1} → statement M
+used_ok_spec = tie.close (tie.spec returns returns-2 (λ c. search rules) returns-3)
