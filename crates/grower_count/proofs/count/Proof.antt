@@ -11,69 +11,69 @@ use Rattle.grower_count.proofs.Counting.{held, left, Counting, counting_start, c
 use Rattle.grower_count.proofs.count.Statement.{statement}
 use Rattle.grower_count.proofs.count.Tie as tie
 
-abbrev invariant-loop : tie.invariant-loop
+abbrev invariant-loop : tie.invariant-loop-n
 invariant-loop growers days first last batch₀ work₀ seen₀ total₀ lo₀ n₀ batch work seen total lo n =
     Counting growers (during (record { lo = 0; first = first; last = last }) days) batch total lo n × (length batch ≡ 16384) × (length work ≡ 16384) × (length seen ≡ 16384)
 
-abbrev decreases-loop : tie.decreases-loop
+abbrev decreases-loop : tie.decreases-loop-n
 decreases-loop growers days first last batch₀ work₀ seen₀ total₀ lo₀ n₀ batch work seen total lo n =
     length (left (held growers (during (record { lo = 0; first = first; last = last }) days)) lo)
 
-abbrev start : tie.At-loop invariant-loop decreases-loop → tie.Start invariant-loop decreases-loop
+abbrev start : tie.At-loop-n invariant-loop decreases-loop → tie.Start invariant-loop decreases-loop
 start l = l.before.before.before.before.before.before.before.before.before.before
 
-long : (l : tie.At-loop invariant-loop decreases-loop) → l.loop.n ≤ length l.loop.batch
-long l = let v = l.loop.invariant in omega (arith, v.0.window.few, v.1)
+long : (l : tie.At-loop-n invariant-loop decreases-loop) → l.loop-n.n ≤ length l.loop-n.batch
+long l = let v = l.loop-n.invariant in omega (arith, v.0.window.few, v.1)
 
-fits : (l : tie.At-loop invariant-loop decreases-loop) → l.loop.total + l.loop.n ≤ most_slots
-fits l = omega (arith, counting_fits l.loop.invariant.0 (long l), (start l).requires.0)
+fits : (l : tie.At-loop-n invariant-loop decreases-loop) → l.loop-n.total + l.loop-n.n ≤ most_slots
+fits l = omega (arith, counting_fits l.loop-n.invariant.0 (long l), (start l).requires.0)
 
-slot : (c : tie.In-loop invariant-loop decreases-loop) → get_or c.before.loop.batch 8191 0 < length (start c.before).args.growers.now
-slot c = last_slot c.before.loop.invariant.0 (long c.before) c.loop-test.true
+slot : (c : tie.In-loop-n invariant-loop decreases-loop) → get_or c.loop-n.batch 8191 0 < length (start c.before).args.growers.now
+slot c = last_slot c.loop-n.invariant.0 (long c.before) c.loop-n-test.true
 
-loop-holds : tie.Need-loop-init invariant-loop decreases-loop
-loop-holds c = let e = c.before.before.before.window.ensures in (counting_start e.0, e.1, e.2, e.3)
+loop-holds : tie.Need-loop-n-init invariant-loop decreases-loop
+loop-holds c = let e = c.window-n.ensures in (counting_start e.0, e.1, e.2, e.3)
 
-add_total : tie.Need-overflow-add-total invariant-loop decreases-loop
+add_total : tie.Need-overflow_add-total invariant-loop decreases-loop
 add_total c = omega (arith, fits c.before)
 
-cast-g : tie.Need-overflow-cast-g invariant-loop decreases-loop
-cast-g c = omega (arith, slot c, (start c.before).pre.0)
+cast-g : tie.Need-overflow_cast-g invariant-loop decreases-loop
+cast-g c = omega (arith, slot c, (start c.before).requires.0)
 
-mul-g-2 : tie.Need-overflow-mul-g-2 invariant-loop decreases-loop
-mul-g-2 c = omega (arith, slot c, (start c.before).pre.0)
+mul-g-2 : tie.Need-offset_bounds-growers-batch invariant-loop decreases-loop
+mul-g-2 c = omega (arith, slot c, (start c.before).requires.0)
 
-shared-slice-read-g : tie.Need-shared-slice-read-g invariant-loop decreases-loop
+shared-slice-read-g : tie.Need-bounds-growers-batch invariant-loop decreases-loop
 shared-slice-read-g c = slot c.before
 
-returns : tie.Need-returns invariant-loop decreases-loop
+returns : tie.Need-returns-then-g invariant-loop decreases-loop
 returns c =
-    let t = c.before.before in
-    let l = t.before in
-    counting_last l.loop.invariant.0 (long l) t.loop-test.true (λ p. omega (arith, c.before.shared-slice-known3.given p, c.if1.true))
+    let t = c in
+    let l = t in
+    counting_last l.loop-n.invariant.0 (long l.before.before.before) t.loop-n-test.true (λ p. omega (arith, c.shared_slice_known-in-loop-n-1.given p, c.if-g.true))
 
-add-lo : tie.Need-overflow-add-lo invariant-loop decreases-loop
-add-lo c = omega (arith, c.before.shared-slice-known3.given (get_or c.before.before.before.loop.batch 8191 0), c.if1.false)
+add-lo : tie.Need-overflow_add-lo invariant-loop decreases-loop
+add-lo c = omega (arith, c.shared_slice_known-in-loop-n-1.given (get_or c.loop-n.batch 8191 0), c.if-g.false)
 
 -- the turn, seen from its end
-abbrev turn : tie.After-seen4 invariant-loop decreases-loop → tie.In-loop invariant-loop decreases-loop
+abbrev turn : tie.After-seen-in-loop-n-2-1 invariant-loop decreases-loop → tie.In-loop-n invariant-loop decreases-loop
 turn c = c.before.before.before.before.before.before.before.before.before
 
-loop-less : tie.Need-loop-smaller invariant-loop decreases-loop
-loop-less c = let t = turn c in let l = t.before in counting_less l.loop.inv.0 (long l) t.loop-test.taken
+loop-less : tie.Need-loop-n-smaller invariant-loop decreases-loop
+loop-less c = let t = turn c in let l = t in counting_less l.loop-n.invariant.0 (long l.before) t.loop-n-test.true
 
-loop-again : tie.Need-loop-preserved invariant-loop decreases-loop
+loop-again : tie.Need-loop-n-preserved invariant-loop decreases-loop
 loop-again c =
-    let e = c.before.before.before.window2.ensures in
+    let e = c.window-n-in-loop-n.ensures in
     let t = turn c in
-    let l = t.before in
-    (counting_more l.loop.inv.0 (long l) t.loop-test.taken e.0, e.1, e.2, e.3)
+    let l = t in
+    (counting_more l.loop-n.invariant.0 (long l.before) t.loop-n-test.true e.0, e.1, e.2, e.3)
 
-add-result : tie.Need-overflow-add-result invariant-loop decreases-loop
+add-result : tie.Need-overflow_add-result invariant-loop decreases-loop
 add-result c = omega (arith, fits c.before)
 
-returns-2 : tie.Need-returns-2 invariant-loop decreases-loop
-returns-2 c = counting_end c.before.loop.invariant.0 (long c.before) c.loop-test.false
+returns-2 : tie.Need-returns invariant-loop decreases-loop
+returns-2 c = counting_end c.loop-n.invariant.0 (long c.before) c.loop-n-test.false
 
 pub count_spec : {M : Type 1} → statement M
 count_spec =

@@ -9,41 +9,42 @@ use lib.ListN.{length, length-set}
 use Rattle.grower_count.specs.Batches.{during, FilledUp}
 use Rattle.grower_count.proofs.Filling.{filling_start, filling_new, filling_old}
 use Rattle.grower_count.proofs.fill.Statement.{statement}
+use Rattle.grower_count.proofs.fill.Lts.{then-is_new, else-is_new}
 use Rattle.grower_count.proofs.fill.Tie as tie
 
-abbrev invariant-loop : tie.invariant-loop
+abbrev invariant-loop : tie.invariant-loop-i
 invariant-loop growers days q from batch₀ held seen₀ n₀ i₀ batch seen n i =
     FilledUp growers (during q days) q.lo from batch₀ held batch n i × (from ≤ i) × (n + from ≤ held + i) × (length seen ≡ 16384)
 
-abbrev decreases-loop : tie.decreases-loop
+abbrev decreases-loop : tie.decreases-loop-i
 decreases-loop growers days q from batch₀ held seen₀ n₀ i₀ batch seen n i = length growers - i
 
-loop-holds : tie.Need-loop-init invariant-loop decreases-loop
-loop-holds c = let p = c.before.before.before.before.requires in (filling_start _ _ _ _ _ _ (omega (arith, p.3)) (omega (arith, p.2)), omega arith, omega arith, p.0)
+loop-holds : tie.Need-loop-i-init invariant-loop decreases-loop
+loop-holds c = let p = c.requires in (filling_start _ _ _ _ _ _ (omega (arith, p.3)) (omega (arith, p.2)), omega arith, omega arith, p.0)
 
-cast-j : tie.Need-overflow-cast-j invariant-loop decreases-loop
-cast-j c = omega (arith, c.slice-known3.given c.before.place_of.result)
+cast-j : tie.Need-overflow_cast-j invariant-loop decreases-loop
+cast-j c = omega (arith, c.slice_known-in-loop-i-1.given c.place_of-p.result)
 
-loop-again : tie.Need-loop-preserved invariant-loop decreases-loop
+loop-again : tie.Need-loop-i-preserved invariant-loop decreases-loop
 loop-again c =
-    let l = c.before.before.before.before.before.before.before in
-    let h = c.before.before.before.before.before.before.loop-test.true in
-    let v = l.loop.invariant in
-    let new = c.before.is-new.ensures in
-    ⊎_elim
-    (λ w. (
-      filling_new _ _ _ v.0 h (omega (arith, v.0.room, v.0.same_length)) _ _ (sym new ∙ w.0.taken) w.1 w.3,
-      omega arith,
-      omega (arith, w.3),
-      ap length w.2 ∙ length-set l.loop.seen c.before.before.before.place_of.result l.loop.i ∙ v.3,
-    ))
-    (λ w. (
-      filling_old _ _ _ v.0 h (omega (arith, v.0.room, v.0.same_length)) _ _ (sym new ∙ w.0.left) w.1 w.3,
-      omega arith,
-      omega (arith, w.3),
-      ap length w.2 ∙ v.3,
-    ))
-    c.if2.branch
+    let l = c in
+    let h = c.loop-i-test.true in
+    let v = l.loop-i.invariant in
+    let new = c.is_new.ensures in
+    elim c.if-is_new.branch [
+      then-is_new w ↦ (
+        filling_new _ _ _ v.0 h (omega (arith, v.0.room, v.0.same_length)) _ _ (sym new ∙ w.if-is_new.true) w.batch-is w.n-is,
+        omega arith,
+        omega (arith, w.n-is),
+        ap length w.seen-is ∙ length-set l.loop-i.seen c.place_of-p.result l.loop-i.i ∙ v.3,
+      )
+    | else-is_new w ↦ (
+        filling_old _ _ _ v.0 h (omega (arith, v.0.room, v.0.same_length)) _ _ (sym new ∙ w.if-is_new.false) w.batch-is w.n-is,
+        omega arith,
+        omega (arith, w.n-is),
+        ap length w.seen-is ∙ v.3,
+      )
+    ]
 
 pub fill_spec : {M : Type 1} → statement M
 fill_spec =

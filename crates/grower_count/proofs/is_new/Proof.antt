@@ -12,30 +12,30 @@ last-test : (a b c d e r : Bool) → a ≡ true → b ≡ true → c ≡ true �
 last-test a b c d e r p q s t u = rw (p, q, s, t, u)
 
 -- where slot i's day is one of those wanted
-passes : (c : tie.Else1) → let a = c.before.before.before.before.args in during a.q a.days.now a.i ≡ true
-passes c = sym c.before.is-during.ensures ∙ not-false _ c.if1.false
+passes : (c : tie.Else-not-is_during) → let a = c.args in during a.q a.days.now a.i ≡ true
+passes c = sym c.is_during.ensures ∙ c.if-not-is_during.false
 
-returns : tie.Need-returns
-returns c = simp (sym c.before.is-during.ensures ∙ not-true _ c.if1.true)
+returns : tie.Need-returns-then-not-is_during
+returns c = simp (sym c.is_during.ensures ∙ c.if-not-is_during.true)
 
-returns-2 : tie.Need-returns-2
-returns-2 c = simp (passes c.before.before.before, lt-leb _ _ c.if2.true)
+returns-2 : tie.Need-returns-then-g-q
+returns-2 c = simp (passes c.before.before.before, lt-leb _ _ c.if-g-q.true)
 
-returns-3 : tie.Need-returns-3
-returns-3 c = simp (passes c.before.before.before.before, le-leb _ _ c.before.if2.false, le-ltb _ _ c.if3.true)
+returns-3 : tie.Need-returns-then-i-j
+returns-3 c = simp (passes c.before.before.before.before, le-leb _ _ c.if-g-q.false, le-ltb _ _ c.if-i-j.true)
 
-returns-4 : tie.Need-returns-4
+returns-4 : tie.Need-returns-then-growers-j
 returns-4 c =
-    let s = c.before.before in
-    simp (passes s.before.before.before.before, le-leb _ _ s.before.if2.false, lt-ltb _ _ s.if3.false, ne_eqb _ _ c.if4.true)
+    let s = c in
+    simp (passes s.before.before.before.before.before.before, le-leb _ _ s.if-g-q.false, lt-ltb _ _ s.if-i-j.false, ne_eqb _ _ c.if-growers-j.true)
 
-returns-5 : tie.Need-returns-5
+returns-5 : tie.Need-returns
 returns-5 c =
-    let s = c.before.before.before in
-    last-test _ _ _ _ _ _ (passes s.before.before.before.before) (le-leb _ _ s.before.if2.false) (lt-ltb _ _ s.if3.false) (eq-eqb _ _ c.before.if4.false) c.is-during2.ensures
+    let s = c in
+    last-test _ _ _ _ _ _ (passes s.before.before.before.before.before.before.before) (le-leb _ _ s.if-g-q.false) (lt-ltb _ _ s.if-i-j.false) (eq-eqb _ _ c.if-growers-j.false) c.is_during-2.ensures
 
-pub is-new-spec : {M : Type 1} → statement M
-is-new-spec =
+pub is_new_spec : {M : Type 1} → statement M
+is_new_spec =
     tie.close
     (tie.spec
     (λ c κs. search rules) returns (λ c. search rules) (λ c. search rules) returns-2 returns-3 (λ c. search rules) (λ c. search rules) returns-4

@@ -9,17 +9,17 @@ sort-requires c κs = search rules
 
 cut-requires : tie.Need-cut-requires
 cut-requires c κs =
-    let s = c.before.before.before.before.before in
-    let b = s.before.before.before.before.before.before in
+    let s = c in
+    let b = s in
     sorted_ready b.args.growers.now b.args.batch.now s.sort.ensures.0 b.requires.2
 
 returns : tie.Need-returns
 returns c =
-    let b = c.before.before.before in
-    let s = b.before.before.before.before.before.before in
+    let b = c in
+    let s = b in
     (smallest_cut s.sort.ensures.0 b.cut.ensures c.at_most.ensures, s.sort.ensures.1)
 
-pub keep-smallest-spec : {M : Type 1} → statement M
-keep-smallest-spec =
+pub keep_smallest_spec : {M : Type 1} → statement M
+keep_smallest_spec =
     tie.close
     (tie.spec sort-requires cut-requires (λ c κs. search rules) (λ c. search rules) (λ c. search rules) returns)

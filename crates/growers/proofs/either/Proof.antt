@@ -2,11 +2,11 @@
 use Rattle.growers.proofs.either.Statement.{statement}
 use Rattle.growers.proofs.either.Tie as tie
 
-returns : tie.Need-returns
-returns c = rw c.if1.true
+returns : tie.Need-returns-then-up
+returns c = rw c.if-up.true
 
-returns-2 : tie.Need-returns-2
-returns-2 c = rw c.if1.false
+returns-2 : tie.Need-returns
+returns-2 c = rw c.if-up.false
 
-pub either-spec : {M : Type 1} → statement M
-either-spec = tie.close (tie.spec returns returns-2)
+pub either_spec : {M : Type 1} → statement M
+either_spec = tie.close (tie.spec returns returns-2)

@@ -6,13 +6,13 @@ use Rattle.model.specs.GrowerCalls.{grower_answer}
 use Rattle.growers.proofs.found.Statement.{statement}
 use Rattle.growers.proofs.found.Tie as tie
 
-returns : tie.Need-returns
-returns c = c.refused.ensures ∙ rw (not-true c.before.before.args.dated c.before.if1.true)
+returns : tie.Need-returns-then-not-dated
+returns c = c.refused.ensures ∙ rw (c.if-not-dated.true)
 
-returns-2 : tie.Need-returns-2
+returns-2 : tie.Need-returns
 returns-2 c =
-    let a = c.before.before.args in
-    rw (not-false a.dated c.before.if1.false) (ap (grower_answer 0 a.grower a.records) c.Reads-of.ensures)
+    let a = c.args in
+    rw (c.if-not-dated.false) (ap (grower_answer 0 a.grower a.records) c.reads_of-counts.ensures)
 
-pub found-spec : {M : Type 1} → statement M
-found-spec = tie.close (tie.spec (λ c κs. search rules) returns (λ c κs. search rules) returns-2)
+pub found_spec : {M : Type 1} → statement M
+found_spec = tie.close (tie.spec (λ c κs. search rules) returns (λ c κs. search rules) returns-2)

@@ -12,11 +12,11 @@ use Rattle.growers.proofs.joined.Tie as tie
 as_many : {g a b : ℕ} → a ≡ b → ◌≡◌ {A = Nearest} (record { good = true; grower = g; records = a }) (record { good = true; grower = g; records = b })
 as_many {g} e = ap (λ (n : ℕ). record { good = true; grower = g; records = n }) e
 
-returns : tie.Need-returns
+returns : tie.Need-returns-then-s-grower
 returns c = (λ e. as_many (omega arith), λ e. absurd (omega arith))
 
-returns-2 : tie.Need-returns-2
+returns-2 : tie.Need-returns
 returns-2 c = (λ e. absurd (omega arith), λ e. as_many (omega arith))
 
-pub joined-spec : {M : Type 1} → statement M
-joined-spec = tie.close (tie.spec (λ c. search rules) returns returns-2)
+pub joined_spec : {M : Type 1} → statement M
+joined_spec = tie.close (tie.spec (λ c. search rules) returns returns-2)

@@ -22,84 +22,84 @@ use Rattle.growers.proofs.Joining.{good_is, wanted_past, all_fit, passed_over, f
 use Rattle.growers.proofs.near_more.Statement.{statement}
 use Rattle.growers.proofs.near_more.Tie as tie
 
-abbrev start : tie.After-values-ok → tie.Start
+abbrev start : tie.After-values_ok → tie.Start
 start c = c.before.before.before.before.before.before.before
 
-good : (c : tie.After-values-ok) → (start c).args.s.good ≡ true
-good c = not-false (start c).args.s.good c.before.if1.false
+good : (c : tie.After-values_ok) → (start c).args.s.good ≡ true
+good c = not-false (start c).args.s.good c.if-not-s.false
 
-fits : (c : tie.After-values-ok) → All (λ (x : ℕ). x ≤ most_number) (start c).args.g.now
-fits c = all_fit (start c).args.g.now (λ i. omega (arith, c.before.before.before.before.before.before.shared-slice-known.given i))
+fits : (c : tie.After-values_ok) → All (λ (x : ℕ). x ≤ most_number) (start c).args.g.now
+fits c = all_fit (start c).args.g.now (λ i. omega (arith, c.shared_slice_known-1.given i))
 
-g-fits : (c : tie.After-values-ok) → (start c).args.grower ≤ most_number
+g-fits : (c : tie.After-values_ok) → (start c).args.grower ≤ most_number
 g-fits c = omega arith
 
 -- whether the new records are in range
-in_range_lem : (c : tie.After-values-ok) (b : Bool) → c.values_ok_lem.result ≡ b → let a = (start c).args in every in_range (rows (slices_at a.g a.w a.y a.n)) ≡ b
-in_range_lem c b e = let a = (start c).args in values_rows (slices_at a.g a.w a.y a.n) (start c).requires.1 ∙ sym c.values_ok_lem.ensures ∙ e
+in_range_lem : (c : tie.After-values_ok) (b : Bool) → c.values_ok.result ≡ b → let a = (start c).args in every in_range (rows (slices_at a.g a.w a.y a.n)) ≡ b
+in_range_lem c b e = let a = (start c).args in values_rows (slices_at a.g a.w a.y a.n) (start c).requires.1 ∙ sym c.values_ok.ensures ∙ e
 
 -- their growers
-growers : (c : tie.After-values-ok) → let a = (start c).args in growers_of (rows (slices_at a.g a.w a.y a.n)) ≡ a.g.now
+growers : (c : tie.After-values_ok) → let a = (start c).args in growers_of (rows (slices_at a.g a.w a.y a.n)) ≡ a.g.now
 growers c =
     let a = (start c).args in
     ap (λ (t : Slices). t.growers) (slices_for_lem (slices_at a.g a.w a.y a.n) (start c).requires.1)
 
-returns : tie.Need-returns
+returns : tie.Need-returns-then-not-s
 unfolding near_more
-returns c = c.bad-nearest.ensures ∙ rw (not-true c.before.before.before.before.before.before.before.args.s.good c.before.if1.true)
+returns c = c.bad_nearest.ensures ∙ rw (not-true c.args.s.good c.if-not-s.true)
 
-returns-2 : tie.Need-returns-2
+returns-2 : tie.Need-returns-then-not-values_ok
 unfolding near_more
 returns-2 c =
-    let v = c.before.before in
-    c.bad-nearest2.ensures ∙ rw (good v, in_range_lem v false (not-true _ c.before.if2.true))
+    let v = c in
+    c.bad_nearest-then-not-values_ok.ensures ∙ rw (good v.before.before, in_range_lem v.before.before false (c.if-not-values_ok.true))
 
 -- what is in range is joined to a good search
-good-answer : (c : tie.After-last-wanted) (r : Nearest) → let a = (start c.before.before).args in
+good-answer : (c : tie.After-last_wanted-last) (r : Nearest) → let a = (start c.before.before).args in
     let w = direction_of a.up in
     r ≡ good_nearest (joined_count w (count_in a.s) (nearest_of w a.grower a.g.now)) → r ≡ near_more w a.grower a.s (rows (slices_at a.g a.w a.y a.n))
 unfolding near_more
 good-answer c r e =
-    let v = c.before.before in
-    good_on bad_nearest (good v) (in_range_lem v true (not-false _ c.before.if2.false)) (rw (growers v) e)
+    let v = c in
+    good_on bad_nearest (good v.before.before) (in_range_lem v.before.before true (c.if-not-values_ok.false)) (rw (growers v.before.before) e)
 
-none-from-to-requires : tie.Need-none-from-to-requires
+none-from-to-requires : tie.Need-none_from_to-requires
 none-from-to-requires c κs =
     let s = start c.before.before in
     let a = s.args in
-    rw c.last-wanted.ensures (wanted_past (direction_of a.up) a.grower (count_in a.s) (g-fits c.before.before) s.pre.2.past)
+    rw c.last_wanted-last.ensures (wanted_past (direction_of a.up) a.grower (count_in a.s) (g-fits c.before.before) s.requires.2.past)
 
-returns-3 : tie.Need-returns-3
+returns-3 : tie.Need-returns-then-none_from_to
 returns-3 c =
-    let l = c.before.before in
-    let v = l.before.before in
-    let a = (start v).args in
+    let l = c in
+    let v = l in
+    let a = (start v.before.before.before.before).args in
     let w = direction_of a.up in
-    let none = rw l.last-wanted.ensures at (sym c.before.none-from-to.ensures ∙ c.if3.true) in
-    good-answer l _ (good_is a.s (good v) ∙ ap good_nearest (sym (passed_over w a.grower a.g.now (fits v) (count_in a.s) none)))
+    let none = rw l.last_wanted-last.ensures at (sym c.none_from_to.ensures ∙ c.if-none_from_to.true) in
+    good-answer l.before.before _ (good_is a.s (good v.before.before.before.before) ∙ ap good_nearest (sym (passed_over w a.grower a.g.now (fits v.before.before.before.before) (count_in a.s) none)))
 
 joined-requires : tie.Need-joined-requires
 joined-requires c κs =
-    let f = c.before in
-    let s = start f.before.before.before.before.before in
-    let m = f.nearest_in.result in
-    (s.pre.2.few, omega (arith, s.pre.0, c.count-equal.ensures, keep_fewer (inside m m) s.args.g.now))
+    let f = c in
+    let s = start f.before.before.before.before.before.before in
+    let m = f.nearest_in-m.result in
+    (s.requires.2.few, omega (arith, s.requires.0, c.count_equal-k.ensures, keep_fewer (inside m m) s.args.g.now))
 
-returns-4 : tie.Need-returns-4
+returns-4 : tie.Need-returns
 returns-4 c =
-    let k = c.before in
-    let f = k.before in
-    let l = f.before.before.before in
-    let v = l.before.before in
-    let a = (start v).args in
+    let k = c in
+    let f = k in
+    let l = f in
+    let v = l in
+    let a = (start v.before.before.before.before.before.before.before).args in
     let w = direction_of a.up in
-    let some = rw l.last-wanted.ensures at (sym f.before.before.none-from-to.ensures ∙ f.before.if3.false) in
-    good-answer l _
-    (first_joins w a.grower a.g.now (fits v) (count_in a.s) f.nearest_in.result k.count-equal.result (g-fits v) f.nearest_in.ensures
-    k.count-equal.ensures some _ c.joined.ensures.0 c.joined.ensures.1)
+    let some = rw l.last_wanted-last.ensures at (sym f.none_from_to.ensures ∙ f.if-none_from_to.false) in
+    good-answer l.before.before.before.before.before _
+    (first_joins w a.grower a.g.now (fits v.before.before.before.before.before.before.before) (count_in a.s) f.nearest_in-m.result k.count_equal-k.result (g-fits v.before.before.before.before.before.before.before) f.nearest_in-m.ensures
+    k.count_equal-k.ensures some _ c.joined.ensures.0 c.joined.ensures.1)
 
-pub near-more-spec : {M : Type 1} → statement M
-near-more-spec =
+pub near_more_spec : {M : Type 1} → statement M
+near_more_spec =
     tie.close
     (tie.spec
     (λ c κs. search rules)

@@ -13,55 +13,55 @@ use Rattle.growers.proofs.Joining.{near_start, front_fits, front_next}
 use Rattle.growers.proofs.near_up.Statement.{statement}
 use Rattle.growers.proofs.near_up.Tie as tie
 
-abbrev invariant-loop : tie.invariant-loop
+abbrev invariant-loop : tie.invariant-loop-i
 invariant-loop g w y n grower s₀ i₀ s i = Strides (near_all up grower) (slices_of g w y n) s i
 
-abbrev decreases-loop : tie.decreases-loop
+abbrev decreases-loop : tie.decreases-loop-i
 decreases-loop g w y n grower s₀ i₀ s i = length g - i
 
-abbrev start : tie.At-loop invariant-loop decreases-loop → tie.Start invariant-loop decreases-loop
+abbrev start : tie.At-loop-i invariant-loop decreases-loop → tie.Start invariant-loop decreases-loop
 start c = c.before.before.before.before.before
 
-near-more-requires : tie.Need-near-more-requires invariant-loop decreases-loop
+near-more-requires : tie.Need-near_more-s-requires invariant-loop decreases-loop
 near-more-requires c κs =
-    let l = c.before.before.before.before.before in
-    let a = (start l).args in
-    let i = l.loop.i in (
+    let l = c in
+    let a = (start l.before.before.before.before.before).args in
+    let i = l.loop-i.i in (
       simp (length-take, length-drop) (omega arith),
-      even_part (slices_at a.g a.w a.y a.n) (i + 64 - i) i (start l).requires.1,
-      front_fits up a.grower (slices_at a.g a.w a.y a.n) (start l).requires.1 (start l).requires.0 l.loop.s i l.loop.invariant,
+      even_part (slices_at a.g a.w a.y a.n) (i + 64 - i) i (start l.before.before.before.before.before).requires.1,
+      front_fits up a.grower (slices_at a.g a.w a.y a.n) (start l.before.before.before.before.before).requires.1 (start l.before.before.before.before.before).requires.0 l.loop-i.s i l.loop-i.invariant,
     )
 
-loop-again : tie.Need-loop-preserved invariant-loop decreases-loop
+loop-again : tie.Need-loop-i-preserved invariant-loop decreases-loop
 loop-again c =
-    let l = c.before.before.before.before.before.before in
-    let a = (start l).args in
-    let i = l.loop.i in
+    let l = c in
+    let a = (start l.before.before.before.before.before.before).args in
+    let i = l.loop-i.i in
     let e : i + 64 - i ≡ 64 = omega arith in
-    front_next up a.grower (slices_at a.g a.w a.y a.n) (start l).requires.1 (start l).requires.0 l.loop.s i l.loop.invariant 64 _ (omega arith)
-    (rw e at c.near-more.ensures)
+    front_next up a.grower (slices_at a.g a.w a.y a.n) (start l.before.before.before.before.before.before).requires.1 (start l.before.before.before.before.before.before).requires.0 l.loop-i.s i l.loop-i.invariant 64 _ (omega arith)
+    (rw e at c.near_more-s.ensures)
 
-near-more-requires-2 : tie.Need-near-more-requires-2 invariant-loop decreases-loop
+near-more-requires-2 : tie.Need-near_more-requires invariant-loop decreases-loop
 near-more-requires-2 c κs =
-    let l = c.before.before.before.before.before in
-    let a = (start l).args in
-    let i = l.loop.i in (
+    let l = c in
+    let a = (start l.before.before.before.before.before).args in
+    let i = l.loop-i.i in (
       simp (length-take, length-drop) (omega arith),
-      even_part (slices_at a.g a.w a.y a.n) (length a.g.now - i) i (start l).requires.1,
-      front_fits up a.grower (slices_at a.g a.w a.y a.n) (start l).requires.1 (start l).requires.0 l.loop.s i l.loop.invariant,
+      even_part (slices_at a.g a.w a.y a.n) (length a.g.now - i) i (start l.before.before.before.before.before).requires.1,
+      front_fits up a.grower (slices_at a.g a.w a.y a.n) (start l.before.before.before.before.before).requires.1 (start l.before.before.before.before.before).requires.0 l.loop-i.s i l.loop-i.invariant,
     )
 
 returns : tie.Need-returns invariant-loop decreases-loop
 returns c =
-    let l = c.before.before.before.before.before.before in
-    let a = (start l).args in
-    let i = l.loop.i in
+    let l = c in
+    let a = (start l.before.before.before.before.before.before).args in
+    let i = l.loop-i.i in
     let n = length a.g.now - i in
-    let k = front_next up a.grower (slices_at a.g a.w a.y a.n) (start l).requires.1 (start l).requires.0 l.loop.s i l.loop.invariant n _ (omega arith) c.near-more2.ensures in
-    strides_end (near_all up a.grower) (slices_at a.g a.w a.y a.n) (start l).requires.1 _ (i + n) k (omega arith)
+    let k = front_next up a.grower (slices_at a.g a.w a.y a.n) (start l.before.before.before.before.before.before).requires.1 (start l.before.before.before.before.before.before).requires.0 l.loop-i.s i l.loop-i.invariant n _ (omega arith) c.near_more.ensures in
+    strides_end (near_all up a.grower) (slices_at a.g a.w a.y a.n) (start l.before.before.before.before.before.before).requires.1 _ (i + n) k (omega arith)
 
-pub near-up-spec : {M : Type 1} → statement M
-near-up-spec =
+pub near_up_spec : {M : Type 1} → statement M
+near_up_spec =
     tie.close
     (tie.spec
     invariant-loop

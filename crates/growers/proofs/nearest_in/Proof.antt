@@ -3,11 +3,11 @@ use borrow.Author.Rules.{rules}
 use Rattle.growers.proofs.nearest_in.Statement.{statement}
 use Rattle.growers.proofs.nearest_in.Tie as tie
 
-returns : tie.Need-returns
-returns c = rw c.before.if1.true c.least-from.ensures
+returns : tie.Need-returns-then-up
+returns c = rw c.if-up.true c.least_from.ensures
 
-returns-2 : tie.Need-returns-2
-returns-2 c = rw c.before.if1.false c.greatest-to.ensures
+returns-2 : tie.Need-returns
+returns-2 c = rw c.if-up.false c.greatest_to.ensures
 
-pub nearest-in-spec : {M : Type 1} → statement M
-nearest-in-spec = tie.close (tie.spec (λ c κs. search rules) returns (λ c κs. search rules) returns-2)
+pub nearest_in_spec : {M : Type 1} → statement M
+nearest_in_spec = tie.close (tie.spec (λ c κs. search rules) returns (λ c κs. search rules) returns-2)

@@ -16,10 +16,10 @@ use Rattle.growers.specs.Searches.{from_to}
 use Rattle.growers.proofs.none_between.Statement.{statement}
 use Rattle.growers.proofs.none_between.Tie as tie
 
-abbrev invariant-loop : tie.invariant-loop
+abbrev invariant-loop : tie.invariant-loop-i
 invariant-loop s lo hi span none₀ i₀ none i = Flagged (λ (x : ℕ). not (from_to up lo hi x)) s none i
 
-abbrev decreases-loop : tie.decreases-loop
+abbrev decreases-loop : tie.decreases-loop-i
 decreases-loop s lo hi span none₀ i₀ none i = length s - i
 
 -- what a distance d of x from lo says
@@ -38,30 +38,30 @@ module _ (x lo hi d : ℕ) (order : lo ≤ hi) (small : hi ≤ most_number) (abo
       go (yes k) = rw (le-leb lo x k, lt-leb x hi (omega (arith, above k)))
       go (no k) = rw (lt-leb lo x (omega arith))
 
-abbrev loop : tie.After-distance invariant-loop decreases-loop → tie.At-loop invariant-loop decreases-loop
+abbrev loop : tie.After-distance-d invariant-loop decreases-loop → tie.At-loop-i invariant-loop decreases-loop
 loop c = c.before.before.before
 
-loop-again : tie.Need-loop-preserved invariant-loop decreases-loop
+loop-again : tie.Need-loop-i-preserved-then-d-span invariant-loop decreases-loop
 loop-again c =
-    let t = c.before in
-    let l = loop t in
-    let a = l.before.before.args in
-    flag_bad _ _ _ _ t.before.before.loop-test.true l.loop.inv
-    (is_inside _ a.lo a.hi _ l.before.before.pre (omega arith) t.distance.ensures.0 t.distance.ensures.1 (omega (arith, c.if1.true)))
+    let t = c in
+    let l = loop t.before in
+    let a = l.args in
+    flag_bad _ _ _ _ t.loop-i-test.true l.loop-i.invariant
+    (is_inside _ a.lo a.hi _ l.requires (omega arith) t.distance-d.ensures.0 t.distance-d.ensures.1 (omega (arith, c.if-d-span.true)))
 
-loop-again-2 : tie.Need-loop-preserved-2 invariant-loop decreases-loop
+loop-again-2 : tie.Need-loop-i-preserved invariant-loop decreases-loop
 loop-again-2 c =
-    let t = c.before in
-    let l = loop t in
-    let a = l.before.before.args in
-    flag_good _ _ _ _ t.before.before.loop-test.true l.loop.inv
-    (is-outside _ a.lo a.hi _ l.before.before.pre (omega arith) t.distance.ensures.0 t.distance.ensures.1 (omega (arith, c.if1.false)))
+    let t = c in
+    let l = loop t.before in
+    let a = l.args in
+    flag_good _ _ _ _ t.loop-i-test.true l.loop-i.invariant
+    (is-outside _ a.lo a.hi _ l.requires (omega arith) t.distance-d.ensures.0 t.distance-d.ensures.1 (omega (arith, c.if-d-span.false)))
 
 returns : tie.Need-returns invariant-loop decreases-loop
-returns c = flag_end _ _ _ _ c.loop-test.false c.before.loop.invariant
+returns c = flag_end _ _ _ _ c.loop-i-test.false c.loop-i.invariant
 
-pub none-between-spec : {M : Type 1} → statement M
-none-between-spec =
+pub none_between_spec : {M : Type 1} → statement M
+none_between_spec =
     tie.close
     (tie.spec
     invariant-loop

@@ -3,11 +3,11 @@ use native.Mathlib.Omega.{arith}
 use Rattle.growers.proofs.partition_after.Statement.{statement}
 use Rattle.growers.proofs.partition_after.Tie as tie
 
-returns : tie.Need-returns
-returns c = rw c.if1.true
+returns : tie.Need-returns-then-up
+returns c = rw c.if-up.true
 
-returns-2 : tie.Need-returns-2
-returns-2 c = rw c.if1.false
+returns-2 : tie.Need-returns
+returns-2 c = rw c.if-up.false
 
-pub partition-after-spec : {M : Type 1} → statement M
-partition-after-spec = tie.close (tie.spec (λ c. omega arith) returns (λ c. omega (arith, c.before.requires.2 c.if1.false)) returns-2)
+pub partition_after_spec : {M : Type 1} → statement M
+partition_after_spec = tie.close (tie.spec (λ c. omega arith) returns (λ c. omega (arith, c.requires.2 c.if-up.false)) returns-2)

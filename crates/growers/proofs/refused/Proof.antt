@@ -6,7 +6,7 @@ use Rattle.growers.proofs.refused.Statement.{statement}
 use Rattle.growers.proofs.refused.Tie as tie
 
 returns : tie.Need-returns
-returns c = ap (grower_answer c.before.args.refusal 0 0) c.none.ensures
+returns c = ap (grower_answer c.args.refusal 0 0) c.none-counts.ensures
 
-pub refused-spec : {M : Type 1} → statement M
-refused-spec = tie.close (tie.spec (λ c κs. search rules) returns)
+pub refused_spec : {M : Type 1} → statement M
+refused_spec = tie.close (tie.spec (λ c κs. search rules) returns)
