@@ -13,39 +13,39 @@ use Rattle.permitted.proofs.Given.{apply_passed}
 use Rattle.planner.proofs.cost_refusal.Statement.{statement}
 use Rattle.planner.proofs.cost_refusal.Tie as tie
 
-abbrev checks : tie.Else1 → List Check
+abbrev checks : tie.Else-not-prices_ok → List Check
 checks c =
-    let a = c.before.before.before.before.before.before.before.before.args in
+    let a = c.args in
     cost_checks block_limit a.card (set_of a.block a.used a.growers.now a.weights.now a.yields.now a.days.now) a.ends.now a.histograms.now
 
-past-prices : (c : tie.Else1) → first_failed (drop 1 (checks c)) ≡ first_failed (checks c)
+past-prices : (c : tie.Else-not-prices_ok) → first_failed (drop 1 (checks c)) ≡ first_failed (checks c)
 unfolding cost_checks
-past-prices c = passes 1 _ _ _ (sym c.before.prices-ok.ensures ∙ not-false _ c.if1.false) refl
+past-prices c = passes 1 _ _ _ (sym c.prices_ok.ensures ∙ c.if-not-prices_ok.false) refl
 
-past-layout : (c : tie.Else2) → (let cs = checks c.before.before in first_failed (drop 8 cs) ≡ first_failed cs)
+past-layout : (c : tie.Else-n-ne0) → (let cs = checks c.before.before in first_failed (drop 8 cs) ≡ first_failed cs)
 unfolding apply_checks cost_checks
-past-layout c = sym (apply_passed block_limit _ _ _ (sym c.before.layout-refusal.ensures ∙ c.if2.false)) ∙ past-prices c.before.before
+past-layout c = sym (apply_passed block_limit _ _ _ (sym c.layout_refusal-n.ensures ∙ c.if-n-ne0.false)) ∙ past-prices c.before.before
 
-returns : tie.Need-returns
+returns : tie.Need-returns-then-not-prices_ok
 unfolding cost_checks
-returns c = fails 1 _ _ (sym c.before.prices-ok.ensures ∙ not-true _ c.if1.true)
+returns c = fails 1 _ _ (sym c.prices_ok.ensures ∙ c.if-not-prices_ok.true)
 
-returns-2 : tie.Need-returns-2
+returns-2 : tie.Need-returns-then-n-ne0
 unfolding apply_checks cost_checks
 returns-2 c =
-    let e = c.before.layout-refusal.ensures in
-    e ∙ failed_first _ (ask 9 _ ∷ []) (λ z. c.if2.true (e ∙ z)) ∙ past-prices c.before.before
+    let e = c.layout_refusal-n.ensures in
+    e ∙ failed_first _ (ask 9 _ ∷ []) (λ z. c.if-n-ne0.true (e ∙ z)) ∙ past-prices c.before.before
 
-returns-3 : tie.Need-returns-3
+returns-3 : tie.Need-returns-then-not-counts_ok
 unfolding cost_checks
-returns-3 c = fails 9 _ _ (sym c.before.counts-ok.ensures ∙ not-true _ c.if3.true) ∙ past-layout c.before.before
+returns-3 c = fails 9 _ _ (sym c.counts_ok.ensures ∙ c.if-not-counts_ok.true) ∙ past-layout c.before.before
 
-returns-4 : tie.Need-returns-4
+returns-4 : tie.Need-returns
 unfolding cost_checks
-returns-4 c = passes 9 0 _ _ (sym c.before.counts-ok.ensures ∙ not-false _ c.if3.false) none_failed ∙ past-layout c.before.before
+returns-4 c = passes 9 0 _ _ (sym c.counts_ok.ensures ∙ c.if-not-counts_ok.false) none_failed ∙ past-layout c.before.before
 
-pub cost-refusal-spec : {M : Type 1} → statement M
-cost-refusal-spec =
+pub cost_refusal_spec : {M : Type 1} → statement M
+cost_refusal_spec =
     tie.close
     (tie.spec
     (λ c κs. search rules)

@@ -17,62 +17,62 @@ use Rattle.planner.proofs.plan.Tie as tie
 abbrev the-set : tie.Start → Set
 the-set c = let a = c.args in set_of a.block a.used a.growers.now a.weights.now a.yields.now a.days.now
 
-abbrev at-start : tie.Else1 → tie.Start
+abbrev at-start : tie.Else-refusal-ne0 → tie.Start
 at-start c = c.before.before.before.before.before.before.before.before
 
 -- past the checks of what was given
-passed : (c : tie.Else1) → (let s = at-start c in first_failed (given_checks block_limit s.args.card s.args.limits (the-set s) s.args.histograms.now) ≡ 0)
-passed c = sym c.before.plan-refusal.ensures ∙ c.if1.false
+passed : (c : tie.Else-refusal-ne0) → (let s = at-start c in first_failed (given_checks block_limit s.args.card s.args.limits (the-set s) s.args.histograms.now) ≡ 0)
+passed c = sym c.plan_refusal-refusal.ensures ∙ c.if-refusal-ne0.false
 
-given : (c : tie.Else1) → (let s = at-start c in Given block_limit s.args.card (the-set s) s.args.histograms.now)
+given : (c : tie.Else-refusal-ne0) → (let s = at-start c in Given block_limit s.args.card (the-set s) s.args.histograms.now)
 given c = let s = at-start c in plan_given block_limit s.args.card (the-set s) s.args.histograms.now s.args.limits (passed c)
 
-few : (c : tie.After-block-count) → (1 ≤ c.block-count.result) × (c.block-count.result ≤ block_limit)
-few c = let g = given c.before in omega (arith, g.some, g.few, c.block-count.ensures)
+few : (c : tie.After-block_count-n) → (1 ≤ c.block_count-n.result) × (c.block_count-n.result ≤ block_limit)
+few c = let g = given c.before in omega (arith, g.some, g.few, c.block_count-n.ensures)
 
-returns : tie.Need-returns
-returns c = plan_not_given _ _ _ _ _ _ _ _ c.before.before.plan-refusal.ensures c.before.if1.true c.refused.ensures
+returns : tie.Need-returns-then-refusal-ne0
+returns c = plan_not_given _ _ _ _ _ _ _ _ c.plan_refusal-refusal.ensures c.if-refusal-ne0.true c.refused.ensures
 
-block-count-requires : tie.Need-block-count-requires
+block-count-requires : tie.Need-block_count-n-requires
 block-count-requires c κs = let y = (given c).size in omega (arith, y.block_least, y.block_most, y.used_fits, y.slots_most)
 
-longest-partition-requires : tie.Need-longest-partition-requires
+longest-partition-requires : tie.Need-longest_partition-longest-requires
 longest-partition-requires c κs = (given c.before).prices
 
-most-partitions-requires : tie.Need-most-partitions-requires
+most-partitions-requires : tie.Need-most_partitions-most-requires
 most-partitions-requires c κs = (given c.before.before).prices
 
-add-up-requires : tie.Need-add-up-requires
+add-up-requires : tie.Need-add_up-requires
 add-up-requires c κs =
-    let n = c.before.before.before in
-    let g = given n.before in
-    (g.counts, (g.prices, omega (arith, few n)))
+    let n = c in
+    let g = given n.before.before.before.before in
+    (g.counts, (g.prices, omega (arith, few n.before.before.before)))
 
 mark-requires : tie.Need-mark-requires
-mark-requires c κs = let n = c.before.before.before.before.before.before in ((given n.before).size, omega (arith, few n))
+mark-requires c κs = let n = c in ((given n.before.before.before.before.before.before.before).size, omega (arith, few n.before.before.before.before.before.before))
 
 searched-requires : tie.Need-searched-requires
 searched-requires c κs =
-    let n = c.before.before.before.before.before.before.before.before.before.before.before in
-    let g = given n.before in
-    let l = c.before.before.before.before.before.before.before.add_up.ensures in
-    let f = few n in
+    let n = c in
+    let g = given n.before.before.before.before.before.before.before.before.before.before.before.before in
+    let l = c.add_up.ensures in
+    let f = few n.before.before.before.before.before.before.before.before.before.before.before in
     (summed_holds _ _ _ _ _ l.summed g.prices g.counts (omega (arith, f)) (omega (arith, f, l.long)), omega (arith, f))
 
-returns-2 : tie.Need-returns-2
+returns-2 : tie.Need-returns
 returns-2 c =
-    let mark = c.before.before.before.before.before.before.before in
-    let added = mark.before.before.before in
-    let most = added.before.before in
-    let longest = most.before in
-    let n = longest.before in
-    let s = at-start n.before in
-    answered_plan block_limit s.args.card s.args.limits (the-set s) s.args.histograms.now s.args.ends.now (passed n.before) _ _ _ _ _ _ _ _
-    n.block-count.ensures longest.longest-partition.ensures most.most-partitions.ensures (given n.before).some added.add_up.ensures.summed mark.mark.ensures
-    c.before.before.searched.ensures
+    let mark = c in
+    let added = mark in
+    let most = added in
+    let longest = most in
+    let n = longest in
+    let s = at-start n.before.before.before.before.before.before.before.before.before.before.before.before.before.before.before in
+    answered_plan block_limit s.args.card s.args.limits (the-set s) s.args.histograms.now s.args.ends.now (passed n.before.before.before.before.before.before.before.before.before.before.before.before.before.before.before) _ _ _ _ _ _ _ _
+    n.block_count-n.ensures longest.longest_partition-longest.ensures most.most_partitions-most.ensures (given n.before.before.before.before.before.before.before.before.before.before.before.before.before.before.before).some added.add_up.ensures.summed mark.mark.ensures
+    c.searched.ensures
 
-pub plan-spec : {M : Type 1} → statement M
-plan-spec =
+pub plan_spec : {M : Type 1} → statement M
+plan_spec =
     tie.close
     (tie.spec
     (λ c κs. search rules)

@@ -11,11 +11,11 @@ use Rattle.recorder.proofs.delivery_refusal.Tie as tie
 
 returns : tie.Need-returns
 returns c =
-    let day = c.before in
-    let values = day.before in
-    let a = values.before.before.before.before.before.before.args in
+    let day = c in
+    let values = day in
+    let a = values.args in
     let s = set_of a.block a.used a.g.now a.w.now a.y.now a.n.now in
-    c.counted-refusal.ensures ∙ (λ i. first_failed (counted_checks block_limit s a.h.now true (values.in-range.ensures i) (day.day-ok.ensures i)))
+    c.counted_refusal.ensures ∙ (λ i. first_failed (counted_checks block_limit s a.h.now true (values.in_range-values.ensures i) (day.day_ok-day.ensures i)))
 
-pub delivery-refusal-spec : {M : Type 1} → statement M
-delivery-refusal-spec = tie.close (tie.spec (λ c κs. search rules) (λ c κs. search rules) (λ c κs. search rules) returns)
+pub delivery_refusal_spec : {M : Type 1} → statement M
+delivery_refusal_spec = tie.close (tie.spec (λ c κs. search rules) (λ c κs. search rules) (λ c κs. search rules) returns)

@@ -19,26 +19,26 @@ yields-fit s = omega (arith, s.requires.1.yields)
 days-fit : (s : tie.Start) → s.args.used ≤ length s.args.n.now
 days-fit s = omega (arith, s.requires.1.days)
 
-slice-aggregate-first-match : tie.Need-slice-aggregate-first-match
-slice-aggregate-first-match c = sym (length-take-le _ _ c.before.before.before.before.before.requires.0)
+slice-aggregate-first-match : tie.Need-slice_bounds-first_match-end
+slice-aggregate-first-match c = sym (length-take-le _ _ c.requires.0)
 
-slice-aggregate-first-match-2 : tie.Need-slice-aggregate-first-match-2
-slice-aggregate-first-match-2 c = sym (length-take-le _ _ (weights-fit c.before.before.before.before.before.before))
+slice-aggregate-first-match-2 : tie.Need-slice_bounds-first_match-end-2
+slice-aggregate-first-match-2 c = sym (length-take-le _ _ (weights-fit c.before.before.before.before))
 
-slice-aggregate-first-match-3 : tie.Need-slice-aggregate-first-match-3
-slice-aggregate-first-match-3 c = sym (length-take-le _ _ (yields-fit c.before.before.before.before.before.before.before))
+slice-aggregate-first-match-3 : tie.Need-slice_bounds-first_match-end-3
+slice-aggregate-first-match-3 c = sym (length-take-le _ _ (yields-fit c.before.before.before.before))
 
-slice-aggregate-first-match-4 : tie.Need-slice-aggregate-first-match-4
-slice-aggregate-first-match-4 c = sym (length-take-le _ _ (days-fit c.before.before.before.before.before.before.before.before))
+slice-aggregate-first-match-4 : tie.Need-slice_bounds-first_match-end-4
+slice-aggregate-first-match-4 c = sym (length-take-le _ _ (days-fit c.before.before.before.before))
 
-first-match-requires : tie.Need-first-match-requires
-first-match-requires c κs = let s = c.before.before.before.before.before.before.before.before in even_part _ s.args.used 0 s.requires.1
+first-match-requires : tie.Need-first_match-requires
+first-match-requires c κs = let s = c in even_part _ s.args.used 0 s.requires.1
 
 returns : tie.Need-returns
-returns c = let s = c.before.before.before.before.before.before.before.before.before in has_law _ _ _ _ s.requires.0 s.requires.1 c.first-match.ensures
+returns c = let s = c in has_law _ _ _ _ s.requires.0 s.requires.1 c.first_match.ensures
 
-pub has-delivery-spec : {M : Type 1} → statement M
-has-delivery-spec =
+pub has_delivery_spec : {M : Type 1} → statement M
+has_delivery_spec =
     tie.close
     (tie.spec
     slice-aggregate-first-match

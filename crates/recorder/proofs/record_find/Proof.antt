@@ -15,32 +15,32 @@ abbrev the-set : tie.Start → Set
 the-set s = let a = s.args in set_of a.block a.used a.growers.now a.weights.now a.yields.now a.days.now
 
 -- what the checks ahead of 10 decide
-decision : (c : tie.After-counted-refusal)
-    → (let s = c.before.before.before.before.before.before.before in
-    Decided block_limit (the-set s) s.args.histograms.now (find s.args.grower) c.counted-refusal.result)
+decision : (c : tie.After-counted_refusal-n)
+    → (let s = c in
+    Decided block_limit (the-set s.before.before.before.before.before.before) s.args.histograms.now (find s.args.grower) c.counted_refusal-n.result)
 unfolding ordered offered_ok offered_days_ok
-decision c = decided block_limit _ _ _ _ _ _ _ refl refl refl c.counted-refusal.ensures
+decision c = decided block_limit _ _ _ _ _ _ _ refl refl refl c.counted_refusal-n.ensures
 
-returns : tie.Need-returns
-returns c = (decision c.before).refused c.if1.true
+returns : tie.Need-returns-then-n-ne0
+returns c = (decision c.before).refused c.if-n-ne0.true
 
-block-of-requires : tie.Need-block-of-requires
-block-of-requires c κs = ((decision c.before).passed c.if1.false).whole_set.sized
+block-of-requires : tie.Need-block_of-b-requires
+block-of-requires c κs = ((decision c.before).passed c.if-n-ne0.false).whole_set.sized
 
-raise-one-requires : tie.Need-raise-one-requires
+raise-one-requires : tie.Need-raise_one-requires
 raise-one-requires c κs =
-    let e = c.before.before in
-    let p = (decision e.before).passed e.if1.false in
-    (omega arith, p.below _ _ (c.before.Block-of.ensures _ _ _), p.long)
+    let e = c in
+    let p = (decision e.before.before.before).passed e.if-n-ne0.false in
+    (omega arith, p.below _ _ (c.block_of-b.ensures _ _ _), p.long)
 
-returns-2 : tie.Need-returns-2
+returns-2 : tie.Need-returns
 returns-2 c =
-    let b = c.before.before.before.before in
-    let e = b.before in
-    c.before.before.raise-one.ensures ∙ ((decision e.before).passed e.if1.false).answers _ (find_slots block_limit _ _ _ (b.Block-of.ensures _ _ _))
+    let b = c in
+    let e = b in
+    c.raise_one.ensures ∙ ((decision e.before.before.before.before.before.before).passed e.if-n-ne0.false).answers _ (find_slots block_limit _ _ _ (b.block_of-b.ensures _ _ _))
 
-pub record-find-spec : {M : Type 1} → statement M
-record-find-spec =
+pub record_find_spec : {M : Type 1} → statement M
+record_find_spec =
     tie.close
     (tie.spec
     (λ c κs. search rules)

@@ -7,7 +7,7 @@ use Rattle.recorder.proofs.record_range.Statement.{statement}
 use Rattle.recorder.proofs.record_range.Tie as tie
 
 returns : tie.Need-returns
-returns c = c.before.before.record-range-days.ensures ∙ range_days_lem block_limit _ _ _ _
+returns c = c.record_range_days.ensures ∙ range_days_lem block_limit _ _ _ _
 
-pub record-range-spec : {M : Type 1} → statement M
-record-range-spec = tie.close (tie.spec (λ c κs. search rules) (λ c. search rules) returns)
+pub record_range_spec : {M : Type 1} → statement M
+record_range_spec = tie.close (tie.spec (λ c κs. search rules) (λ c. search rules) returns)
