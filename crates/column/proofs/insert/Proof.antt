@@ -15,35 +15,35 @@ use Rattle.column.proofs.Writing.{Open, open_ready, insert_refused, insert_open,
 use Rattle.column.proofs.insert.Statement.{statement}
 use Rattle.column.proofs.insert.Tie as tie
 
-abbrev start : tie.After-open → tie.Start
-start c = c.before.before.before.before.before.before.before.before.before.before.before
+abbrev start : tie.After-open-o → tie.Start
+start c = c.before.before.before.before.before.before
 
-abbrev lent : tie.After-open → Column
+abbrev lent : tie.After-open-o → Column
 lent c = let a = (start c).args in column_of a.directory.now a.growers.now a.weights.now a.yields.now a.days.now
 
 -- past the checks
-is_open : (c : tie.Else1) → let o = c.before in Open block_limit (lent o) (start o).args.d o.«open».result o.«open».ensures
-is_open c = insert_open block_limit _ _ _ c.before.«open».ensures c.if1.false
+is_open : (c : tie.Else-n-ne0) → let o = c in Open block_limit (lent o.before) (start o.before).args.d o.open-o.result o.open-o.ensures
+is_open c = insert_open block_limit _ _ _ c.open-o.ensures c.if-n-ne0.false
 
-there : (c : tie.Else1) → let o = c.before.«open».result in let k = lent c.before in
+there : (c : tie.Else-n-ne0) → let o = c.open-o.result in let k = lent c.before in
     Ready block_limit k o.target o.start × (o.used ≡ sum_of (lengths_of block_limit k)) × (o.used < length k.slices.growers)
-there c = open_ready block_limit _ _ _ c.before.«open».ensures (is_open c)
+there c = open_ready block_limit _ _ _ c.open-o.ensures (is_open c)
 
-returns : tie.Need-returns
-returns c = let o = c.before.before in insert_refused block_limit (lent o) _ _ o.«open».ensures _ c.refused.ensures c.before.if1.true
+returns : tie.Need-returns-then-n-ne0
+returns c = let o = c in insert_refused block_limit (lent o.before.before) _ _ o.open-o.ensures _ c.refused.ensures c.if-n-ne0.true
 
-add-each : tie.Need-overflow-add-each
-add-each c = omega (arith, c.onward.ensures, has_onward block_limit _ _ (there c.before.before).0.here)
+add-each : tie.Need-overflow_add-each
+add-each c = omega (arith, c.onward-each.ensures, has_onward block_limit _ _ (there c.before).0.here)
 
-returns-2 : tie.Need-returns-2
+returns-2 : tie.Need-returns
 returns-2 c =
-    let p = c.before.before.before.before.before.before.before.before.before.before.before in
-    let n = p.before.before.before.before.before.before in
-    let e = n.before.before in
-    insert_done block_limit (lent e.before) _ _ e.before.«open».ensures (is_open e) _ _ _ p.put.ensures n.onward.ensures c.without-totals.ensures
+    let p = c in
+    let n = p in
+    let e = n in
+    insert_done block_limit (lent e.before.before.before.before.before.before.before.before.before.before.before.before.before.before.before.before.before.before.before) _ _ e.open-o.ensures (is_open e.before.before.before.before.before.before.before.before.before.before.before.before.before.before.before.before.before.before) _ _ _ p.put.ensures n.onward-each.ensures c.without_totals.ensures
 
-pub insert-spec : {M : Type 1} → statement M
-insert-spec =
+pub insert_spec : {M : Type 1} → statement M
+insert_spec =
     tie.close
     (tie.spec
     (λ c κs. search rules)
@@ -54,9 +54,9 @@ insert-spec =
     (λ c. search rules)
     (λ c. search rules)
     returns
-    (λ c κs. (there c.before).0.here)
+    (λ c κs. (there c).0.here)
     add-each
-    (λ c κs. there c.before.before.before.before.before.before.before)
+    (λ c κs. there c.before.before.before.before.before.before)
     (λ c κs. search rules)
     (λ c. search rules)
     (λ c. search rules)

@@ -5,8 +5,8 @@ use Rattle.model.specs.Place.{place}
 use Rattle.column.proofs.last_scanned.Statement.{statement}
 use Rattle.column.proofs.last_scanned.Tie as tie
 
-returns : tie.Need-returns
-returns c = c.before.before.requires.1 ∙ ap (place _) c.if1.true
+returns : tie.Need-returns-then-lo-hi
+returns c = c.requires.1 ∙ ap (place _) c.if-lo-hi.true
 
-pub last-scanned-spec : {M : Type 1} → statement M
-last-scanned-spec = tie.close (tie.spec returns (λ c κs. search rules) (λ c. search rules))
+pub last_scanned_spec : {M : Type 1} → statement M
+last_scanned_spec = tie.close (tie.spec returns (λ c κs. search rules) (λ c. search rules))

@@ -13,66 +13,66 @@ use Rattle.column.proofs.Writing.{Found, found, found_ready, scan_small, move_re
 use Rattle.column.proofs.move_delivery.Statement.{statement}
 use Rattle.column.proofs.move_delivery.Tie as tie
 
-abbrev start : tie.After-locate → tie.Start
-start c = c.before.before.before.before.before.before.before.before.before.before.before
+abbrev start : tie.After-locate-f → tie.Start
+start c = c.before.before.before.before.before.before
 
-abbrev lent : tie.After-locate → Column
+abbrev lent : tie.After-locate-f → Column
 lent c = let a = (start c).args in column_of a.directory.now a.growers.now a.weights.now a.yields.now a.days.now
 
 -- past the checks: what the search found
-abbrev located : tie.Else1 → tie.After-locate
+abbrev located : tie.Else-f-ne0 → tie.After-locate-f
 located c = c.before.before.before
 
-is_found : (c : tie.Else1) → let l = located c in Found block_limit (lent l) (start l).args.d l.locate.result l.locate.ensures
-is_found c = found block_limit _ _ _ (located c).locate.ensures c.if1.false
+is_found : (c : tie.Else-f-ne0) → let l = located c in Found block_limit (lent l) (start l).args.d l.locate-f.result l.locate-f.ensures
+is_found c = found block_limit _ _ _ (located c).locate-f.ensures c.if-f-ne0.false
 
-shaped : (c : tie.Else1) → LentColumn block_limit (lent (located c))
+shaped : (c : tie.Else-f-ne0) → LentColumn block_limit (lent (located c))
 shaped c = lent_column block_limit _ (is_found c).lent
 
 -- the new grower's partition is one of the partitions
-inside : (c : tie.After-partition-of) → c.partition-of.result < partition_count block_limit (lent (located c.before.before)).directory
+inside : (c : tie.After-partition_of-u) → c.partition_of-u.result < partition_count block_limit (lent (located c.before)).directory
 inside c =
-    let e = c.before.before in
-    let k = lent (located e) in
-    omega (arith, c.partition-of.ensures, target_there block_limit k (is_found e).lent (start (located e)).args.new-grower, count_lengths block_limit k (shaped e))
+    let e = c in
+    let k = lent (located e.before) in
+    omega (arith, c.partition_of-u.ensures, target_there block_limit k (is_found e.before).lent (start (located e.before)).args.new_grower, count_lengths block_limit k (shaped e.before))
 
 -- two partitions are no further apart than there are partitions
-few : (c : tie.After-apart) → c.apart.result ≤ block_limit
+few : (c : tie.After-apart-n) → c.apart-n.result ≤ block_limit
 few c =
-    let e = c.before.before.before in
-    let k = lent (located e) in
-    let o = is_found e in
-    let l = shaped e in
-    omega (arith, c.apart.ensures, inside c.before, o.target_is, target_there block_limit k o.lent (start (located e)).args.d.grower, count_lengths block_limit k l, l.shape.few)
+    let e = c in
+    let k = lent (located e.before.before) in
+    let o = is_found e.before.before in
+    let l = shaped e.before.before in
+    omega (arith, c.apart-n.ensures, inside c.before, o.target_is, target_there block_limit k o.lent (start (located e.before.before)).args.d.grower, count_lengths block_limit k l, l.shape.few)
 
-returns : tie.Need-returns
-returns c = let l = c.before.before.before.before in move_refused block_limit (lent l) _ _ l.locate.ensures _ c.without-totals.ensures c.before.if1.true _
+returns : tie.Need-returns-then-f-ne0
+returns c = let l = c in move_refused block_limit (lent l.before.before.before.before) _ _ l.locate-f.ensures _ c.without_totals.ensures c.if-f-ne0.true _
 
-with-more-requires : tie.Need-with-more-requires
+with-more-requires : tie.Need-with_more-counts-requires
 with-more-requires c κs =
-    let e = c.before.before.before in
-    let s = scan_small block_limit _ _ _ (located e).locate.ensures (is_found e) in
+    let e = c in
+    let s = scan_small block_limit _ _ _ (located e.before.before).locate-f.ensures (is_found e.before.before) in
     (s.0, s.1, omega (arith, few c), omega (arith, few c))
 
 shift-requires : tie.Need-shift-requires
 shift-requires c κs =
-    let p = c.before.before.before.before.before.before.before in
-    let e = p.before.before in
-    let r = found_ready block_limit (lent (located e)) _ _ (located e).locate.ensures (is_found e) in
-    (r.0, r.1, inside p)
+    let p = c in
+    let e = p in
+    let r = found_ready block_limit (lent (located e.before.before.before.before.before.before.before.before)) _ _ (located e.before.before.before.before.before.before.before.before).locate-f.ensures (is_found e.before.before.before.before.before.before.before.before) in
+    (r.0, r.1, inside p.before.before.before.before.before.before.before)
 
-returns-2 : tie.Need-returns-2
+returns-2 : tie.Need-returns
 returns-2 c =
-    let s = c.before.before.before.before.before.before.before.before.before.before.before in
-    let m = s.before.before.before.before.before.before in
-    let p = m.before.before in
-    let e = p.before.before in
-    let l = located e in
-    move_done block_limit (lent l) _ _ l.locate.ensures (is_found e) _ _ _ _ c.without-totals2.ensures (start l).args.new-grower _ p.partition-of.ensures s.shift.ensures
-    m.before.apart.ensures m.with-more.ensures
+    let s = c in
+    let m = s in
+    let p = m in
+    let e = p in
+    let l = located e.before.before.before.before.before.before.before.before.before.before.before.before.before.before.before.before.before.before.before.before in
+    move_done block_limit (lent l) _ _ l.locate-f.ensures (is_found e.before.before.before.before.before.before.before.before.before.before.before.before.before.before.before.before.before.before.before.before) _ _ _ _ c.without_totals-2.ensures (start l).args.new_grower _ p.partition_of-u.ensures s.shift.ensures
+    m.apart-n.ensures m.with_more-counts.ensures
 
-pub move-delivery-spec : {M : Type 1} → statement M
-move-delivery-spec =
+pub move_delivery_spec : {M : Type 1} → statement M
+move_delivery_spec =
     tie.close
     (tie.spec
     (λ c κs. search rules)
@@ -83,7 +83,7 @@ move-delivery-spec =
     (λ c. search rules)
     (λ c. search rules)
     returns
-    (λ c κs. most_shaped block_limit _ (shaped c.before))
+    (λ c κs. most_shaped block_limit _ (shaped c))
     (λ c κs. search rules)
     (λ c. omega (arith, few c))
     (λ c. omega (arith, few c))

@@ -6,7 +6,7 @@ use Rattle.column.proofs.not_located.Statement.{statement}
 use Rattle.column.proofs.not_located.Tie as tie
 
 returns : tie.Need-returns
-returns c = c.not-located-after.ensures ∙ ap (not_located c.before.before.args.refusal) c.before.none.ensures
+returns c = c.not_located_after.ensures ∙ ap (not_located c.args.refusal) c.none.ensures
 
-pub not-located-spec : {M : Type 1} → statement M
-not-located-spec = tie.close (tie.spec (λ c κs. search rules) (λ c κs. search rules) returns)
+pub not_located_spec : {M : Type 1} → statement M
+not_located_spec = tie.close (tie.spec (λ c κs. search rules) (λ c κs. search rules) returns)

@@ -16,55 +16,55 @@ use Rattle.column.proofs.Writing.{opened_lent, opened_range, opened_day, opened_
 use Rattle.column.proofs.open.Statement.{statement}
 use Rattle.column.proofs.open.Tie as tie
 
-abbrev start : tie.After-lent → tie.Start
+abbrev start : tie.After-lent-shape → tie.Start
 start c = c.before.before.before.before.before.before
 
-abbrev the-column : tie.After-lent → Column
+abbrev the-column : tie.After-lent-shape → Column
 the-column c = let a = (start c).args in column_of a.directory.now a.g.now a.w.now a.y.now a.n.now
 
 -- past checks 2, 3 and 6
-shaped : (c : tie.Else1) → let l = c.before in Carried block_limit (lent_checks block_limit (the-column l)) (start l).args.directory.now (start l).args.d.grower l.lent.result
-shaped c = carried block_limit _ _ _ _ c.before.lent.ensures c.if1.false
+shaped : (c : tie.Else-refusal-ne0) → let l = c in Carried block_limit (lent_checks block_limit (the-column l.before)) (start l.before).args.directory.now (start l.before).args.d.grower l.lent-shape.result
+shaped c = carried block_limit _ _ _ _ c.lent-shape.ensures c.if-refusal-ne0.false
 
-refusal : (c : tie.After-lent) → c.lent.result.refusal ≡ first_failed (lent_checks block_limit (the-column c))
-refusal c = shape_refusal block_limit _ _ _ _ c.lent.ensures
+refusal : (c : tie.After-lent-shape) → c.lent-shape.result.refusal ≡ first_failed (lent_checks block_limit (the-column c))
+refusal c = shape_refusal block_limit _ _ _ _ c.lent-shape.ensures
 
-returns : tie.Need-returns
-returns c = c.refused.ensures ∙ opened_lent block_limit _ _ _ (refusal c.before.before) c.before.if1.true
+returns : tie.Need-returns-then-refusal-ne0
+returns c = c.refused.ensures ∙ opened_lent block_limit _ _ _ (refusal c.before.before) c.if-refusal-ne0.true
 
-returns-2 : tie.Need-returns-2
+returns-2 : tie.Need-returns-then-not-in_range
 returns-2 c =
-    let r = c.before.before in
-    c.refused2.ensures ∙ opened_range block_limit _ _ (shaped r.before).passed (sym r.in-range.ensures ∙ not-true _ c.before.if2.true)
+    let r = c in
+    c.refused-then-not-in_range.ensures ∙ opened_range block_limit _ _ (shaped r.before.before.before).passed (sym r.in_range.ensures ∙ c.if-not-in_range.true)
 
 -- past check 8, and past check 19
-in_range_lem : (c : tie.Else2) → in_range (start c.before.before.before).args.d ≡ true
-in_range_lem c = sym c.before.in-range.ensures ∙ not-false _ c.if2.false
+in_range_lem : (c : tie.Else-not-in_range) → in_range (start c.before.before.before).args.d ≡ true
+in_range_lem c = sym c.in_range.ensures ∙ c.if-not-in_range.false
 
-on-a-day : (c : tie.Else3) → day_ok (start c.before.before.before.before.before).args.d ≡ true
-on-a-day c = sym c.before.day-ok.ensures ∙ not-false _ c.if3.false
+on-a-day : (c : tie.Else-not-day_ok) → day_ok (start c.before.before.before.before.before).args.d ≡ true
+on-a-day c = sym c.day_ok.ensures ∙ c.if-not-day_ok.false
 
-returns-3 : tie.Need-returns-3
+returns-3 : tie.Need-returns-then-not-day_ok
 returns-3 c =
-    let v = c.before.before in
-    let i = v.before in
-    let w = shaped i.before.before in
-    c.refused3.ensures ∙ opened_day block_limit _ _ w.passed (in_range_lem i) (sym v.day-ok.ensures ∙ not-true _ c.before.if3.true)
+    let v = c in
+    let i = v in
+    let w = shaped i.before.before.before.before.before in
+    c.refused-then-not-day_ok.ensures ∙ opened_day block_limit _ _ w.passed (in_range_lem i.before.before.before) (sym v.day_ok.ensures ∙ c.if-not-day_ok.true)
 
-returns-4 : tie.Need-returns-4
+returns-4 : tie.Need-returns-then-g-shape
 returns-4 c =
-    let o = c.before.before.before in
-    let i = o.before.before in
-    let w = shaped i.before.before in
-    c.refused4.ensures ∙ opened_full block_limit _ _ w.passed (in_range_lem i) (on-a-day o) (omega (arith, w.used, c.before.if4.true))
+    let o = c in
+    let i = o in
+    let w = shaped i.before.before.before.before.before.before.before in
+    c.refused-then-g-shape.ensures ∙ opened_full block_limit _ _ w.passed (in_range_lem i.before.before.before.before.before) (on-a-day o.before.before.before) (omega (arith, w.used, c.if-g-shape.true))
 
-returns-5 : tie.Need-returns-5
+returns-5 : tie.Need-returns
 returns-5 c =
-    let o = c.before.before in
-    let i = o.before.before in
-    let e = i.before.before in
-    let w = shaped e in
-    opened_yes block_limit _ _ w.passed (in_range_lem i) (on-a-day o) (omega (arith, w.used, c.if4.false)) _ e.if1.false w.used w.target w.start
+    let o = c in
+    let i = o in
+    let e = i in
+    let w = shaped e.before.before.before.before.before.before in
+    opened_yes block_limit _ _ w.passed (in_range_lem i.before.before.before.before) (on-a-day o.before.before) (omega (arith, w.used, c.if-g-shape.false)) _ e.if-refusal-ne0.false w.used w.target w.start
 
 pub open_spec : {M : Type 1} → statement M
 open_spec =

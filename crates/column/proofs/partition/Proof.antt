@@ -16,39 +16,39 @@ use Rattle.column.proofs.Handing.{partition_refused, partition_done, partition_d
 use Rattle.column.proofs.partition.Statement.{statement}
 use Rattle.column.proofs.partition.Tie as tie
 
-abbrev start : tie.After-lent-growers → tie.Start
+abbrev start : tie.After-lent_growers-shape → tie.Start
 start c = c.before.before.before
 
 -- past checks 2, 3 and 6
-shaped : (c : tie.Else1) → let l = c.before in let a = (start l).args in
-    Carried block_limit (partition_checks block_limit a.directory.now a.growers.now) a.directory.now a.grower l.lent-growers.result
-shaped c = carried block_limit _ _ _ _ c.before.lent-growers.ensures c.if1.false
+shaped : (c : tie.Else-n-ne0) → let l = c in let a = (start l.before).args in
+    Carried block_limit (partition_checks block_limit a.directory.now a.growers.now) a.directory.now a.grower l.lent_growers-shape.result
+shaped c = carried block_limit _ _ _ _ c.lent_growers-shape.ensures c.if-n-ne0.false
 
-shaped-directory : (c : tie.Else1) → T (directory_ok block_limit most_slots (start c.before).args.directory.now)
+shaped-directory : (c : tie.Else-n-ne0) → T (directory_ok block_limit most_slots (start c.before).args.directory.now)
 shaped-directory c = let a = (start c.before).args in partition_directory block_limit _ a.growers.now a.grower (shaped c).passed
 
-returns : tie.Need-returns
-returns c = c.no_partition.ensures ∙ partition_refused block_limit _ _ _ _ (shape_refusal block_limit _ _ _ _ c.before.before.lent-growers.ensures) c.before.if1.true
+returns : tie.Need-returns-then-n-ne0
+returns c = c.no_partition.ensures ∙ partition_refused block_limit _ _ _ _ (shape_refusal block_limit _ _ _ _ c.lent_growers-shape.ensures) c.if-n-ne0.true
 
-length-of-requires : tie.Need-length-of-requires
+length-of-requires : tie.Need-length_of-count-requires
 length-of-requires c κs = let w = shaped c in rw w.target (partition_has block_limit _ _ _ w.passed)
 
-cast-t9 : tie.Need-overflow-cast-t9
+cast-t9 : tie.Need-overflow_cast-result
 cast-t9 c =
     let a = (start c.before.before).args in
     omega (arith, (shaped c.before).start, dir_start block_limit _ (shaped-directory c.before) (place (directory_of block_limit a.directory.now).fences a.grower))
 
-cast-t10 : tie.Need-overflow-cast-t10
-cast-t10 c = omega (arith, c.length-of.ensures, dir_fits block_limit _ (shaped-directory c.before) c.before.before.lent-growers.result.target)
+cast-t10 : tie.Need-overflow_cast-result-2
+cast-t10 c = omega (arith, c.length_of-count.ensures, dir_fits block_limit _ (shaped-directory c.before) c.lent_growers-shape.result.target)
 
-returns-2 : tie.Need-returns-2
+returns-2 : tie.Need-returns
 returns-2 c =
     let w = shaped c.before in
     let ns = (directory_of block_limit (start c.before.before).args.directory.now).lengths in
-    partition_done block_limit _ _ _ w.passed _ _ w.start (c.length-of.ensures ∙ ap (λ (t : ℕ). get_or ns t 0) w.target)
+    partition_done block_limit _ _ _ w.passed _ _ w.start (c.length_of-count.ensures ∙ ap (λ (t : ℕ). get_or ns t 0) w.target)
 
-pub partition-spec : {M : Type 1} → statement M
-partition-spec =
+pub partition_spec : {M : Type 1} → statement M
+partition_spec =
     tie.close
     (tie.spec
     (λ c κs. search rules)

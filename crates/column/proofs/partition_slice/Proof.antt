@@ -9,21 +9,21 @@ use Rattle.column.proofs.Handing.{handed_inside, cut_out}
 use Rattle.column.proofs.partition_slice.Statement.{statement}
 use Rattle.column.proofs.partition_slice.Tie as tie
 
-part-result-end : tie.Need-slice-bounds-result-end
+part-result-end : tie.Need-slice_bounds-result-end
 part-result-end c =
-    let b₁ = c.before.before in
-    let b₂ = b₁.before.before.before in
+    let b₁ = c in
+    let b₂ = b₁ in
     let g = b₂.args in
-    omega (arith, handed_inside block_limit g.directory.now g.growers.now g.grower b₁.partition.result b₁.partition.ensures)
+    omega (arith, handed_inside block_limit g.directory.now g.growers.now g.grower b₁.partition-p.result b₁.partition-p.ensures)
 
 returns : tie.Need-returns
 returns c =
-    let g = c.before.before.before.before.before.before.args in
-    let p = c.before.before.before.partition in
+    let g = c.args in
+    let p = c.partition-p in
     cut_out p.result g.growers.ref_ptr g.growers.now ∙ ap (λ (x : PartitionSlice). part_of x g.growers.ref_ptr g.growers.now) p.ensures
 
-pub partition-slice-spec : {M : Type 1} → statement M
-partition-slice-spec =
+pub partition_slice_spec : {M : Type 1} → statement M
+partition_slice_spec =
     tie.close
     (tie.spec
     (λ c κs. search rules)

@@ -13,12 +13,12 @@ use Rattle.column.proofs.put.Statement.{statement}
 use Rattle.column.proofs.put.Tie as tie
 
 abbrev start : tie.After-lengths → tie.Start
-start c = c.before.before.before.before.before.before.before.before.before.before.before
+start c = c.before.before.before.before.before.before.before.before.before.before
 
 abbrev lent : tie.After-lengths → Column
 lent c = let a = (start c).args in column_of a.directory.now a.g.now a.w.now a.y.now a.n.now
 
-insert-slots-requires : tie.Need-insert-slots-requires
+insert-slots-requires : tie.Need-insert_slots-requires
 insert-slots-requires c κs = let p = (start c).requires in rw c.lengths.ensures (has_inside block_limit _ _ p.0.here, p.0.start, p.1, p.2, p.0.even)
 
 grow-requires : tie.Need-grow-requires
@@ -26,19 +26,19 @@ grow-requires c κs = let p = (start c.before.before.before.before.before.before
 
 returns : tie.Need-returns
 returns c =
-    let s = c.before.before.before.before.before.before.before.before.before.before.before.before in
-    let k = lent s.before in
+    let s = c in
+    let k = lent s.before.before.before.before.before.before.before.before.before.before.before.before.before in
     let o = k.slices in
-    let a = (start s.before).args in
+    let a = (start s.before.before.before.before.before.before.before.before.before.before.before.before.before).args in
     let ns = lengths_of block_limit k in
-    column_is (inserted ns a.partition) a.d (one_more a.partition ns) k _ _ _ _ _ c.before.before.grow.ensures
-    (by_lengths (λ (ls : List ℕ). inserted ls a.partition) a.d o.growers o.weights o.yields o.days _ _ _ _ _ ns s.before.lengths.ensures s.insert-slots.ensures)
+    column_is (inserted ns a.partition) a.d (one_more a.partition ns) k _ _ _ _ _ c.grow.ensures
+    (by_lengths (λ (ls : List ℕ). inserted ls a.partition) a.d o.growers o.weights o.yields o.days _ _ _ _ _ ns s.lengths.ensures s.insert_slots.ensures)
 
 pub put_spec : {M : Type 1} → statement M
 put_spec =
     tie.close
     (tie.spec
-    (λ c κs. has_numbered block_limit _ _ c.before.before.before.before.before.before.before.before.before.before.requires.0.here)
+    (λ c κs. has_numbered block_limit _ _ c.requires.0.here)
     insert-slots-requires
     grow-requires
     (λ c. search rules)

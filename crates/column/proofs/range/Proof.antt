@@ -10,9 +10,9 @@ use Rattle.column.proofs.range.Tie as tie
 
 returns : tie.Need-returns
 returns c =
-    let a = c.before.before.before.before.before.before.args in
+    let a = c.args in
     let k = column_of a.directory.now a.growers.now a.weights.now a.yields.now a.days.now in
-    c.range-days.ensures ∙ ap (λ (r : Called). r.answer) (days_of_a_range.all_days block_limit k a.lo a.hi)
+    c.range_days.ensures ∙ ap (λ (r : Called). r.answer) (days_of_a_range.all_days block_limit k a.lo a.hi)
 
-pub range-spec : {M : Type 1} → statement M
-range-spec = tie.close (tie.spec (λ c κs. search rules) returns)
+pub range_spec : {M : Type 1} → statement M
+range_spec = tie.close (tie.spec (λ c κs. search rules) returns)

@@ -16,32 +16,32 @@ use Rattle.column.proofs.Answering.{lent_no}
 use Rattle.column.proofs.range_days.Statement.{statement}
 use Rattle.column.proofs.range_days.Tie as tie
 
-abbrev start : tie.After-lent → tie.Start
+abbrev start : tie.After-lent-shape → tie.Start
 start c = c.before.before.before.before.before.before
 
-abbrev the-column : tie.After-lent → Column
+abbrev the-column : tie.After-lent-shape → Column
 the-column c = let a = (start c).args in column_of a.directory.now a.growers.now a.weights.now a.yields.now a.days.now
 
 -- past checks 2, 3 and 6
-shaped : (c : tie.Else1) → let l = c.before in Carried block_limit (lent_checks block_limit (the-column l)) (start l).args.directory.now (start l).args.lo l.lent.result
-shaped c = carried block_limit _ _ _ _ c.before.lent.ensures c.if1.false
+shaped : (c : tie.Else-n-ne0) → let l = c in Carried block_limit (lent_checks block_limit (the-column l.before)) (start l.before).args.directory.now (start l.before).args.lo l.lent-shape.result
+shaped c = carried block_limit _ _ _ _ c.lent-shape.ensures c.if-n-ne0.false
 
-refusal : (c : tie.After-lent) → c.lent.result.refusal ≡ first_failed (lent_checks block_limit (the-column c))
-refusal c = shape_refusal block_limit _ _ _ _ c.lent.ensures
+refusal : (c : tie.After-lent-shape) → c.lent-shape.result.refusal ≡ first_failed (lent_checks block_limit (the-column c))
+refusal c = shape_refusal block_limit _ _ _ _ c.lent-shape.ensures
 
-returns : tie.Need-returns
-returns c = c.refused.ensures ∙ ap (λ (x : Called). x.answer) (lent_no block_limit _ (range_days _ _ _) _ (refusal c.before.before) c.before.if1.true)
+returns : tie.Need-returns-then-n-ne0
+returns c = c.refused.ensures ∙ ap (λ (x : Called). x.answer) (lent_no block_limit _ (range_days _ _ _) _ (refusal c.before.before) c.if-n-ne0.true)
 
-returns-2 : tie.Need-returns-2
-returns-2 c = c.refused2.ensures ∙ range_backwards block_limit _ (shaped c.before.before).passed _ _ _ c.before.if2.true
+returns-2 : tie.Need-returns-then-hi-lo
+returns-2 c = c.refused-then-hi-lo.ensures ∙ range_backwards block_limit _ (shaped c.before.before).passed _ _ _ c.if-hi-lo.true
 
 read-requires : tie.Need-read-requires
 read-requires c κs =
     let w = shaped c.before in
-    (w.passed, c.if2.false, w.target, w.start ∙ ap (start_of (lengths_of block_limit (the-column c.before.before))) (sym w.target))
+    (w.passed, c.if-hi-lo.false, w.target, w.start ∙ ap (start_of (lengths_of block_limit (the-column c.before.before))) (sym w.target))
 
-pub range-days-spec : {M : Type 1} → statement M
-range-days-spec =
+pub range_days_spec : {M : Type 1} → statement M
+range_days_spec =
     tie.close
     (tie.spec
     (λ c κs. search rules)

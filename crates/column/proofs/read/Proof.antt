@@ -27,25 +27,25 @@ lent : (c : tie.Start) → LentColumn block_limit (the-column c)
 lent c = lent_column block_limit _ c.requires.0
 
 -- the scan, in the column's terms
-scanned : (c : tie.After-scan-parts)
-    → (let s = c.before.before.before.before.before.before.before.before.before in let k = the-column s in let lo = target block_limit k s.args.lo in
-    c.scan-parts.result
+scanned : (c : tie.After-scan_parts-s)
+    → (let s = c in let k = the-column s.before.before.before.before.before.before.before.before.before in let lo = target block_limit k s.args.lo in
+    c.scan_parts-s.result
     ≡ scan_of (get_or s.args.directory.now 0 0) (lengths_of block_limit k) lo (target block_limit k s.args.hi + 1 - lo) s.args.lo s.args.hi
     (span s.args.first s.args.last) (slots k))
 scanned c =
-    let p = c.before.before.before in
-    let s = p.before.before.before.before.before.before in
-    rw (c.before.before.lengths.ensures, s.requires.2, p.last-scanned.ensures, c.before.block.ensures ∙ block_is block_limit _) at c.scan-parts.ensures
+    let p = c in
+    let s = p in
+    rw (c.lengths.ensures, s.requires.2, p.last_scanned-to.ensures, c.block.ensures ∙ block_is block_limit _) at c.scan_parts-s.ensures
 
-abbrev start : tie.After-scan-parts → tie.Start
+abbrev start : tie.After-scan_parts-s → tie.Start
 start c = c.before.before.before.before.before.before.before.before.before
 
-scan-parts-requires : tie.Need-scan-parts-requires
+scan-parts-requires : tie.Need-scan_parts-s-requires
 scan-parts-requires c κs =
-    let s = c.before.before.before.before.before.before.before.before in
+    let s = c in
     let p = s.requires in
-    let l = lent s in
-    rw (c.before.lengths.ensures, c.before.before.last-scanned.ensures, c.block.ensures ∙ block_is block_limit _) (
+    let l = lent s.before.before.before.before.before.before.before.before in
+    rw (c.lengths.ensures, c.last_scanned-to.ensures, c.block.ensures ∙ block_is block_limit _) (
       (
         rw p.2 (targets_ordered block_limit _ p.0 _ _ p.1),
         target_there block_limit _ p.0 _,
@@ -57,13 +57,13 @@ scan-parts-requires c κs =
     )
 
 -- the lengths that a bad scan is asked about again are the same
-failed-check-requires : tie.Need-failed-check-requires
+failed-check-requires : tie.Need-failed_check-requires
 failed-check-requires c κs =
-    let r = c.before.before.before in
-    let s = start r in
-    let p = s.pre in
+    let r = c in
+    let s = start r.before.before.before in
+    let p = s.requires in
     let l = lent s in
-    rw (c.lengths2.ensures, r.before.before.before.last-scanned.ensures) (
+    rw (c.lengths-then-not-s.ensures, r.last_scanned-to.ensures) (
       rw p.2 (targets_ordered block_limit _ p.0 _ _ p.1),
       target_there block_limit _ p.0 _,
       omega (arith, count_lengths block_limit _ l, l.shape.few),
@@ -73,45 +73,45 @@ failed-check-requires c κs =
       l.even,
     )
 
-failed : (c : tie.After-failed-check)
+failed : (c : tie.After-failed_check)
     → (let s = start c.before.before.before.before in let k = the-column s in let lo = target block_limit k s.args.lo in
-    c.failed-check.result ≡ cond (every in_range (records_in (lengths_of block_limit k) lo (target block_limit k s.args.hi + 1 - lo) (slots k))) 19 8)
+    c.failed_check.result ≡ cond (every in_range (records_in (lengths_of block_limit k) lo (target block_limit k s.args.hi + 1 - lo) (slots k))) 19 8)
 failed c =
-    let r = c.before.before.before.before in
-    let s = start r in
-    let from = s.pre.2 in
-    let to = r.before.before.before.last-scanned.ensures in
-    let ns = c.before.lengths2.ensures in
-    c.failed-check.ensures ∙ (λ i. cond (every in_range (records_in (ns i) (from i) (to i + 1 - from i) (slots (the-column s)))) 19 8)
+    let r = c in
+    let s = start r.before.before.before.before in
+    let from = s.requires.2 in
+    let to = r.last_scanned-to.ensures in
+    let ns = c.lengths-then-not-s.ensures in
+    c.failed_check.ensures ∙ (λ i. cond (every in_range (records_in (ns i) (from i) (to i + 1 - from i) (slots (the-column s)))) 19 8)
 
-returns : tie.Need-returns
+returns : tie.Need-returns-then-not-s
 returns c =
-    let f = c.before in
-    let r = f.before.before.before.before in
-    let p = (start r).requires in
-    c.refused.ensures ∙ range_bad block_limit _ p.0 _ _ _ p.1 _ (scanned r) (not-true _ f.before.before.if1.true) _ (failed f)
+    let f = c in
+    let r = f in
+    let p = (start r.before.before.before.before.before).requires in
+    c.refused.ensures ∙ range_bad block_limit _ p.0 _ _ _ p.1 _ (scanned r.before.before.before.before.before) (not-true _ f.if-not-s.true) _ (failed f.before)
 
-returns-2 : tie.Need-returns-2
+returns-2 : tie.Need-returns-then-not-span_ok
 returns-2 c =
-    let v = c.before.before in
-    let r = v.before.before.before in
-    let p = (start r).requires in
-    c.refused2.ensures
-    ∙ range_undated block_limit _ p.0 _ _ _ p.1 _ (scanned r) (not-false _ v.before.if1.false) v.span-ok.result v.span-ok.ensures (not-true _ c.before.if2.true)
+    let v = c in
+    let r = v in
+    let p = (start r.before.before.before.before.before).requires in
+    c.refused-then-not-span_ok.ensures
+    ∙ range_undated block_limit _ p.0 _ _ _ p.1 _ (scanned r.before.before.before.before.before) (not-false _ v.if-not-s.false) v.span_ok.result v.span_ok.ensures (c.if-not-span_ok.true)
 
-returns-3 : tie.Need-returns-3
+returns-3 : tie.Need-returns
 returns-3 c =
-    let v = c.before.before.before in
-    let r = v.before.before.before in
-    let p = (start r).requires in
-    range_good block_limit _ p.0 _ _ _ p.1 _ (scanned r) (not-false _ v.before.if1.false) v.span-ok.result v.span-ok.ensures _
-    (not-false _ c.before.before.if2.false) c.before.Reads-of.ensures
+    let v = c in
+    let r = v in
+    let p = (start r.before.before.before.before.before.before).requires in
+    range_good block_limit _ p.0 _ _ _ p.1 _ (scanned r.before.before.before.before.before.before) (not-false _ v.if-not-s.false) v.span_ok.result v.span_ok.ensures _
+    (c.if-not-span_ok.false) c.reads_of-counts.ensures
 
 pub read_spec : {M : Type 1} → statement M
 read_spec =
     tie.close
     (tie.spec
-    (λ c κs. let s = c.before.before.before.before.before in (most_shaped block_limit _ (lent s), s.requires.2))
+    (λ c κs. let s = c in (most_shaped block_limit _ (lent s.before.before.before.before.before), s.requires.2))
     (λ c κs. numbered block_limit _ (lent c.before.before.before.before.before.before))
     (λ c κs. (lent c.before.before.before.before.before.before.before).shape.size)
     scan-parts-requires

@@ -6,7 +6,7 @@ use Rattle.column.proofs.refused.Statement.{statement}
 use Rattle.column.proofs.refused.Tie as tie
 
 returns : tie.Need-returns
-returns c = c.without-totals.ensures ∙ ap (without_totals c.before.before.args.refusal) c.before.none.ensures
+returns c = c.without_totals.ensures ∙ ap (without_totals c.args.refusal) c.none.ensures
 
-pub refused-spec : {M : Type 1} → statement M
-refused-spec = tie.close (tie.spec (λ c κs. search rules) (λ c κs. search rules) returns)
+pub refused_spec : {M : Type 1} → statement M
+refused_spec = tie.close (tie.spec (λ c κs. search rules) (λ c κs. search rules) returns)

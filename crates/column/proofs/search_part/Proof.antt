@@ -26,108 +26,108 @@ records s = let a = s.args in rows (slices_at a.g a.w a.y a.n)
 size : (s : tie.Start) → length (records s) ≡ length s.args.g.now
 size s = let a = s.args in length-rows (slices_at a.g a.w a.y a.n) s.requires.1
 
-abbrev start : tie.After-seek-all → tie.Start
+abbrev start : tie.After-seek_all-f → tie.Start
 start c = c.before.before.before.before.before.before.before
 
 -- whether all records pass checks 8 and 19, and where they do not, whether they pass 8
-fits : (c : tie.After-seek-all) (b : Bool) → c.seek-all.result.good ≡ b → all_fit (records (start c)) ≡ b
-fits c = seek_says (start c).args.d (records (start c)) c.seek-all.result c.seek-all.ensures
+fits : (c : tie.After-seek_all-f) (b : Bool) → c.seek_all-f.result.good ≡ b → all_fit (records (start c)) ≡ b
+fits c = seek_says (start c).args.d (records (start c)) c.seek_all-f.result c.seek_all-f.ensures
 
-in_range_lem : (c : tie.After-values-ok) (b : Bool) → c.values_ok_lem.result ≡ b → every in_range (records (start c.before.before.before)) ≡ b
+in_range_lem : (c : tie.After-values_ok) (b : Bool) → c.values_ok.result ≡ b → every in_range (records (start c.before.before.before)) ≡ b
 in_range_lem c b e =
     let s = start c.before.before.before in
     let a = s.args in
-    values_rows (slices_at a.g a.w a.y a.n) s.pre.1 ∙ sym c.values_ok_lem.ensures ∙ e
+    values_rows (slices_at a.g a.w a.y a.n) s.requires.1 ∙ sym c.values_ok.ensures ∙ e
 
 -- check 19 of the delivery, after records that pass both
-own-day : (c : tie.After-seek-all) (b : Bool) → c.before.before.day-ok.result ≡ b → day_ok (start c).args.d ≡ b
-own-day c b e = sym c.before.before.day-ok.ensures ∙ e
+own-day : (c : tie.After-seek_all-f) (b : Bool) → c.day_ok-dated.result ≡ b → day_ok (start c).args.d ≡ b
+own-day c b e = sym c.day_ok-dated.ensures ∙ e
 
-abbrev found : tie.After-reads-of2 → tie.After-seek-all
+abbrev found : tie.After-reads_of-counts → tie.After-seek_all-f
 found c = c.before.before.before.before.before
 
-scanned : (c : tie.After-reads-of2) → let s = start (found c) in c.reads-of2.result ≡ reads_of (blocks_of s.args.block (length (records s)))
+scanned : (c : tie.After-reads_of-counts) → let s = start (found c) in c.reads_of-counts.result ≡ reads_of (blocks_of s.args.block (length (records s)))
 scanned c =
     let s = start (found c) in
-    c.reads-of2.ensures ∙ ap reads_of (c.before.blocks-of.ensures ∙ ap (blocks_of s.args.block) (sym (size s)))
+    c.reads_of-counts.ensures ∙ ap reads_of (c.blocks_of.ensures ∙ ap (blocks_of s.args.block) (sym (size s)))
 
-returns : tie.Need-returns
+returns : tie.Need-returns-then-not-dated
 returns c =
-    let v = c.before.before.before in
-    let s = v.before.before.before.before.before in
+    let v = c in
+    let s = v in
     let a = s.args in
-    c.not-located.ensures
-    ∙ empty_undated a.block a.partition a.start a.d (records s) (omega (arith, size s, c.before.before.if1.true)) (sym v.day-ok.ensures ∙ not-true _ c.before.if2.true)
+    c.not_located.ensures
+    ∙ empty_undated a.block a.partition a.start a.d (records s.before.before.before.before.before.before.before.before) (omega (arith, size s.before.before.before.before.before.before.before.before, c.if-g-eq0.true)) (sym v.day_ok-dated.ensures ∙ c.if-not-dated.true)
 
-returns-2 : tie.Need-returns-2
+returns-2 : tie.Need-returns-then-g-eq0
 returns-2 c =
-    let v = c.before.before.before.before in
-    let s = v.before.before.before.before.before in
+    let v = c in
+    let s = v in
     let a = s.args in
-    let none : c.before.Reads-of.result ≡ reads_of 0 = c.before.Reads-of.ensures in
-    c.not-located-after.ensures
-    ∙ search_empty a.block a.partition a.start a.d (records s) _ s.requires.2 none (omega (arith, size s, c.before.before.before.if1.true))
-    (sym v.day-ok.ensures ∙ not-false _ c.before.before.if2.false)
+    let none : c.reads_of.result ≡ reads_of 0 = c.reads_of.ensures in
+    c.not_located_after.ensures
+    ∙ search_empty a.block a.partition a.start a.d (records s.before.before.before.before.before.before.before.before.before) _ s.requires.2 none (omega (arith, size s.before.before.before.before.before.before.before.before.before, c.if-g-eq0.true))
+    (sym v.day_ok-dated.ensures ∙ c.if-not-dated.false)
 
-returns-3 : tie.Need-returns-3
+returns-3 : tie.Need-returns-then-values_ok
 returns-3 c =
-    let v = c.before.before in
-    let f = v.before.before.before in
-    let s = start f in
+    let v = c in
+    let f = v in
+    let s = start f.before.before.before.before.before in
     let a = s.args in
-    c.not-located2.ensures
-    ∙ search_late a.block a.partition a.start a.d (records s) (fits f false (not-true _ v.before.if3.true)) (in_range_lem v true c.before.if4.true)
+    c.not_located-then-values_ok.ensures
+    ∙ search_late a.block a.partition a.start a.d (records s) (fits f.before.before.before.before.before false (not-true _ v.if-not-f.true)) (in_range_lem v.before.before true c.if-values_ok.true)
 
-returns-4 : tie.Need-returns-4
+returns-4 : tie.Need-returns-then-not-f
 returns-4 c =
-    let v = c.before.before in
-    let s = start v.before.before.before in
+    let v = c in
+    let s = start v.before.before.before.before.before in
     let a = s.args in
-    c.not-located3.ensures ∙ search_bad a.block a.partition a.start a.d (records s) (in_range_lem v false c.before.if4.false)
+    c.not_located-then-not-f.ensures ∙ search_bad a.block a.partition a.start a.d (records s) (in_range_lem v.before.before false c.if-values_ok.false)
 
-returns-5 : tie.Need-returns-5
+returns-5 : tie.Need-returns-then-not-dated-2
 returns-5 c =
-    let f = c.before.before.before.before in
-    let s = start f in
+    let f = c in
+    let s = start f.before.before.before.before in
     let a = s.args in
-    let good = fits f true (not-false _ c.before.before.if3.false) in
-    c.not-located4.ensures
+    let good = fits f.before.before.before.before true (not-false _ c.if-not-f.false) in
+    c.not_located-then-not-dated-2.ensures
     ∙ search_undated a.block a.partition a.start a.d (records s) (first_holds _ (every day_ok (records s)) good)
-    (rw (own-day f false (not-true _ c.before.if5.true)))
+    (rw (own-day f.before.before.before.before false (c.if-not-dated-2.true)))
 
 -- records and delivery pass both checks
-passed : (c : tie.After-reads-of2) → let s = start (found c) in (every in_range (records s) ≡ true) × (day_ok s.args.d && every day_ok (records s) ≡ true)
+passed : (c : tie.After-reads_of-counts) → let s = start (found c) in (every in_range (records s) ≡ true) × (day_ok s.args.d && every day_ok (records s) ≡ true)
 passed c =
     let f = found c in
     let s = start f in
-    let good = fits f true (not-false _ c.before.before.before.if3.false) in (
+    let good = fits f true (not-false _ c.if-not-f.false) in (
       first_holds (every in_range (records s)) (every day_ok (records s)) good,
-      rw (own-day f true (not-false _ c.before.before.if5.false), second_holds (every in_range (records s)) (every day_ok (records s)) good),
+      rw (own-day f true (c.if-not-dated-2.false), second_holds (every in_range (records s)) (every day_ok (records s)) good),
     )
 
-slot : (c : tie.After-reads-of2) → let f = found c in f.seek-all.result.slot ≡ first_match (start f).args.d (records (start f))
+slot : (c : tie.After-reads_of-counts) → let f = found c in f.seek_all-f.result.slot ≡ first_match (start f).args.d (records (start f))
 slot c =
     let f = found c in
     let s = start f in
-    seek_slot s.args.d (records s) _ f.seek-all.ensures (not-false _ c.before.before.before.if3.false)
+    seek_slot s.args.d (records s) _ f.seek_all-f.ensures (not-false _ c.if-not-f.false)
 
-returns-6 : tie.Need-returns-6
+returns-6 : tie.Need-returns-then-i-g
 returns-6 c =
-    let r = c.before in
-    let s = start (found r) in
+    let r = c in
+    let s = start (found r.before) in
     let a = s.args in
-    search_found a.block a.partition a.start a.d (records s) (passed r).0 (passed r).1 _ _ (slot r) (scanned r) (omega (arith, size s, c.if6.true))
+    search_found a.block a.partition a.start a.d (records s) (passed r.before).0 (passed r.before).1 _ _ (slot r.before) (scanned r.before) (omega (arith, size s, c.if-i-g.true))
 
-returns-7 : tie.Need-returns-7
+returns-7 : tie.Need-returns
 returns-7 c =
-    let r = c.before.before in
-    let s = start (found r) in
+    let r = c in
+    let s = start (found r.before.before) in
     let a = s.args in
-    c.not-located-after2.ensures
-    ∙ search_missing a.block a.partition a.start a.d (records s) (passed r).0 (passed r).1 _ _ (slot r) (scanned r) (omega (arith, size s, c.before.if6.false))
+    c.not_located_after-2.ensures
+    ∙ search_missing a.block a.partition a.start a.d (records s) (passed r.before.before).0 (passed r.before.before).1 _ _ (slot r.before.before) (scanned r.before.before) (omega (arith, size s, c.if-i-g.false))
 
-pub search-part-spec : {M : Type 1} → statement M
-search-part-spec =
+pub search_part_spec : {M : Type 1} → statement M
+search_part_spec =
     tie.close
     (tie.spec
     (λ c κs. search rules)

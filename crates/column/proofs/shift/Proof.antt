@@ -11,10 +11,10 @@ use Rattle.column.proofs.Writing.{column_is, partition_after, twice}
 use Rattle.column.proofs.shift.Statement.{statement}
 use Rattle.column.proofs.shift.Tie as tie
 
-abbrev start : tie.After-shift-slots → tie.Start
-start c = c.before.before.before.before.before.before.before.before.before.before.before
+abbrev start : tie.After-shift_slots → tie.Start
+start c = c.before.before.before.before.before.before.before.before.before.before
 
-abbrev moved-slots : tie.After-shrink → tie.After-shift-slots
+abbrev moved-slots : tie.After-shrink → tie.After-shift_slots
 moved-slots c = c.before.before.before.before.before.before.before.before.before.before
 
 shrink-requires : tie.Need-shrink-requires
@@ -22,23 +22,23 @@ shrink-requires c κs = let p = (start c.before.before.before.before.before.befo
 
 grow-requires : tie.Need-grow-requires
 grow-requires c κs =
-    let k = c.before.before.before in
-    let p = (start (moved-slots k)).requires in
+    let k = c in
+    let p = (start (moved-slots k.before.before.before)).requires in
     rw k.shrink.ensures (partition_after block_limit _ _ _ p.0.here (omega (arith, p.1)) p.2)
 
 returns : tie.Need-returns
 returns c =
-    let k = c.before.before.before.before.before.before in
-    let s = start (moved-slots k) in
+    let k = c in
+    let s = start (moved-slots k.before.before.before.before.before.before) in
     let a = s.args in
     let col = column_of a.directory.now a.g.now a.w.now a.y.now a.n.now in
     let ns = lengths_of block_limit col in
     column_is (moved ns a.from a.slot a.to) a.d (one_more a.to (one_fewer a.from ns)) col _ _ _ _ _
-    (twice block_limit a.directory.now a.from a.to s.pre.0.here (omega (arith, s.pre.1)) _ _ k.shrink.ensures c.before.before.grow.ensures)
-    (moved-slots k).shift-slots.ensures
+    (twice block_limit a.directory.now a.from a.to s.requires.0.here (omega (arith, s.requires.1)) _ _ k.shrink.ensures c.grow.ensures)
+    (moved-slots k.before.before.before.before.before.before).shift_slots.ensures
 
-pub shift-spec : {M : Type 1} → statement M
-shift-spec =
+pub shift_spec : {M : Type 1} → statement M
+shift_spec =
     tie.close
     (tie.spec
     (λ c κs. search rules)

@@ -15,12 +15,12 @@ use Rattle.column.proofs.take_out.Statement.{statement}
 use Rattle.column.proofs.take_out.Tie as tie
 
 abbrev start : tie.After-lengths → tie.Start
-start c = c.before.before.before.before.before.before.before.before.before.before.before
+start c = c.before.before.before.before.before.before.before.before.before.before
 
 abbrev lent : tie.After-lengths → Column
 lent c = let a = (start c).args in column_of a.directory.now a.g.now a.w.now a.y.now a.n.now
 
-delete-slots-requires : tie.Need-delete-slots-requires
+delete-slots-requires : tie.Need-delete_slots-requires
 delete-slots-requires c κs = let p = (start c).requires in rw c.lengths.ensures (has_inside block_limit _ _ p.0.here, p.0.start, p.1, p.0.room, p.0.even)
 
 shrink-requires : tie.Need-shrink-requires
@@ -28,19 +28,19 @@ shrink-requires c κs = let p = (start c.before.before.before.before.before.befo
 
 returns : tie.Need-returns
 returns c =
-    let s = c.before.before.before.before.before.before.before.before.before.before.before.before in
-    let k = lent s.before in
+    let s = c in
+    let k = lent s.before.before.before.before.before.before.before.before.before.before.before.before.before in
     let o = k.slices in
-    let a = (start s.before).args in
+    let a = (start s.before.before.before.before.before.before.before.before.before.before.before.before.before).args in
     let ns = lengths_of block_limit k in
-    column_is (deleted ns a.partition a.slot) freed (one_fewer a.partition ns) k _ _ _ _ _ c.before.before.shrink.ensures
-    (by_lengths (λ (ls : List ℕ). deleted ls a.partition a.slot) freed o.growers o.weights o.yields o.days _ _ _ _ _ ns s.before.lengths.ensures s.delete-slots.ensures)
+    column_is (deleted ns a.partition a.slot) freed (one_fewer a.partition ns) k _ _ _ _ _ c.shrink.ensures
+    (by_lengths (λ (ls : List ℕ). deleted ls a.partition a.slot) freed o.growers o.weights o.yields o.days _ _ _ _ _ ns s.lengths.ensures s.delete_slots.ensures)
 
-pub take-out-spec : {M : Type 1} → statement M
-take-out-spec =
+pub take_out_spec : {M : Type 1} → statement M
+take_out_spec =
     tie.close
     (tie.spec
-    (λ c κs. has_numbered block_limit _ _ c.before.before.before.before.before.before.before.before.before.before.requires.0.here)
+    (λ c κs. has_numbered block_limit _ _ c.requires.0.here)
     delete-slots-requires
     shrink-requires
     (λ c. search rules)

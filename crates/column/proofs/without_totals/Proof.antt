@@ -6,7 +6,7 @@ use Rattle.column.proofs.without_totals.Statement.{statement}
 use Rattle.column.proofs.without_totals.Tie as tie
 
 returns : tie.Need-returns
-returns c = ap (λ (t : Totals). record { refusal = c.before.args.refusal; counts = c.before.args.counts; totals = t }) c.none.ensures
+returns c = ap (λ (t : Totals). record { refusal = c.args.refusal; counts = c.args.counts; totals = t }) c.none-totals.ensures
 
-pub without-totals-spec : {M : Type 1} → statement M
-without-totals-spec = tie.close (tie.spec (λ c κs. search rules) returns)
+pub without_totals_spec : {M : Type 1} → statement M
+without_totals_spec = tie.close (tie.spec (λ c κs. search rules) returns)

@@ -25,41 +25,41 @@ use Rattle.snapshot.proofs.check_column.Tie as tie
 abbrev lent : tie.Start → Column
 lent s = let a = s.args in column_of a.directory.now a.g.now a.w.now a.y.now a.n.now
 
-abbrev col : tie.Else1 → Column
+abbrev col : tie.Else-refusal-ne0 → Column
 col c = lent c.before.before.before.before.before.before.before
 
-carry : (c : tie.Else1) → Carried block_limit (lent_checks block_limit (col c)) (col c).directory 0 c.before.lent.result
-carry c = carried block_limit (lent_checks block_limit (col c)) (col c).directory 0 _ c.before.lent.ensures c.if1.false
+carry : (c : tie.Else-refusal-ne0) → Carried block_limit (lent_checks block_limit (col c)) (col c).directory 0 c.lent-shape.result
+carry c = carried block_limit (lent_checks block_limit (col c)) (col c).directory 0 _ c.lent-shape.ensures c.if-refusal-ne0.false
 
-held : (c : tie.Else1) → LentColumn block_limit (col c)
+held : (c : tie.Else-refusal-ne0) → LentColumn block_limit (col c)
 held c = lent_column block_limit (col c) (carry c).passed
 
 -- the used slots are there, and few
-used : (c : tie.Else1) → (c.before.lent.result.used ≤ length (col c).slices.growers) × (c.before.lent.result.used ≤ most_slots)
+used : (c : tie.Else-refusal-ne0) → (c.lent-shape.result.used ≤ length (col c).slices.growers) × (c.lent-shape.result.used ≤ most_slots)
 used c = let l = held c in let u = (carry c).used in (omega (arith, u, l.shape.room), omega (arith, u, l.shape.room, l.most))
 
 -- soundness tested, and passed
-abbrev shaped : tie.After-sound-ok → tie.Else1
+abbrev shaped : tie.After-sound_ok → tie.Else-refusal-ne0
 shaped c = c.before.before.before
 
-is_sound : (c : tie.After-sound-ok) → sound block_limit (col (shaped c)) ≡ c.sound-ok.result
+is_sound : (c : tie.After-sound_ok) → sound block_limit (col (shaped c)) ≡ c.sound_ok.result
 unfolding sound
-is_sound c = sym (c.sound-ok.ensures ∙ ap₂ (λ (a b : List ℕ). sound_growers a b (col (shaped c)).slices.growers) c.before.before.lengths.ensures c.before.fences.ensures)
+is_sound c = sym (c.sound_ok.ensures ∙ ap₂ (λ (a b : List ℕ). sound_growers a b (col (shaped c)).slices.growers) c.lengths.ensures c.fences.ensures)
 
-sound_there : (c : tie.Else2) → sound block_limit (col (shaped c.before)) ≡ true
-sound_there c = is_sound c.before ∙ not-false _ c.if2.false
+sound_there : (c : tie.Else-not-sound_ok) → sound block_limit (col (shaped c.before)) ≡ true
+sound_there c = is_sound c.before ∙ c.if-not-sound_ok.false
 
 -- the values tested
-abbrev good : tie.After-values-ok → tie.Else2
-good c = c.before.before.before
+abbrev good : tie.After-values_ok → tie.Else-not-sound_ok
+good c = c.before
 
-in_range_lem : (c : tie.After-values-ok) → every in_range (all_records block_limit (col (shaped (good c).before))) ≡ c.values_ok_lem.result
-in_range_lem c = let e = shaped (good c).before in values_there block_limit (col e) (held e) _ _ (carry e).used c.values_ok_lem.ensures
+in_range_lem : (c : tie.After-values_ok) → every in_range (all_records block_limit (col (shaped (good c).before))) ≡ c.values_ok.result
+in_range_lem c = let e = shaped (good c).before in values_there block_limit (col e) (held e) _ _ (carry e).used c.values_ok.ensures
 
-returns : tie.Need-returns
+returns : tie.Need-returns-then-refusal-ne0
 returns c =
-    let s = c.before.before.before.before.before.before.before.before in
-    check_lent block_limit (lent s) _ _ (shape_refusal block_limit (lent_checks block_limit (lent s)) _ 0 _ c.before.before.lent.ensures) c.before.if1.true c.not-checked.ensures
+    let s = c in
+    check_lent block_limit (lent s.before.before.before.before.before.before.before.before) _ _ (shape_refusal block_limit (lent_checks block_limit (lent s.before.before.before.before.before.before.before.before)) _ 0 _ c.lent-shape.ensures) c.if-refusal-ne0.true c.not_checked.ensures
 
 lengths-requires : tie.Need-lengths-requires
 lengths-requires c κs = numbered block_limit (col c) (held c)
@@ -67,36 +67,36 @@ lengths-requires c κs = numbered block_limit (col c) (held c)
 fences-requires : tie.Need-fences-requires
 fences-requires c κs = numbered block_limit (col c.before) (held c.before)
 
-sound-ok-requires : tie.Need-sound-ok-requires
+sound-ok-requires : tie.Need-sound_ok-requires
 sound-ok-requires c κs =
-    let e = c.before.before in
-    let p = parts_lent block_limit (col e) (held e) c.before.lengths.ensures c.fences.ensures in
+    let e = c in
+    let p = parts_lent block_limit (col e.before.before) (held e.before.before) c.lengths.ensures c.fences.ensures in
     (p.even, p.rises, p.room)
 
-returns-2 : tie.Need-returns-2
+returns-2 : tie.Need-returns-then-not-sound_ok
 returns-2 c =
     let e = shaped c.before.before in
-    check_sound block_limit (col e) (carry e).passed _ (is_sound c.before.before ∙ not-true _ c.before.if2.true) c.not-checked2.ensures
+    check_sound block_limit (col e) (carry e).passed _ (is_sound c.before.before ∙ c.if-not-sound_ok.true) c.not_checked-then-not-sound_ok.ensures
 
-slice-aggregate-values-ok : tie.Need-slice-aggregate-values-ok
-slice-aggregate-values-ok c = let e = shaped c.before.before in sym (length-take-le _ _ (omega (arith, (used e).0, (held e).even.weights)))
+slice-aggregate-values-ok : tie.Need-slice_bounds-values_ok-end
+slice-aggregate-values-ok c = let e = shaped c.before in sym (length-take-le _ _ (omega (arith, (used e).0, (held e).even.weights)))
 
-slice-aggregate-values-ok-2 : tie.Need-slice-aggregate-values-ok-2
-slice-aggregate-values-ok-2 c = let e = shaped c.before.before.before in sym (length-take-le _ _ (omega (arith, (used e).0, (held e).even.yields)))
+slice-aggregate-values-ok-2 : tie.Need-slice_bounds-values_ok-end-2
+slice-aggregate-values-ok-2 c = let e = shaped c.before in sym (length-take-le _ _ (omega (arith, (used e).0, (held e).even.yields)))
 
-returns-3 : tie.Need-returns-3
+returns-3 : tie.Need-returns-then-not-values_ok
 returns-3 c =
-    let v = c.before.before in
-    let e = shaped (good v).before in
-    check_values block_limit (col e) (carry e).passed (sound_there (good v)) _ (in_range_lem v ∙ not-true _ c.before.if3.true) c.not-checked3.ensures
+    let v = c in
+    let e = shaped (good v.before.before).before in
+    check_values block_limit (col e) (carry e).passed (sound_there (good v.before.before)) _ (in_range_lem v.before.before ∙ c.if-not-values_ok.true) c.not_checked-then-not-values_ok.ensures
 
-returns-4 : tie.Need-returns-4
+returns-4 : tie.Need-returns
 returns-4 c =
     let e = shaped (good c.before).before in
-    check_good block_limit (col e) (carry e).passed (sound_there (good c.before)) (in_range_lem c.before ∙ not-false _ c.if3.false) _ _ (carry e).used refl
+    check_good block_limit (col e) (carry e).passed (sound_there (good c.before)) (in_range_lem c.before ∙ c.if-not-values_ok.false) _ _ (carry e).used refl
 
-pub check-column-spec : {M : Type 1} → statement M
-check-column-spec =
+pub check_column_spec : {M : Type 1} → statement M
+check_column_spec =
     tie.close
     (tie.spec
     (λ c κs. search rules) (λ c κs. search rules) returns lengths-requires fences-requires sound-ok-requires (λ c κs. search rules)

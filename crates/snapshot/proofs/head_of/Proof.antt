@@ -13,65 +13,65 @@ use Rattle.snapshot.proofs.head_of.Tie as tie
 
 -- The numbers of the line that have been taken.
 
-abbrev from : tie.After-f → tie.Start
-from c = c.before.before.before.before
+abbrev from : tie.In-Number → tie.Start
+from c = c.before.before.before
 
-one : (c : tie.After-f) → Took (from c).args.text.now 0 3 1 c.f.given.0.1.0 (c.f.given.0.0 ∷ [])
-one c = took_next (took_start _ _ 3) (omega arith) c.before.before.number_at.ensures c.f.given.1
+one : (c : tie.In-Number) → Took (from c).args.text.now 0 3 1 c.in-Number.p (c.in-Number.b ∷ [])
+one c = took_next (took_start _ _ 3) (omega arith) c.number_at-f.ensures c.in-Number.is
 
-abbrev first : tie.After-g → tie.After-f
-first c = c.before.before.before.before
+abbrev first : tie.In-Number-g → tie.In-Number
+first c = c.before.before
 
-two : (c : tie.After-g) → Took (from (first c)).args.text.now 0 3 2 c.g.given.0.1.0 ((first c).f.given.0.0 ∷ c.g.given.0.0 ∷ [])
-two c = took_next (one (first c)) (omega arith) c.before.before.number-at2.ensures c.g.given.1
+two : (c : tie.In-Number-g) → Took (from (first c)).args.text.now 0 3 2 c.in-Number-g.q ((first c).in-Number.b ∷ c.in-Number-g.m ∷ [])
+two c = took_next (one (first c)) (omega arith) c.number_at-g.ensures c.in-Number-g.is
 
-abbrev second : tie.After-h → tie.After-g
-second c = c.before.before.before.before
+abbrev second : tie.In-Number-h → tie.In-Number-g
+second c = c.before.before
 
-abbrev numbers : tie.After-h → List ℕ
-numbers c = (first (second c)).f.given.0.0 ∷ (second c).g.given.0.0 ∷ c.h.given.0.0 ∷ []
+abbrev numbers : tie.In-Number-h → List ℕ
+numbers c = (first (second c)).in-Number.b ∷ (second c).in-Number-g.m ∷ c.in-Number-h.k ∷ []
 
-three : (c : tie.After-h) → Took (from (first (second c))).args.text.now 0 3 3 c.h.given.0.1.0 (numbers c)
-three c = took_next (two (second c)) (omega arith) c.before.before.number-at3.ensures c.h.given.1
+three : (c : tie.In-Number-h) → Took (from (first (second c))).args.text.now 0 3 3 c.in-Number-h.e (numbers c)
+three c = took_next (two (second c)) (omega arith) c.number_at-h.ensures c.in-Number-h.is
 
-returns : tie.Need-returns
+returns : tie.Need-returns-in_default
 returns c =
     head_fails block_limit _ _
-    (took_stop (took_start _ 0 3) (omega arith) c.before.before.before.number_at.ensures c.before.enum_told.given.1) c.no-head.ensures
+    (took_stop (took_start _ 0 3) (omega arith) c.number_at-f.ensures c.in_default.is) c.no_head.ensures
 
-returns-2 : tie.Need-returns-2
+returns-2 : tie.Need-returns-in_default-g
 returns-2 c =
     head_fails block_limit _ _
-    (took_stop (one c.before.before.before.before.before) (omega arith) c.before.before.before.number-at2.ensures c.before.enum-told2.given.1)
-    c.no-head2.ensures
+    (took_stop (one c.before.before.before) (omega arith) c.number_at-g.ensures c.in_default-g.is)
+    c.no_head-in_default-g.ensures
 
-returns-3 : tie.Need-returns-3
+returns-3 : tie.Need-returns-in_default-h
 returns-3 c =
     head_fails block_limit _ _
-    (took_stop (two c.before.before.before.before.before) (omega arith) c.before.before.before.number-at3.ensures c.before.enum-told3.given.1)
-    c.no-head3.ensures
+    (took_stop (two c.before.before.before) (omega arith) c.number_at-h.ensures c.in_default-h.is)
+    c.no_head-in_default-h.ensures
 
-returns-4 : tie.Need-returns-4
+returns-4 : tie.Need-returns-then-not-ends
 returns-4 c =
     head_fails block_limit _ _
-    (sym (not-true _ c.before.if1.true) ∙ c.before.before.ends.ensures ∙ took_end (three c.before.before.before.before) (omega arith)) c.no-head4.ensures
+    (sym (c.if-not-ends.true) ∙ c.ends.ensures ∙ took_end (three c.before.before.before) (omega arith)) c.no_head-then-not-ends.ensures
 
-returns-5 : tie.Need-returns-5
+returns-5 : tie.Need-returns-then-not-header_ok
 returns-5 c =
-    let here = c.before.before.before in
+    let here = c in
     head_range block_limit _ _ _ _ _
-    (sym (took_end (three here.before.before.before) (omega arith)) ∙ sym here.before.ends.ensures
-    ∙ not-false _ here.if1.false)
-    (three here.before.before.before).values (sym c.before.before.header_ok.ensures ∙ not-true _ c.before.if2.true) c.no-head5.ensures
+    (sym (took_end (three here.before.before.before.before.before) (omega arith)) ∙ sym here.ends.ensures
+    ∙ here.if-not-ends.false)
+    (three here.before.before.before.before.before).values (sym c.header_ok.ensures ∙ c.if-not-header_ok.true) c.no_head-then-not-header_ok.ensures
 
-returns-6 : tie.Need-returns-6
+returns-6 : tie.Need-returns
 returns-6 c =
     head_done block_limit _ _ _ _ _
-    (sym (took_end (three c.before.before.before.before.before) (omega arith)) ∙ sym c.before.before.before.ends.ensures ∙ not-false _ c.before.before.if1.false)
-    (three c.before.before.before.before.before).values (sym c.before.header_ok.ensures ∙ not-false _ c.if2.false) refl
+    (sym (took_end (three c.before.before.before.before) (omega arith)) ∙ sym c.ends.ensures ∙ c.if-not-ends.false)
+    (three c.before.before.before.before).values (sym c.header_ok.ensures ∙ c.if-not-header_ok.false) refl
 
-pub head-of-spec : {M : Type 1} → statement M
-head-of-spec =
+pub head_of_spec : {M : Type 1} → statement M
+head_of_spec =
     tie.close
     (tie.spec
     (λ c κs. search rules) (λ c. search rules) (λ c. search rules) (λ c κs. search rules) returns (λ c κs. search rules) (λ c. search rules)

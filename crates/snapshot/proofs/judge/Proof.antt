@@ -11,65 +11,65 @@ use Rattle.snapshot.proofs.judge.Tie as tie
 
 -- Line 1, once it is accepted, and once there are slots enough.
 
-head : (c : tie.Else1) → c.before.before.head_of.result ≡ head_found block_limit c.before.before.before.before.args.text.now
-head c = c.before.before.head_of.ensures
+head : (c : tie.Else-h-ne0) → c.head_of-h.result ≡ head_found block_limit c.args.text.now
+head c = c.head_of-h.ensures
 
-abbrev accepted : tie.Else2 → tie.Else1
+abbrev accepted : tie.Else-c-m → tie.Else-h-ne0
 accepted c = c.before.before
 
-abbrev sized : tie.Else4 → tie.Else2
+abbrev sized : tie.Else-l-ne0 → tie.Else-c-m
 sized c = c.before.before.before.before.before
 
 -- it is in range
-count : (c : tie.Else1) → c.before.before.head_of.result.count ≤ block_limit
-count c = few block_limit _ _ (head c) c.if1.false
+count : (c : tie.Else-h-ne0) → c.head_of-h.result.count ≤ block_limit
+count c = few block_limit _ _ (head c) c.if-h-ne0.false
 
-used : (c : tie.Else1) → c.before.before.head_of.result.used ≤ most_slots
-used c = most block_limit _ _ (head c) c.if1.false
+used : (c : tie.Else-h-ne0) → c.head_of-h.result.used ≤ most_slots
+used c = most block_limit _ _ (head c) c.if-h-ne0.false
 
-returns : tie.Need-returns
-returns c = answer_no_head block_limit _ _ _ _ c.before.before.before.head_of.ensures c.before.if1.true c.not-judged.ensures
+returns : tie.Need-returns-then-h-ne0
+returns c = answer_no_head block_limit _ _ _ _ c.head_of-h.ensures c.if-h-ne0.true c.not_judged.ensures
 
-returns-2 : tie.Need-returns-2
-returns-2 c = answer_few block_limit _ _ _ _ (head c.before.before.before) c.before.before.before.if1.false c.before.if2.true c.not-judged2.ensures
+returns-2 : tie.Need-returns-then-c-m
+returns-2 c = answer_few block_limit _ _ _ _ (head c.before.before.before) c.if-h-ne0.false c.if-c-m.true c.not_judged-then-c-m.ensures
 
-returns-3 : tie.Need-returns-3
+returns-3 : tie.Need-returns-then-text-start
 returns-3 c =
-    let e = c.before.before.before in
-    answer_size block_limit _ _ _ _ (head (accepted e)) (accepted e).if1.false e.if2.false (λ z. omega (arith, z)) c.not-judged3.ensures
+    let e = c in
+    answer_size block_limit _ _ _ _ (head (accepted e.before.before.before)) (accepted e.before.before.before).if-h-ne0.false e.if-c-m.false (λ z. omega (arith, z)) c.not_judged-then-text-start.ensures
 
-list-parts-requires : tie.Need-list-parts-requires
+list-parts-requires : tie.Need-list_parts-l-requires
 list-parts-requires c κs = count c.before.before.before.before
 
-returns-4 : tie.Need-returns-4
+returns-4 : tie.Need-returns-then-l-ne0
 returns-4 c =
-    let e = c.before.before.before.before.before.before in
-    answer-lines block_limit _ _ _ _ (head (accepted e)) (accepted e).if1.false e.if2.false _ c.before.before.before.list-parts.ensures c.before.if4.true c.not-judged4.ensures
+    let e = c in
+    answer-lines block_limit _ _ _ _ (head (accepted e.before.before.before.before.before.before)) (accepted e.before.before.before.before.before.before).if-h-ne0.false e.if-c-m.false _ c.list_parts-l.ensures c.if-l-ne0.true c.not_judged-then-l-ne0.ensures
 
-judge-numbers-requires : tie.Need-judge-numbers-requires
+judge-numbers-requires : tie.Need-judge_numbers-n-requires
 judge-numbers-requires c κs =
-    let l = c.before.before in
-    let e = accepted (sized l) in
-    (numbers_listed block_limit _ _ (head e) e.if1.left _ l.before.before.list-parts.ensures l.if4.false, omega arith)
+    let l = c in
+    let e = accepted (sized l.before.before) in
+    (numbers_listed block_limit _ _ (head e) e.if-h-ne0.false _ l.list_parts-l.ensures l.if-l-ne0.false, omega arith)
 
-returns-5 : tie.Need-returns-5
+returns-5 : tie.Need-returns-then-n-ne0
 returns-5 c =
-    let j = c.before.before in
-    let l = j.before.before.before in
-    let e = sized l in
-    answer_numbers block_limit _ _ _ _ (head (accepted e)) (accepted e).if1.left e.if2.left _ l.before.before.list-parts.ensures l.if4.false (omega arith) _
-    j.judge-numbers.ensures c.before.if5.true c.not-judged5.ensures
+    let j = c in
+    let l = j in
+    let e = sized l.before.before.before.before.before in
+    answer_numbers block_limit _ _ _ _ (head (accepted e)) (accepted e).if-h-ne0.false e.if-c-m.false _ l.list_parts-l.ensures l.if-l-ne0.false (omega arith) _
+    j.judge_numbers-n.ensures c.if-n-ne0.true c.not_judged-then-n-ne0.ensures
 
-returns-6 : tie.Need-returns-6
+returns-6 : tie.Need-returns
 returns-6 c =
-    let j = c.before in
-    let l = j.before.before.before in
-    let e = sized l in
-    answer_yes block_limit _ _ _ _ (head (accepted e)) (accepted e).if1.left e.if2.left _ l.before.before.list-parts.ensures l.if4.false (omega arith) _
-    j.judge-numbers.ensures c.if5.false refl
+    let j = c in
+    let l = j in
+    let e = sized l.before.before.before.before in
+    answer_yes block_limit _ _ _ _ (head (accepted e)) (accepted e).if-h-ne0.false e.if-c-m.false _ l.list_parts-l.ensures l.if-l-ne0.false (omega arith) _
+    j.judge_numbers-n.ensures c.if-n-ne0.false refl
 
-pub judge-spec : {M : Type 1} → statement M
-judge-spec =
+pub judge_spec : {M : Type 1} → statement M
+judge_spec =
     tie.close
     (tie.spec
     (λ c κs. search rules) (λ c κs. search rules) returns (λ c. search rules) (λ c κs. search rules) returns-2 (λ c. search rules)

@@ -10,27 +10,27 @@ use Rattle.snapshot.proofs.Judging.{deliveries_judge}
 use Rattle.snapshot.proofs.judge_deliveries.Statement.{statement}
 use Rattle.snapshot.proofs.judge_deliveries.Tie as tie
 
-abbrev invariant-loop : tie.invariant-loop
+abbrev invariant-loop : tie.invariant-loop-i
 invariant-loop text at n lo hi i₀ e₀ i e = Left (λ k x. deliveries_ok lo hi k x text) 34 at n i e
 
-abbrev decreases-loop : tie.decreases-loop
+abbrev decreases-loop : tie.decreases-loop-i
 decreases-loop text at n lo hi i₀ e₀ i e = n - i
 
-loop-holds : tie.Need-loop-init invariant-loop decreases-loop
+loop-holds : tie.Need-loop-i-init invariant-loop decreases-loop
 loop-holds c = left_start _ _ _ _
 
-returns : tie.Need-returns invariant-loop decreases-loop
+returns : tie.Need-returns-then-r-ne0 invariant-loop decreases-loop
 returns c =
-    refused_by _ _ c.before.judge-delivery.ensures c.if1.true
-    (left_stop (deliveries_judge _ _ _) c.before.before.before.loop.invariant c.before.before.loop-test.true)
+    refused_by _ _ c.judge_delivery-r.ensures c.if-r-ne0.true
+    (left_stop (deliveries_judge _ _ _) c.loop-i.invariant c.loop-i-test.true)
 
-loop-again : tie.Need-loop-preserved invariant-loop decreases-loop
+loop-again : tie.Need-loop-i-preserved invariant-loop decreases-loop
 loop-again c =
-    left_next (deliveries_judge _ _ _) c.before.before.before.loop.invariant c.before.before.loop-test.true (passed _ c.before.judge-delivery.ensures c.if1.false)
+    left_next (deliveries_judge _ _ _) c.loop-i.invariant c.loop-i-test.true (passed _ c.judge_delivery-r.ensures c.if-r-ne0.false)
 
-returns-2 : tie.Need-returns-2 invariant-loop decreases-loop
-returns-2 c = ap text_refusal (left_end (deliveries_judge _ _ _) c.before.loop.invariant c.loop-test.false)
+returns-2 : tie.Need-returns invariant-loop decreases-loop
+returns-2 c = ap text_refusal (left_end (deliveries_judge _ _ _) c.loop-i.invariant c.loop-i-test.false)
 
-pub judge-deliveries-spec : {M : Type 1} → statement M
-judge-deliveries-spec =
+pub judge_deliveries_spec : {M : Type 1} → statement M
+judge_deliveries_spec =
     tie.close (tie.spec invariant-loop decreases-loop loop-holds (λ c κs. search rules) returns (λ c. omega arith) (λ c. omega arith) (λ c. omega arith) loop-again returns-2)

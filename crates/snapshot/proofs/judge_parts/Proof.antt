@@ -10,53 +10,53 @@ use Rattle.snapshot.proofs.Judging.{PartsLeft, parts_start, part_room, parts_sto
 use Rattle.snapshot.proofs.judge_parts.Statement.{statement}
 use Rattle.snapshot.proofs.judge_parts.Tie as tie
 
-abbrev invariant-loop : tie.invariant-loop
+abbrev invariant-loop : tie.invariant-loop-p
 invariant-loop text at lens fences p₀ e₀ p e = PartsLeft text at lens fences p e
 
-abbrev decreases-loop : tie.decreases-loop
+abbrev decreases-loop : tie.decreases-loop-p
 decreases-loop text at lens fences p₀ e₀ p e = length lens - p
 
-loop-holds : tie.Need-loop-init invariant-loop decreases-loop
+loop-holds : tie.Need-loop-p-init invariant-loop decreases-loop
 loop-holds c = parts_start _ _ _ _
 
-cast-n : tie.Need-overflow-cast-n invariant-loop decreases-loop
-cast-n c = omega (arith, c.shared-slice-known4.given c.before.before.loop.p)
+cast-n : tie.Need-overflow_cast-n invariant-loop decreases-loop
+cast-n c = omega (arith, c.shared_slice_known-in-loop-p-1.given c.loop-p.p)
 
-low-of-requires : tie.Need-low-of-requires invariant-loop decreases-loop
-low-of-requires c κs = let q = c.before.before.before.before.before.before.requires in (omega (arith, q.0), q.1)
+low-of-requires : tie.Need-low_of-requires invariant-loop decreases-loop
+low-of-requires c κs = let q = c.requires in (omega (arith, q.0), q.1)
 
-judge-deliveries-requires : tie.Need-judge-deliveries-requires invariant-loop decreases-loop
+judge-deliveries-requires : tie.Need-judge_deliveries-r-requires invariant-loop decreases-loop
 judge-deliveries-requires c κs =
-    let top = c.before.before.before in
-    omega (arith, part_room top.before.loop.invariant top.loop-test.true, top.before.before.before.before.before.requires.2)
+    let top = c in
+    omega (arith, part_room top.loop-p.invariant top.loop-p-test.true, top.requires.2)
 
-returns : tie.Need-returns invariant-loop decreases-loop
+returns : tie.Need-returns-then-r-ne0 invariant-loop decreases-loop
 returns c =
-    let top = c.before.before.before.before.before in
-    refused_by _ _ c.before.judge-deliveries.ensures c.if1.true
-    (parts_stop top.before.loop.invariant top.loop-test.true c.before.before.before.low_of.ensures c.before.before.high-of.ensures)
+    let top = c in
+    refused_by _ _ c.judge_deliveries-r.ensures c.if-r-ne0.true
+    (parts_stop top.loop-p.invariant top.loop-p-test.true c.low_of.ensures c.high_of.ensures)
 
-mul-e : tie.Need-overflow-mul-e invariant-loop decreases-loop
+mul-e : tie.Need-overflow_mul-e invariant-loop decreases-loop
 mul-e c =
-    let top = c.before.before.before.before.before in
-    omega (arith, part_room top.before.loop.invariant top.loop-test.true, top.before.before.before.before.before.requires.2)
+    let top = c in
+    omega (arith, part_room top.loop-p.invariant top.loop-p-test.true, top.requires.2)
 
-add-e : tie.Need-overflow-add-e invariant-loop decreases-loop
+add-e : tie.Need-overflow_add-e invariant-loop decreases-loop
 add-e c =
-    let top = c.before.before.before.before.before in
-    omega (arith, part_room top.before.loop.invariant top.loop-test.true, top.before.before.before.before.before.requires.2)
+    let top = c in
+    omega (arith, part_room top.loop-p.invariant top.loop-p-test.true, top.requires.2)
 
-loop-again : tie.Need-loop-preserved invariant-loop decreases-loop
+loop-again : tie.Need-loop-p-preserved invariant-loop decreases-loop
 loop-again c =
-    let top = c.before.before.before.before.before in
-    parts_next top.before.loop.invariant top.loop-test.true
-    c.before.before.before.low_of.ensures c.before.before.high-of.ensures (passed _ c.before.judge-deliveries.ensures c.if1.false)
+    let top = c in
+    parts_next top.loop-p.invariant top.loop-p-test.true
+    c.low_of.ensures c.high_of.ensures (passed _ c.judge_deliveries-r.ensures c.if-r-ne0.false)
 
-returns-2 : tie.Need-returns-2 invariant-loop decreases-loop
-returns-2 c = ap text_refusal (parts_end c.before.loop.invariant c.loop-test.false)
+returns-2 : tie.Need-returns invariant-loop decreases-loop
+returns-2 c = ap text_refusal (parts_end c.loop-p.invariant c.loop-p-test.false)
 
-pub judge-parts-spec : {M : Type 1} → statement M
-judge-parts-spec =
+pub judge_parts_spec : {M : Type 1} → statement M
+judge_parts_spec =
     tie.close
     (tie.spec
     invariant-loop decreases-loop loop-holds (λ c. search rules) (λ c. omega arith) cast-n low-of-requires (λ c κs. omega arith) judge-deliveries-requires

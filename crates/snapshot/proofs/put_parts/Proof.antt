@@ -7,29 +7,29 @@ use Rattle.snapshot.proofs.Putting.{PutParts, parts_start, part_room, parts_next
 use Rattle.snapshot.proofs.put_parts.Statement.{statement}
 use Rattle.snapshot.proofs.put_parts.Tie as tie
 
-abbrev invariant-loop : tie.invariant-loop
+abbrev invariant-loop : tie.invariant-loop-i
 invariant-loop text₀ at lens fences i₀ e₀ text i e = PutParts text₀ at lens fences text i e
 
-abbrev decreases-loop : tie.decreases-loop
+abbrev decreases-loop : tie.decreases-loop-i
 decreases-loop text₀ at lens fences i₀ e₀ text i e = length lens - i
 
-loop-holds : tie.Need-loop-init invariant-loop decreases-loop
-loop-holds c = parts_start _ _ _ _ c.before.before.before.requires.0 c.before.before.before.requires.1
+loop-holds : tie.Need-loop-i-init invariant-loop decreases-loop
+loop-holds c = parts_start _ _ _ _ c.requires.0 c.requires.1
 
-put-two-requires : tie.Need-put-two-requires invariant-loop decreases-loop
-put-two-requires c κs = part_room c.before.before.before.before.loop.invariant c.before.before.before.loop-test.true
+put-two-requires : tie.Need-put_two-requires invariant-loop decreases-loop
+put-two-requires c κs = part_room c.loop-i.invariant c.loop-i-test.true
 
-loop-again : tie.Need-loop-preserved invariant-loop decreases-loop
+loop-again : tie.Need-loop-i-preserved invariant-loop decreases-loop
 loop-again c =
-    let top = c.before.before.before.before.before.before in
-    parts_next top.before.loop.invariant top.loop-test.true _
-    c.before.before.put_two.ensures
+    let top = c in
+    parts_next top.loop-i.invariant top.loop-i-test.true _
+    c.put_two.ensures
 
 returns : tie.Need-returns invariant-loop decreases-loop
-returns c = parts_end c.before.loop.invariant c.loop-test.false
+returns c = parts_end c.loop-i.invariant c.loop-i-test.false
 
-pub put-parts-spec : {M : Type 1} → statement M
-put-parts-spec =
+pub put_parts_spec : {M : Type 1} → statement M
+put_parts_spec =
     tie.close
     (tie.spec
     invariant-loop decreases-loop loop-holds (λ c. search rules) (λ c. omega arith) (λ c. search rules) (λ c. omega arith) put-two-requires

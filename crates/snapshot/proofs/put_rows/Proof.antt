@@ -8,29 +8,29 @@ use Rattle.snapshot.proofs.Putting.{PutRows, rows_start, row_room, rows_next, ro
 use Rattle.snapshot.proofs.put_rows.Statement.{statement}
 use Rattle.snapshot.proofs.put_rows.Tie as tie
 
-abbrev invariant-loop : tie.invariant-loop
+abbrev invariant-loop : tie.invariant-loop-i
 invariant-loop text₀ at g w y n i₀ e₀ text i e = PutRows text₀ at (slices_of g w y n) text i e
 
-abbrev decreases-loop : tie.decreases-loop
+abbrev decreases-loop : tie.decreases-loop-i
 decreases-loop text₀ at g w y n i₀ e₀ text i e = length g - i
 
-loop-holds : tie.Need-loop-init invariant-loop decreases-loop
-loop-holds c = let p = c.before.before.before.before.before.requires in rows_start _ _ _ p.0 p.1
+loop-holds : tie.Need-loop-i-init invariant-loop decreases-loop
+loop-holds c = let p = c.requires in rows_start _ _ _ p.0 p.1
 
-put-three-requires : tie.Need-put-three-requires invariant-loop decreases-loop
-put-three-requires c κs = row_room c.before.before.before.before.before.loop.invariant c.before.before.before.before.loop-test.true
+put-three-requires : tie.Need-put_three-requires invariant-loop decreases-loop
+put-three-requires c κs = row_room c.loop-i.invariant c.loop-i-test.true
 
-loop-again : tie.Need-loop-preserved invariant-loop decreases-loop
+loop-again : tie.Need-loop-i-preserved invariant-loop decreases-loop
 loop-again c =
-    let top = c.before.before.before.before.before.before.before in
-    rows_next top.before.loop.invariant top.loop-test.true _
-    c.before.before.put_three.ensures
+    let top = c in
+    rows_next top.loop-i.invariant top.loop-i-test.true _
+    c.put_three.ensures
 
 returns : tie.Need-returns invariant-loop decreases-loop
-returns c = rows_end c.before.loop.invariant c.loop-test.false
+returns c = rows_end c.loop-i.invariant c.loop-i-test.false
 
-pub put-rows-spec : {M : Type 1} → statement M
-put-rows-spec =
+pub put_rows_spec : {M : Type 1} → statement M
+put_rows_spec =
     tie.close
     (tie.spec
     invariant-loop decreases-loop loop-holds (λ c. search rules) (λ c. omega arith) (λ c. search rules) (λ c. omega arith) (λ c. search rules)

@@ -10,46 +10,46 @@ use Rattle.snapshot.proofs.Sounding.{SoundLeft, fit_slice, sound_start, sound_ro
 use Rattle.snapshot.proofs.sound_ok.Statement.{statement}
 use Rattle.snapshot.proofs.sound_ok.Tie as tie
 
-abbrev invariant-loop : tie.invariant-loop
+abbrev invariant-loop : tie.invariant-loop-p
 invariant-loop g lens fences p₀ a₀ p a = SoundLeft g lens fences p a
 
-abbrev decreases-loop : tie.decreases-loop
+abbrev decreases-loop : tie.decreases-loop-p
 decreases-loop g lens fences p₀ a₀ p a = length lens - p
 
-loop-holds : tie.Need-loop-init invariant-loop decreases-loop
-loop-holds c = let q = c.before.before.before.requires in sound_start _ _ _ q.0 q.1 q.2 (fit_slice _ (λ i. omega (arith, c.before.before.shared-slice-known.given i)))
+loop-holds : tie.Need-loop-p-init invariant-loop decreases-loop
+loop-holds c = let q = c.requires in sound_start _ _ _ q.0 q.1 q.2 (fit_slice _ (λ i. omega (arith, c.shared_slice_known-1.given i)))
 
-cast-e : tie.Need-overflow-cast-e invariant-loop decreases-loop
-cast-e c = omega (arith, c.shared-slice-known4.given c.before.before.loop.p)
+cast-e : tie.Need-overflow_cast-e invariant-loop decreases-loop
+cast-e c = omega (arith, c.shared_slice_known-in-loop-p-1.given c.loop-p.p)
 
-add-e : tie.Need-overflow-add-e invariant-loop decreases-loop
-add-e c = omega (arith, sound_room c.before.loop-test.true c.before.before.loop.invariant, c.before.before.loop.invariant.total)
+add-e : tie.Need-overflow_add-e invariant-loop decreases-loop
+add-e c = omega (arith, sound_room c.loop-p-test.true c.loop-p.invariant, c.loop-p.invariant.total)
 
-part-between-end : tie.Need-slice-bounds-between-end invariant-loop decreases-loop
-part-between-end c = omega (arith, sound_room c.before.loop-test.true c.before.before.loop.invariant, c.before.before.loop.invariant.total)
+part-between-end : tie.Need-slice_bounds-between-end invariant-loop decreases-loop
+part-between-end c = omega (arith, sound_room c.loop-p-test.true c.loop-p.invariant, c.loop-p.invariant.total)
 
-low-of-requires : tie.Need-low-of-requires invariant-loop decreases-loop
-low-of-requires c κs = let q = c.before.before.before.before.before.before.before.requires in (omega (arith, q.0), q.1)
+low-of-requires : tie.Need-low_of-requires invariant-loop decreases-loop
+low-of-requires c κs = let q = c.requires in (omega (arith, q.0), q.1)
 
-returns : tie.Need-returns invariant-loop decreases-loop
+returns : tie.Need-returns-then-not-between invariant-loop decreases-loop
 returns c =
-    let top = c.before.before.before.before.before.before in
-    let h = top.loop-test.true in
-    let w = top.before.loop.invariant in
-    sound_stop h w (tested h w _ c.before.before.before.low_of.ensures c.before.before.high-of.ensures c.before.between.ensures ∙ not-true _ c.if1.true)
+    let top = c in
+    let h = top.loop-p-test.true in
+    let w = top.loop-p.invariant in
+    sound_stop h w (tested h w _ c.low_of.ensures c.high_of.ensures c.between.ensures ∙ c.if-not-between.true)
 
-loop-again : tie.Need-loop-preserved invariant-loop decreases-loop
+loop-again : tie.Need-loop-p-preserved invariant-loop decreases-loop
 loop-again c =
-    let top = c.before.before.before.before.before.before in
-    let h = top.loop-test.true in
-    let w = top.before.loop.invariant in
-    sound_next h w (tested h w _ c.before.before.before.low_of.ensures c.before.before.high-of.ensures c.before.between.ensures ∙ not-false _ c.if1.false)
+    let top = c in
+    let h = top.loop-p-test.true in
+    let w = top.loop-p.invariant in
+    sound_next h w (tested h w _ c.low_of.ensures c.high_of.ensures c.between.ensures ∙ c.if-not-between.false)
 
-returns-2 : tie.Need-returns-2 invariant-loop decreases-loop
-returns-2 c = sound_end c.loop-test.false c.before.loop.invariant
+returns-2 : tie.Need-returns invariant-loop decreases-loop
+returns-2 c = sound_end c.loop-p-test.false c.loop-p.invariant
 
-pub sound-ok-spec : {M : Type 1} → statement M
-sound-ok-spec =
+pub sound_ok_spec : {M : Type 1} → statement M
+sound_ok_spec =
     tie.close
     (tie.spec
     invariant-loop decreases-loop loop-holds (λ c. search rules) (λ c. omega arith) cast-e add-e (λ c. omega arith) (λ c. omega arith) (λ c. omega arith)
