@@ -9,46 +9,46 @@ use Rattle.csv_calls.proofs.check_text.Tie as tie
 
 -- Past the header, and past the rows.
 
-abbrev start : tie.Else1 → tie.Start
+abbrev start : tie.Else-n-ne0 → tie.Start
 start c = c.before.before.before
 
-none : (c : tie.Else1) → header_refusal (start c).args.text.now ≡ 0
-none c = sym c.before.columns_of.ensures.refused ∙ c.if1.false
+none : (c : tie.Else-n-ne0) → header_refusal (start c).args.text.now ≡ 0
+none c = sym c.columns_of-h.ensures.refused ∙ c.if-n-ne0.false
 
-found : (c : tie.Else1) → let r = c.before.columns_of.result in HeaderAt (start c).args.text.now r.columns r.next
-found c = c.before.columns_of.ensures.accepted c.if1.false
+found : (c : tie.Else-n-ne0) → let r = c.columns_of-h.result in HeaderAt (start c).args.text.now r.columns r.next
+found c = c.columns_of-h.ensures.accepted c.if-n-ne0.false
 
-abbrev passed : tie.After-judge → tie.Else1
+abbrev passed : tie.After-judge-j → tie.Else-n-ne0
 passed c = c.before.before
 
-abbrev judged : tie.After-j → tie.After-judge
-judged c = c.before.before
+abbrev judged : tie.In-AllGood → tie.After-judge-j
+judged c = c.before
 
-returns : tie.Need-returns
-returns c = text_header _ _ c.before.before.columns_of.ensures.refused c.before.if1.true _ c.not-checked.ensures
+returns : tie.Need-returns-then-n-ne0
+returns c = text_header _ _ c.columns_of-h.ensures.refused c.if-n-ne0.true _ c.not_checked.ensures
 
-judge-requires : tie.Need-judge-requires
+judge-requires : tie.Need-judge-j-requires
 judge-requires c κs = (found c.before).within
 
-returns-2 : tie.Need-returns-2
+returns-2 : tie.Need-returns-in_default
 returns-2 c =
-    let j = c.before.before.before in
-    text_bad _ (none (passed j)) (found (passed j)) j.judge.ensures c.before.enum_told.given.1 _ c.not-checked2.ensures
+    let j = c in
+    text_bad _ (none (passed j.before.before)) (found (passed j.before.before)) j.judge-j.ensures c.in_default.is _ c.not_checked-in_default.ensures
 
-returns-3 : tie.Need-returns-3
+returns-3 : tie.Need-returns-then-slots-rows
 returns-3 c =
-    let m = c.before.before.before in
-    let j = judged m in
-    text_full _ (none (passed j)) (found (passed j)) j.judge.ensures m.j.given.1 (omega (arith, c.before.if2.true)) _ c.not-checked3.ensures
+    let m = c in
+    let j = judged m.before.before in
+    text_full _ (none (passed j)) (found (passed j)) j.judge-j.ensures m.in-AllGood.is (omega (arith, c.if-slots-rows.true)) _ c.not_checked-then-slots-rows.ensures
 
-returns-4 : tie.Need-returns-4
+returns-4 : tie.Need-returns
 returns-4 c =
-    let m = c.before.before in
-    let j = judged m in
-    text_good _ (none (passed j)) (found (passed j)) j.judge.ensures m.j.given.1 (omega (arith, c.if2.false))
+    let m = c in
+    let j = judged m.before in
+    text_good _ (none (passed j)) (found (passed j)) j.judge-j.ensures m.in-AllGood.is (omega (arith, c.if-slots-rows.false))
 
-pub check-text-spec : {M : Type 1} → statement M
-check-text-spec =
+pub check_text_spec : {M : Type 1} → statement M
+check_text_spec =
     tie.close
     (tie.spec
     (λ c κs. search rules) (λ c κs. search rules) returns judge-requires (λ c. search rules) (λ c. search rules) (λ c κs. search rules) returns-2

@@ -8,50 +8,50 @@ use Rattle.csv_calls.proofs.columns_of.Statement.{statement}
 use Rattle.csv_calls.proofs.columns_of.Tie as tie
 
 -- no name holds a quote
-grower-plain : tie.Need-find-name-requires
+grower-plain : tie.Need-find_name-g-requires
 unfolding holds_quote
 grower-plain c κs = refl
 
-weight-plain : tie.Need-find-name-requires-2
+weight-plain : tie.Need-find_name-w-requires
 unfolding holds_quote
 weight-plain c κs = refl
 
-yield-plain : tie.Need-find-name-requires-3
+yield-plain : tie.Need-find_name-y-requires
 unfolding holds_quote
 yield-plain c κs = refl
 
 -- The three names looked for, and the first test of them.
 
-abbrev start : tie.After-find-name3 → tie.Start
-start c = c.before.before.before.before.before.before.before
+abbrev start : tie.After-find_name-y → tie.Start
+start c = c.before.before.before.before.before.before.before.before.before.before
 
-names : (c : tie.After-find-name3) → Looked (start c).args.text.now c.before.before.before.before.find-name.result c.before.before.find-name2.result c.find-name3.result
-names c = looked c.before.before.before.before.find-name.ensures c.before.before.find-name2.ensures c.find-name3.ensures
+names : (c : tie.After-find_name-y) → Looked (start c).args.text.now c.find_name-g.result c.find_name-w.result c.find_name-y.result
+names c = looked c.find_name-g.ensures c.find_name-w.ensures c.find_name-y.ensures
 
-abbrev sought : tie.After-all → tie.After-find-name3
+abbrev sought : tie.After-all → tie.After-find_name-y
 sought c = c.before.before.before.before
 
-returns : tie.Need-returns
+returns : tie.Need-returns-then-not-all
 returns c =
-    let t = c.before.before in
-    header_absent (names (sought t)) (sym t.all.ensures ∙ not-true _ c.before.if1.true) c.no-columns.ensures
+    let t = c in
+    header_absent (names (sought t.before.before)) (sym t.all.ensures ∙ c.if-not-all.true) c.no_columns.ensures
 
-returns-2 : tie.Need-returns-2
+returns-2 : tie.Need-returns-then-not-all-2
 returns-2 c =
-    let u = c.before.before in
-    let f = u.before.before.before.before in
-    header_twice (names (sought f.before)) (sym f.before.all.ensures ∙ not-false _ f.if1.false) (sym u.all2.ensures ∙ not-true _ c.before.if2.true)
-    c.no-columns2.ensures
+    let u = c in
+    let f = u in
+    header_twice (names (sought f.before.before.before.before.before.before.before)) (sym f.all.ensures ∙ f.if-not-all.false) (sym u.all-2.ensures ∙ c.if-not-all-2.true)
+    c.no_columns-then-not-all-2.ensures
 
-returns-3 : tie.Need-returns-3
+returns-3 : tie.Need-returns
 returns-3 c =
-    let u = c.before in
-    let f = u.before.before.before.before in
-    header_good (names (sought f.before)) (sym f.before.all.ensures ∙ not-false _ f.if1.false) (sym u.all2.ensures ∙ not-false _ c.if2.false)
+    let u = c in
+    let f = u in
+    header_good (names (sought f.before.before.before.before.before.before)) (sym f.all.ensures ∙ f.if-not-all.false) (sym u.all-2.ensures ∙ c.if-not-all-2.false)
 
-pub columns-of-spec : {M : Type 1} → statement M
-columns-of-spec =
+pub columns_of_spec : {M : Type 1} → statement M
+columns_of_spec =
     tie.close
     (tie.spec
-    (λ c. search rules) grower-plain (λ c. search rules) weight-plain (λ c. search rules) yield-plain (λ c κs. search rules) (λ c κs. search rules)
+    grower-plain weight-plain yield-plain (λ c κs. search rules) (λ c κs. search rules)
     returns (λ c κs. search rules) (λ c κs. search rules) returns-2 returns-3)

@@ -5,12 +5,12 @@ use Rattle.csv_calls.proofs.NameLaws.{doubled_no_name, plain_name}
 use Rattle.csv_calls.proofs.is_name.Statement.{statement}
 use Rattle.csv_calls.proofs.is_name.Tie as tie
 
-returns : tie.Need-returns
-returns c = doubled_no_name c.before.before.before.requires.2 (not-true _ c.if1.true)
+returns : tie.Need-returns-then-not-clean
+returns c = doubled_no_name c.requires.2 (c.if-not-clean.true)
 
-returns-2 : tie.Need-returns-2
-returns-2 c = plain_name (not-false _ c.before.before.if1.false) c.equal.ensures
+returns-2 : tie.Need-returns
+returns-2 c = plain_name (c.if-not-clean.false) c.equal.ensures
 
-pub is-name-spec : {M : Type 1} → statement M
-is-name-spec =
+pub is_name_spec : {M : Type 1} → statement M
+is_name_spec =
     tie.close (tie.spec returns (λ c. search rules) (λ c. search rules) (λ c. search rules) (λ c κs. search rules) returns-2)

@@ -4,18 +4,18 @@ use borrow.Author.Tests.{not-true, not-false, ne_eqb}
 use Rattle.csv_calls.proofs.with_column.Statement.{statement}
 use Rattle.csv_calls.proofs.with_column.Tie as tie
 
-returns : tie.Need-returns
-returns c = rw (not-true c.before.args.found c.if1.true)
+returns : tie.Need-returns-then-not-found
+returns c = rw (c.if-not-found.true)
 
-returns-2 : tie.Need-returns-2
+returns-2 : tie.Need-returns-then-s-ne0
 returns-2 c =
-    let if1 = c.before.before.before in
-    rw (not-false if1.before.args.found if1.if1.false, ne_eqb if1.before.args.s.times 0 c.before.if2.true)
+    let if1 = c in
+    rw (if1.if-not-found.false, ne_eqb if1.args.s.times 0 c.if-s-ne0.true)
 
-returns-3 : tie.Need-returns-3
+returns-3 : tie.Need-returns
 returns-3 c =
-    let if1 = c.before.before in
-    rw (not-false if1.before.args.found if1.if1.false, c.if2.false)
+    let if1 = c in
+    rw (if1.if-not-found.false, c.if-s-ne0.false)
 
-pub with-column-spec : {M : Type 1} → statement M
-with-column-spec = tie.close (tie.spec returns (λ c. search rules) returns-2 returns-3)
+pub with_column_spec : {M : Type 1} → statement M
+with_column_spec = tie.close (tie.spec returns (λ c. search rules) returns-2 returns-3)

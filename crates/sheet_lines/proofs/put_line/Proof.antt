@@ -8,9 +8,9 @@ use Rattle.sheet_lines.proofs.put_line.Tie as tie
 
 returns : tie.Need-returns
 returns c =
-    let d = c.before.before.before in
-    more_put _ _ _ _ _ _ _ d.before.before.before.put-wide.ensures c.before.before.put-totals.ensures refl (omega arith)
+    let d = c in
+    more_put _ _ _ _ _ _ _ d.put_wide.ensures c.put_totals.ensures refl (omega arith)
 
-pub put-line-spec : {M : Type 1} → statement M
-put-line-spec =
+pub put_line_spec : {M : Type 1} → statement M
+put_line_spec =
     tie.close (tie.spec (λ c κs. search rules) (λ c. search rules) (λ c κs. search rules) (λ c. search rules) returns)

@@ -11,79 +11,79 @@ use Rattle.sheet_lines.proofs.GroupLines.{LinesLeft, lines_start, sums_light, ru
 use Rattle.sheet_lines.proofs.put_lines.Statement.{statement}
 use Rattle.sheet_lines.proofs.put_lines.Tie as tie
 
-abbrev invariant-loop : tie.invariant-loop
+abbrev invariant-loop : tie.invariant-loop-i
 invariant-loop text₀ order g w y n totals₀ at₀ i₀ text totals at i = LinesLeft text₀ order (slices_of g w y n) text totals at i
 
-abbrev decreases-loop : tie.decreases-loop
+abbrev decreases-loop : tie.decreases-loop-i
 decreases-loop text₀ order g w y n totals₀ at₀ i₀ text totals at i = length order - i
 
 -- Places: a turn of the loop, from its start and once its run is found.
 
-abbrev start : tie.In-loop invariant-loop decreases-loop → tie.Start invariant-loop decreases-loop
+abbrev start : tie.In-loop-i invariant-loop decreases-loop → tie.Start invariant-loop decreases-loop
 start c = c.before.before.before.before.before.before.before.before.before
 
-abbrev top : tie.After-put-line-arg invariant-loop decreases-loop → tie.In-loop invariant-loop decreases-loop
+abbrev top : tie.After-put_line-arg-1 invariant-loop decreases-loop → tie.In-loop-i invariant-loop decreases-loop
 top c = c.before.before.before
 
-abbrev found : tie.After-slice-known2 invariant-loop decreases-loop → tie.After-put-line-arg invariant-loop decreases-loop
+abbrev found : tie.After-slice_known-in-loop-i-1 invariant-loop decreases-loop → tie.After-put_line-arg-1 invariant-loop decreases-loop
 found c = c.before.before.before.before.before
 
-slot_there : (c : tie.In-loop invariant-loop decreases-loop) → get_or (start c).args.order.now c.before.loop.i 0 < length (start c).args.g.now
+slot_there : (c : tie.In-loop-i invariant-loop decreases-loop) → get_or (start c).args.order.now c.loop-i.i 0 < length (start c).args.g.now
 slot_there c =
     let s = start c in
     let g = s.args.g.now in
-    slot_in g s.args.order.now c.before.loop.i s.pre.1.there c.loop-test.true
+    slot_in g s.args.order.now c.loop-i.i s.requires.1.there c.loop-i-test.true
 
-slot-few : (c : tie.In-loop invariant-loop decreases-loop) → get_or (start c).args.order.now c.before.loop.i 0 < most_slots
+slot-few : (c : tie.In-loop-i invariant-loop decreases-loop) → get_or (start c).args.order.now c.loop-i.i 0 < most_slots
 slot-few c = omega (arith, slot_there c, (start c).requires.0.few)
 
-loop-holds : tie.Need-loop-init invariant-loop decreases-loop
-loop-holds c = let s = c.before.before.before.before.before.before.before in lines_start s.requires.0 s.requires.1 c.none.ensures s.requires.2
+loop-holds : tie.Need-loop-i-init invariant-loop decreases-loop
+loop-holds c = let s = c in lines_start s.requires.0 s.requires.1 c.none-totals.ensures s.requires.2
 
-run-at-requires : tie.Need-run-at-requires invariant-loop decreases-loop
+run-at-requires : tie.Need-run_at-r-requires invariant-loop decreases-loop
 run-at-requires c κs =
     let s = start c in
-    (s.pre.0, s.pre.1.few, s.pre.1.there, c.loop-test.true)
+    (s.requires.0, s.requires.1.few, s.requires.1.there, c.loop-i-test.true)
 
-shared-slice-read-put-line-2 : tie.Need-shared-slice-read-put-line-2 invariant-loop decreases-loop
+shared-slice-read-put-line-2 : tie.Need-bounds-g-order invariant-loop decreases-loop
 shared-slice-read-put-line-2 c = slot_there (top c.before.before)
 
-put-line-requires : tie.Need-put-line-requires invariant-loop decreases-loop
-put-line-requires c κs = let t = top c.before.before in line_room t.before.loop.inv t.loop-test.taken
+put-line-requires : tie.Need-put_line-requires invariant-loop decreases-loop
+put-line-requires c κs = let t = top c.before.before in line_room t.loop-i.invariant t.loop-i-test.true
 
-plus-requires : tie.Need-plus-requires invariant-loop decreases-loop
+plus-requires : tie.Need-plus-totals-requires invariant-loop decreases-loop
 plus-requires c κs =
     let f = found c in
     let t = top f in
-    (sums_light t.before.loop.inv, run_light t.before.loop.inv t.loop-test.taken f.before.before.run_at.ensures.1)
+    (sums_light t.loop-i.invariant, run_light t.loop-i.invariant t.loop-i-test.true f.run_at-r.ensures.1)
 
-add_at : tie.Need-overflow-add-at invariant-loop decreases-loop
-add_at c = let t = top (found c.before) in let l = t.before.loop.inv in omega (arith, line_room l t.loop-test.taken, l.size)
+add_at : tie.Need-overflow_add-at invariant-loop decreases-loop
+add_at c = let t = top (found c.before) in let l = t.loop-i.invariant in omega (arith, line_room l t.loop-i-test.true, l.size)
 
-loop-less : tie.Need-loop-smaller invariant-loop decreases-loop
+loop-less : tie.Need-loop-i-smaller invariant-loop decreases-loop
 loop-less c =
     let f = found c.before in
     let t = top f in
-    omega (arith, f.before.before.run_at.ensures.0, run_some t.before.loop.inv t.loop-test.taken, t.loop-test.taken)
+    omega (arith, f.run_at-r.ensures.0, run_some t.loop-i.invariant t.loop-i-test.true, t.loop-i-test.true)
 
-loop-again : tie.Need-loop-preserved invariant-loop decreases-loop
+loop-again : tie.Need-loop-i-preserved invariant-loop decreases-loop
 loop-again c =
     let f = found c.before in
     let t = top f in
-    lines_next t.before.loop.inv t.loop-test.taken f.before.before.run_at.ensures.1 c.before.before.before.put-line.ensures c.plus.ensures
-    f.before.before.run_at.ensures.0
+    lines_next t.loop-i.invariant t.loop-i-test.true f.run_at-r.ensures.1 c.put_line.ensures c.plus-totals.ensures
+    f.run_at-r.ensures.0
 
-same_length : tie.Need-same-length invariant-loop decreases-loop
-same_length c = c.before.loop.invariant.size
+same_length : tie.Need-shape_of-text invariant-loop decreases-loop
+same_length c = c.loop-i.invariant.size
 
 returns : tie.Need-returns invariant-loop decreases-loop
 returns c =
-    let l = c.before.loop.invariant in
-    let h = c.loop-test.false in
+    let l = c.loop-i.invariant in
+    let h = c.loop-i-test.false in
     (lines_text l h, lines_bytes l h, lines-totals l h)
 
-pub put-lines-spec : {M : Type 1} → statement M
-put-lines-spec =
+pub put_lines_spec : {M : Type 1} → statement M
+put_lines_spec =
     tie.close
     (tie.spec
     invariant-loop decreases-loop (λ c κs. search rules) loop-holds run-at-requires (λ c. search rules) (λ c. omega arith) (λ c. omega (arith, slot-few (top c.before)))
