@@ -13,46 +13,46 @@ use Rattle.layplan_text.proofs.judge_head.Tie as tie
 
 -- The lines that have passed.
 
-prices : (c : tie.Else1) → line_ok 3 0 c.before.before.before.args.text.now ≡ true
-prices c = passed _ c.before.judge-line.ensures c.if1.false
+prices : (c : tie.Else-p-ne0) → line_ok 3 0 c.args.text.now ≡ true
+prices c = passed _ c.judge_line-p.ensures c.if-p-ne0.false
 
-limits : (c : tie.Else2) → line_ok 2 34 c.before.before.before.before.before.args.text.now ≡ true
-limits c = passed _ c.before.judge-line2.ensures c.if2.false
+limits : (c : tie.Else-l-ne0) → line_ok 2 34 c.args.text.now ≡ true
+limits c = passed _ c.judge_line-l.ensures c.if-l-ne0.false
 
-sizes : (c : tie.Else3) → line_ok 3 57 c.before.before.before.before.before.before.before.args.text.now ≡ true
-sizes c = passed _ c.before.judge-line3.ensures c.if3.false
+sizes : (c : tie.Else-s-ne0) → line_ok 3 57 c.args.text.now ≡ true
+sizes c = passed _ c.judge_line-s.ensures c.if-s-ne0.false
 
 -- what M and Q decide then
-decided : (c : tie.After-sizes-ok) (b : Bool) → c.sizes-ok.result ≡ b
-    → text_refusal b ≡ text_refusal (head_ok c.before.before.before.before.before.before.before.before.before.before.args.text.now)
+decided : (c : tie.After-sizes_ok) (b : Bool) → c.sizes_ok.result ≡ b
+    → text_refusal b ≡ text_refusal (head_ok c.args.text.now)
 decided c b e =
-    let l = c.before.before.before in
-    head_decided _ (prices l.before.before.before.before) (limits l.before.before) (sizes l) _ _
-    c.before.before.spelled_at.ensures c.before.spelled-at2.ensures b (sym c.sizes-ok.ensures ∙ e)
+    let l = c in
+    head_decided _ (prices l.before.before.before.before.before.before.before) (limits l.before.before.before.before.before) (sizes l.before.before.before) _ _
+    c.spelled_at-m.ensures c.spelled_at-q.ensures b (sym c.sizes_ok.ensures ∙ e)
 
-returns : tie.Need-returns
-returns c = refused_by _ _ c.before.judge-line.ensures c.if1.true (no_prices _)
+returns : tie.Need-returns-then-p-ne0
+returns c = refused_by _ _ c.judge_line-p.ensures c.if-p-ne0.true (no_prices _)
 
-returns-2 : tie.Need-returns-2
-returns-2 c = refused_by _ _ c.before.judge-line2.ensures c.if2.true (no_limits _ (prices c.before.before))
+returns-2 : tie.Need-returns-then-l-ne0
+returns-2 c = refused_by _ _ c.judge_line-l.ensures c.if-l-ne0.true (no_limits _ (prices c.before.before))
 
-returns-3 : tie.Need-returns-3
-returns-3 c = refused_by _ _ c.before.judge-line3.ensures c.if3.true (no_sizes _ (prices c.before.before.before.before) (limits c.before.before))
+returns-3 : tie.Need-returns-then-s-ne0
+returns-3 c = refused_by _ _ c.judge_line-s.ensures c.if-s-ne0.true (no_sizes _ (prices c.before.before.before.before) (limits c.before.before))
 
-spelled-at-requires : tie.Need-spelled-at-requires
+spelled-at-requires : tie.Need-spelled_at-m-requires
 spelled-at-requires c κs = (fields_three _ 57 (of_true _ (sizes c))).1
 
-spelled-at-requires-2 : tie.Need-spelled-at-requires-2
+spelled-at-requires-2 : tie.Need-spelled_at-q-requires
 spelled-at-requires-2 c κs = (fields_three _ 57 (of_true _ (sizes c.before))).2
 
-returns-4 : tie.Need-returns-4
-returns-4 c = decided c.before false (not-true _ c.if4.true)
+returns-4 : tie.Need-returns-then-not-sizes_ok
+returns-4 c = decided c.before false (c.if-not-sizes_ok.true)
 
-returns-5 : tie.Need-returns-5
-returns-5 c = decided c.before true (not-false _ c.if4.false)
+returns-5 : tie.Need-returns
+returns-5 c = decided c.before true (c.if-not-sizes_ok.false)
 
-pub judge-head-spec : {M : Type 1} → statement M
-judge-head-spec =
+pub judge_head_spec : {M : Type 1} → statement M
+judge_head_spec =
     tie.close
     (tie.spec
     (λ c κs. search rules) returns (λ c κs. search rules) returns-2 (λ c κs. search rules) returns-3 spelled-at-requires

@@ -17,33 +17,33 @@ use Rattle.layplan_text.proofs.layplan_text.Tie as tie
 
 -- The text has been judged, and M taken.
 
-week : (c : tie.Else1) → week_ok c.before.before.before.args.text.now ≡ true
-week c = passed _ c.before.judge-week.ensures c.if1.false
+week : (c : tie.Else-bad-ne0) → week_ok c.args.text.now ≡ true
+week c = passed _ c.judge_week-bad.ensures c.if-bad-ne0.false
 
-held : (c : tie.After-spelled-at) → Deliveries c.before.before.before.before.args.text.now c.spelled_at.result
-held c = deliveries _ _ (week c.before) c.spelled_at.ensures
+held : (c : tie.After-spelled_at-m) → Deliveries c.args.text.now c.spelled_at-m.result
+held c = deliveries _ _ (week c.before) c.spelled_at-m.ensures
 
-abbrev spelled : tie.After-yields2 → tie.After-spelled-at
+abbrev spelled : tie.After-yields-2-1 → tie.After-spelled_at-m
 spelled c = c.before.before.before.before.before.before.before.before.before
 
-few : (c : tie.After-yields2) → (spelled c).spelled_at.result < most_deliveries + 1
+few : (c : tie.After-yields-2-1) → (spelled c).spelled_at-m.result < most_deliveries + 1
 few c = (held (spelled c)).few
 
 -- The slices, each with its column.
 
-abbrev growers : tie.After-yields2 → tie.After-store
+abbrev growers : tie.After-yields-2-1 → tie.After-store
 growers c = c.before.before.before.before.before.before.before
 
-abbrev weights : tie.After-yields2 → tie.After-store2
+abbrev weights : tie.After-yields-2-1 → tie.After-store-2
 weights c = c.before.before.before.before
 
-abbrev yields : tie.After-yields2 → tie.After-store3
+abbrev yields : tie.After-yields-2-1 → tie.After-store-3
 yields c = c.before
 
-returns : tie.Need-returns
-returns c = program_refused _ _ _ c.before.before.judge-week.ensures c.before.if1.true c.refused.ensures
+returns : tie.Need-returns-then-bad-ne0
+returns c = program_refused _ _ _ c.judge_week-bad.ensures c.if-bad-ne0.true c.refused.ensures
 
-spelled-at-requires : tie.Need-spelled-at-requires
+spelled-at-requires : tie.Need-spelled_at-m-requires
 spelled-at-requires c κs = (head _ (good _ (of_true _ (week c))).first).used
 
 store-requires : tie.Need-store-requires
@@ -55,42 +55,42 @@ store-requires-2 c κs = let w = held c.before.before.before.before in (omega ar
 store-requires-3 : tie.Need-store-requires-3
 store-requires-3 c κs = let w = held c.before.before.before.before.before.before.before in (omega arith, omega (arith, w.few), omega (arith, w.few), w.yields)
 
-array-share-prefix-growers : tie.Need-array-share-prefix-growers
+array-share-prefix-growers : tie.Need-slice_bounds-growers-end
 array-share-prefix-growers c = omega (arith, stored_room _ 91 _ (most_deliveries + 1) (few c) _ (growers c).store.ensures)
 
-slice-aggregate-answer : tie.Need-slice-aggregate-answer
+slice-aggregate-answer : tie.Need-slice_bounds-answer-end
 slice-aggregate-answer c = sym (length-take-le _ _ (omega (arith, stored_room _ 91 _ (most_deliveries + 1) (few c.before) _ (growers c.before).store.ensures)))
 
-array-share-prefix-weights : tie.Need-array-share-prefix-weights
-array-share-prefix-weights c = omega (arith, stored_room _ 102 _ (most_deliveries + 1) (few c.before) _ (weights c.before).store2.ensures)
+array-share-prefix-weights : tie.Need-slice_bounds-weights-end
+array-share-prefix-weights c = omega (arith, stored_room _ 102 _ (most_deliveries + 1) (few c.before) _ (weights c.before).store-2.ensures)
 
-slice-aggregate-answer-2 : tie.Need-slice-aggregate-answer-2
-slice-aggregate-answer-2 c = sym (length-take-le _ _ (omega (arith, stored_room _ 102 _ (most_deliveries + 1) (few c.before.before) _ (weights c.before.before).store2.ensures)))
+slice-aggregate-answer-2 : tie.Need-slice_bounds-answer-end-2
+slice-aggregate-answer-2 c = sym (length-take-le _ _ (omega (arith, stored_room _ 102 _ (most_deliveries + 1) (few c.before.before) _ (weights c.before.before).store-2.ensures)))
 
-array-share-prefix-yields : tie.Need-array-share-prefix-yields
-array-share-prefix-yields c = omega (arith, stored_room _ 113 _ (most_deliveries + 1) (few c.before.before) _ (yields c.before.before).store3.ensures)
+array-share-prefix-yields : tie.Need-slice_bounds-yields-end
+array-share-prefix-yields c = omega (arith, stored_room _ 113 _ (most_deliveries + 1) (few c.before.before) _ (yields c.before.before).store-3.ensures)
 
-slice-aggregate-answer-3 : tie.Need-slice-aggregate-answer-3
+slice-aggregate-answer-3 : tie.Need-slice_bounds-answer-end-3
 slice-aggregate-answer-3 c =
-    sym (length-take-le _ _ (omega (arith, stored_room _ 113 _ (most_deliveries + 1) (few c.before.before.before) _ (yields c.before.before.before).store3.ensures)))
+    sym (length-take-le _ _ (omega (arith, stored_room _ 113 _ (most_deliveries + 1) (few c.before.before.before) _ (yields c.before.before.before).store-3.ensures)))
 
-array-share-prefix-days : tie.Need-array-share-prefix-days
+array-share-prefix-days : tie.Need-slice_bounds-days-end
 array-share-prefix-days c = omega (arith, few c.before.before.before)
 
-slice-aggregate-answer-4 : tie.Need-slice-aggregate-answer-4
+slice-aggregate-answer-4 : tie.Need-slice_bounds-answer-end-4
 slice-aggregate-answer-4 c = sym (length-take-le _ _ (omega (arith, few c.before.before.before.before, length-replicate {A = ℕ} (most_deliveries + 1) 0)))
 
 answer-requires : tie.Need-answer-requires
 answer-requires c κs = of_true _ (week (spelled c.before.before.before.before).before)
 
-returns-2 : tie.Need-returns-2
+returns-2 : tie.Need-returns
 returns-2 c =
-    let y = c.before.before.before.before.before in
-    let m = spelled y in
-    program_answers _ _ (week m.before) m.spelled_at.ensures _ _ _ (growers y).store.ensures (weights y).store2.ensures (yields y).store3.ensures _ c.answer.ensures
+    let y = c in
+    let m = spelled y.before.before.before.before.before in
+    program_answers _ _ (week m.before) m.spelled_at-m.ensures _ _ _ (growers y.before.before.before.before.before).store.ensures (weights y.before.before.before.before.before).store-2.ensures (yields y.before.before.before.before.before).store-3.ensures _ c.answer.ensures
 
-pub layplan-text-spec : {M : Type 1} → statement M
-layplan-text-spec =
+pub layplan_text_spec : {M : Type 1} → statement M
+layplan_text_spec =
     tie.close
     (tie.spec
     (λ c κs. search rules) (λ c κs. search rules) returns spelled-at-requires (λ c. search rules) (λ c. search rules) store-requires

@@ -7,28 +7,28 @@ use Rattle.layplan_text.proofs.Outputs.{PutEnds, put_ends_start, put_ends_next, 
 use Rattle.layplan_text.proofs.put_ends.Statement.{statement}
 use Rattle.layplan_text.proofs.put_ends.Tie as tie
 
-abbrev invariant-loop : tie.invariant-loop
+abbrev invariant-loop : tie.invariant-loop-i
 invariant-loop text₀ at ends i₀ e₀ first₀ text i e first = PutEnds text₀ at ends text i e first
 
-abbrev decreases-loop : tie.decreases-loop
+abbrev decreases-loop : tie.decreases-loop-i
 decreases-loop text₀ at ends i₀ e₀ first₀ text i e first = length ends - i
 
-loop-holds : tie.Need-loop-init invariant-loop decreases-loop
-loop-holds c = put_ends_start _ _ _ c.before.before.requires.0
+loop-holds : tie.Need-loop-i-init invariant-loop decreases-loop
+loop-holds c = put_ends_start _ _ _ c.requires.0
 
-add-first : tie.Need-overflow-add-first invariant-loop decreases-loop
+add-first : tie.Need-overflow_add-first invariant-loop decreases-loop
 add-first c =
-    let l = c.before.before.before.before.before.before in
-    omega (arith, l.before.before.before.requires.1 l.loop.i c.before.before.before.before.before.loop-test.true)
+    let l = c in
+    omega (arith, l.requires.1 l.loop-i.i c.loop-i-test.true)
 
-loop-again : tie.Need-loop-preserved invariant-loop decreases-loop
-loop-again c = put_ends_next c.before.before.before.before.before.loop-test.true c.before.before.before.before.before.before.loop.invariant c.before.before.put_two.ensures
+loop-again : tie.Need-loop-i-preserved invariant-loop decreases-loop
+loop-again c = put_ends_next c.loop-i-test.true c.loop-i.invariant c.put_two.ensures
 
 returns : tie.Need-returns invariant-loop decreases-loop
-returns c = put_ends_end c.loop-test.false c.before.loop.invariant
+returns c = put_ends_end c.loop-i-test.false c.loop-i.invariant
 
-pub put-ends-spec : {M : Type 1} → statement M
-put-ends-spec =
+pub put_ends_spec : {M : Type 1} → statement M
+put_ends_spec =
     tie.close
     (tie.spec
     invariant-loop decreases-loop loop-holds (λ c. search rules) (λ c. omega arith) (λ c κs. omega arith) add-first (λ c. omega arith) (λ c. omega arith)

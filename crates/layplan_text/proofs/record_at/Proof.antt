@@ -7,49 +7,49 @@ use Rattle.layplan_text.proofs.record_at.Tie as tie
 
 -- The first four numbers.
 
-abbrev from : tie.After-spelled-at4 → tie.Start
+abbrev from : tie.After-spelled_at-c → tie.Start
 from c = c.before.before.before.before.before.before.before.before.before.before
 
-four : (c : tie.After-spelled-at4)
+four : (c : tie.After-spelled_at-c)
     → Four (from c).args.text.now (from c).args.at
-    c.before.before.before.spelled_at.result c.before.before.spelled-at2.result c.before.spelled-at3.result c.spelled-at4.result
-four c = record { kind = c.before.before.before.spelled_at.ensures; first = c.before.before.spelled-at2.ensures; second = c.before.spelled-at3.ensures; third = c.spelled-at4.ensures }
+    c.spelled_at-kind.result c.spelled_at-a.result c.spelled_at-b.result c.spelled_at-c.result
+four c = record { kind = c.spelled_at-kind.ensures; first = c.spelled_at-a.ensures; second = c.spelled_at-b.ensures; third = c.spelled_at-c.ensures }
 
-spelled-at-requires : tie.Need-spelled-at-requires
-spelled-at-requires c κs = (five_fields _ _ c.before.before.before.before.before.before.requires.1).kind
+spelled-at-requires : tie.Need-spelled_at-kind-requires
+spelled-at-requires c κs = (five_fields _ _ c.requires.1).kind
 
-spelled-at-requires-2 : tie.Need-spelled-at-requires-2
-spelled-at-requires-2 c κs = (five_fields _ _ c.before.before.before.before.before.before.before.requires.1).first
+spelled-at-requires-2 : tie.Need-spelled_at-a-requires
+spelled-at-requires-2 c κs = (five_fields _ _ c.requires.1).first
 
-spelled-at-requires-3 : tie.Need-spelled-at-requires-3
-spelled-at-requires-3 c κs = (five_fields _ _ c.before.before.before.before.before.before.before.before.requires.1).second
+spelled-at-requires-3 : tie.Need-spelled_at-b-requires
+spelled-at-requires-3 c κs = (five_fields _ _ c.requires.1).second
 
-spelled-at-requires-4 : tie.Need-spelled-at-requires-4
-spelled-at-requires-4 c κs = (five_fields _ _ c.before.before.before.before.before.before.before.before.before.requires.1).third
+spelled-at-requires-4 : tie.Need-spelled_at-c-requires
+spelled-at-requires-4 c κs = (five_fields _ _ c.requires.1).third
 
-returns : tie.Need-returns
-returns c = let b = c.before.before.before.before in found_at block_limit (four b.before) _ _ _ b.if1.true c.before.before.record-find.ensures
+returns : tie.Need-returns-then-kind-eq-FIND
+returns c = let b = c in found_at block_limit (four b.before.before.before.before.before) _ _ _ b.if-kind-eq-FIND.true c.record_find.ensures
 
-returns-2 : tie.Need-returns-2
-returns-2 c = let b = c.before.before.before.before in ranged_at block_limit (four b.before.before) _ _ _ b.if2.true c.before.before.record-range.ensures
+returns-2 : tie.Need-returns-then-kind-eq-RANGE
+returns-2 c = let b = c in ranged_at block_limit (four b.before.before.before.before.before.before) _ _ _ b.if-kind-eq-RANGE.true c.record_range.ensures
 
-returns-3 : tie.Need-returns-3
-returns-3 c = let b = c.before.before.before.before in inserted-at block_limit (four b.before.before.before) _ _ _ b.if3.true c.before.before.record-insert.ensures
+returns-3 : tie.Need-returns-then-kind-eq-INSERT
+returns-3 c = let b = c in inserted-at block_limit (four b.before.before.before.before.before.before.before) _ _ _ b.if-kind-eq-INSERT.true c.record_insert.ensures
 
-returns-4 : tie.Need-returns-4
-returns-4 c = let b = c.before.before.before.before in deleted-at block_limit (four b.before.before.before.before) _ _ _ b.if4.true c.before.before.record-delete.ensures
+returns-4 : tie.Need-returns-then-kind-eq-DELETE
+returns-4 c = let b = c in deleted-at block_limit (four b.before.before.before.before.before.before.before.before) _ _ _ b.if-kind-eq-DELETE.true c.record_delete.ensures
 
-spelled-at-requires-5 : tie.Need-spelled-at-requires-5
+spelled-at-requires-5 : tie.Need-spelled_at-e-requires
 spelled-at-requires-5 c κs = (five_fields _ _ (from c.before.before.before.before).requires.1).fourth
 
-returns-5 : tie.Need-returns-5
+returns-5 : tie.Need-returns
 returns-5 c =
-    let e = c.before.before.before.before.before in
-    moved_at block_limit (four e.before.before.before.before) _ _ _ _ c.before.before.before.before.spelled-at5.ensures
-    e.before.before.before.if1.false e.before.before.if2.false e.before.if3.false e.if4.false c.before.before.record-move.ensures
+    let e = c in
+    moved_at block_limit (four e.before.before.before.before.before.before.before.before.before) _ _ _ _ c.spelled_at-e.ensures
+    e.if-kind-eq-FIND.false e.if-kind-eq-RANGE.false e.if-kind-eq-INSERT.false e.if-kind-eq-DELETE.false c.record_move.ensures
 
-pub record-at-spec : {M : Type 1} → statement M
-record-at-spec =
+pub record_at_spec : {M : Type 1} → statement M
+record_at_spec =
     tie.close
     (tie.spec
     spelled-at-requires (λ c. search rules) spelled-at-requires-2 (λ c. search rules) (λ c. search rules) spelled-at-requires-3

@@ -8,42 +8,42 @@ use Rattle.layplan_text.proofs.CallLaws.{RecordsLeft, records_start, next_line, 
 use Rattle.layplan_text.proofs.record_lines.Statement.{statement}
 use Rattle.layplan_text.proofs.record_lines.Tie as tie
 
-abbrev invariant-loop : tie.invariant-loop
+abbrev invariant-loop : tie.invariant-loop-i
 invariant-loop text at q histograms₀ block used growers weights yields days i₀ e₀ histograms i e = RecordsLeft text at q (set_of block used growers weights yields days) histograms₀ histograms i e
 
-abbrev decreases-loop : tie.decreases-loop
+abbrev decreases-loop : tie.decreases-loop-i
 decreases-loop text at q histograms₀ block used growers weights yields days i₀ e₀ histograms i e = q - i
 
-loop-holds : tie.Need-loop-init invariant-loop decreases-loop
-loop-holds c = records_start _ _ _ _ _ c.before.before.before.before.before.before.requires.2
+loop-holds : tie.Need-loop-i-init invariant-loop decreases-loop
+loop-holds c = records_start _ _ _ _ _ c.requires.2
 
-record-at-requires : tie.Need-record-at-requires invariant-loop decreases-loop
+record-at-requires : tie.Need-record_at-n-requires invariant-loop decreases-loop
 record-at-requires c κs =
-    let l = c.before.before in
-    let s = l.before.before.before.before.before.before.before in
-    (omega (arith, l.loop.invariant.at-line, s.requires.0, s.requires.1), next_line c.before.loop-test.true l.loop.invariant)
+    let l = c in
+    let s = l in
+    (omega (arith, l.loop-i.invariant.at-line, s.requires.0, s.requires.1), next_line c.loop-i-test.true l.loop-i.invariant)
 
-returns : tie.Need-returns invariant-loop decreases-loop
+returns : tie.Need-returns-then-n-ne0 invariant-loop decreases-loop
 returns c =
-    let l = c.before.before.before.before.before in
-    records_stop l.loop-test.true l.before.loop.invariant _ _ c.before.before.before.record-at.ensures (λ z. omega (arith, z, c.if1.true))
+    let l = c in
+    records_stop l.loop-i-test.true l.loop-i.invariant _ _ c.record_at-n.ensures (λ z. omega (arith, z, c.if-n-ne0.true))
 
-add-e : tie.Need-overflow-add-e invariant-loop decreases-loop
+add-e : tie.Need-overflow_add-e invariant-loop decreases-loop
 add-e c =
-    let l = c.before.before.before.before.before.before in
-    let s = l.before.before.before.before.before.before.before in
-    omega (arith, l.loop.invariant.at-line, s.requires.0, s.requires.1)
+    let l = c in
+    let s = l in
+    omega (arith, l.loop-i.invariant.at-line, s.requires.0, s.requires.1)
 
-loop-again : tie.Need-loop-preserved invariant-loop decreases-loop
+loop-again : tie.Need-loop-i-preserved invariant-loop decreases-loop
 loop-again c =
-    let l = c.before.before.before.before.before in
-    records_next l.loop-test.true l.before.loop.invariant _ _ c.before.before.before.record-at.ensures (omega (arith, c.if1.false)) (search rules)
+    let l = c in
+    records_next l.loop-i-test.true l.loop-i.invariant _ _ c.record_at-n.ensures (omega (arith, c.if-n-ne0.false)) (search rules)
 
-returns-2 : tie.Need-returns-2 invariant-loop decreases-loop
-returns-2 c = records_end c.loop-test.false c.before.loop.invariant
+returns-2 : tie.Need-returns invariant-loop decreases-loop
+returns-2 c = records_end c.loop-i-test.false c.loop-i.invariant
 
-pub record-lines-spec : {M : Type 1} → statement M
-record-lines-spec =
+pub record_lines_spec : {M : Type 1} → statement M
+record_lines_spec =
     tie.close
     (tie.spec
     invariant-loop decreases-loop loop-holds record-at-requires (λ c. search rules) returns add-e (λ c. omega arith) (λ c. omega arith) loop-again

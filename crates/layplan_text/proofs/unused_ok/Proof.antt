@@ -4,32 +4,32 @@ use Rattle.layplan_text.proofs.CallLaws.{find_used_b, find_used_c, find_d, range
 use Rattle.layplan_text.proofs.unused_ok.Statement.{statement}
 use Rattle.layplan_text.proofs.unused_ok.Tie as tie
 
-returns : tie.Need-returns
-returns c = let s = c.before.before.args in find_used_b s.kind s.b s.c s.d c.before.if1.true (λ z. omega (arith, z, c.if2.true))
+returns : tie.Need-returns-then-b-ne0
+returns c = let s = c.args in find_used_b s.kind s.b s.c s.d c.if-kind-eq-FIND.true (λ z. omega (arith, z, c.if-b-ne0.true))
 
-returns-2 : tie.Need-returns-2
-returns-2 c = let s = c.before.before.before.args in find_used_c s.kind s.b s.c s.d c.before.before.if1.true (omega (arith, c.before.if2.false)) c.if3.true
+returns-2 : tie.Need-returns-then-c-ne0
+returns-2 c = let s = c.args in find_used_c s.kind s.b s.c s.d c.if-kind-eq-FIND.true (omega (arith, c.if-b-ne0.false)) c.if-c-ne0.true
 
-returns-3 : tie.Need-returns-3
-returns-3 c = let s = c.before.before.before.args in find_d s.kind s.b s.c s.d c.before.before.if1.true (omega (arith, c.before.if2.false)) c.if3.false
+returns-3 : tie.Need-returns-then-kind-eq-FIND
+returns-3 c = let s = c.args in find_d s.kind s.b s.c s.d c.if-kind-eq-FIND.true (omega (arith, c.if-b-ne0.false)) c.if-c-ne0.false
 
-returns-4 : tie.Need-returns-4
-returns-4 c = let s = c.before.before.before.args in range_used_c s.kind s.b s.c s.d c.before.if4.true c.if5.true
+returns-4 : tie.Need-returns-then-c-ne0-2
+returns-4 c = let s = c.args in range_used_c s.kind s.b s.c s.d c.if-kind-eq-RANGE.true c.if-c-ne0-2.true
 
-returns-5 : tie.Need-returns-5
-returns-5 c = let s = c.before.before.before.args in range_d s.kind s.b s.c s.d c.before.if4.true c.if5.false
+returns-5 : tie.Need-returns-then-kind-eq-RANGE
+returns-5 c = let s = c.args in range_d s.kind s.b s.c s.d c.if-kind-eq-RANGE.true c.if-c-ne0-2.false
 
-returns-6 : tie.Need-returns-6
-returns-6 c = let s = c.before.before.before.args in insert_d s.kind s.b s.c s.d c.if6.true
+returns-6 : tie.Need-returns-then-kind-eq-INSERT
+returns-6 c = let s = c.args in insert_d s.kind s.b s.c s.d c.if-kind-eq-INSERT.true
 
-returns-7 : tie.Need-returns-7
-returns-7 c = let s = c.before.before.before.before.args in delete_d s.kind s.b s.c s.d c.if7.true
+returns-7 : tie.Need-returns-then-kind-eq-DELETE
+returns-7 c = let s = c.args in delete_d s.kind s.b s.c s.d c.if-kind-eq-DELETE.true
 
-returns-8 : tie.Need-returns-8
+returns-8 : tie.Need-returns
 returns-8 c =
-    let s = c.before.before.before.before.args in
-    move_or_none s.kind s.b s.c s.d c.before.before.before.if1.false c.before.before.if4.false c.before.if6.false c.if7.false
+    let s = c.args in
+    move_or_none s.kind s.b s.c s.d c.if-kind-eq-FIND.false c.if-kind-eq-RANGE.false c.if-kind-eq-INSERT.false c.if-kind-eq-DELETE.false
 
-pub unused-ok-spec : {M : Type 1} → statement M
-unused-ok-spec =
+pub unused_ok_spec : {M : Type 1} → statement M
+unused_ok_spec =
     tie.close (tie.spec returns returns-2 returns-3 returns-4 returns-5 returns-6 returns-7 returns-8)

@@ -6,5 +6,5 @@ use Rattle.theorems.proofs.every_permitted_listed.Tie as tie
 returns : tie.Need-returns
 returns c = every-permitted-listed
 
-pub every-permitted-listed-spec : {M : Type 1} → statement M
-every-permitted-listed-spec = tie.close (tie.spec returns)
+pub every_permitted_listed_spec : {M : Type 1} → statement M
+every_permitted_listed_spec = tie.close (tie.spec returns)

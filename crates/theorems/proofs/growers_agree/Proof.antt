@@ -6,5 +6,5 @@ use Rattle.theorems.proofs.growers_agree.Tie as tie
 returns : tie.Need-returns
 returns c = (next_grower_agrees, next_grower_after-calls)
 
-pub growers-agree-spec : {M : Type 1} → statement M
-growers-agree-spec = tie.close (tie.spec returns)
+pub growers_agree_spec : {M : Type 1} → statement M
+growers_agree_spec = tie.close (tie.spec returns)

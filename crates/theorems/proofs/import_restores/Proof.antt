@@ -6,5 +6,5 @@ use Rattle.theorems.proofs.import_restores.Tie as tie
 returns : tie.Need-returns
 returns c = import_restores
 
-pub import-restores-spec : {M : Type 1} → statement M
-import-restores-spec = tie.close (tie.spec returns)
+pub import_restores_spec : {M : Type 1} → statement M
+import_restores_spec = tie.close (tie.spec returns)

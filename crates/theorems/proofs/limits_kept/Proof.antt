@@ -6,5 +6,5 @@ use Rattle.theorems.proofs.limits_kept.Tie as tie
 returns : tie.Need-returns
 returns c = (limits_kept, own_limits_kept)
 
-pub limits-kept-spec : {M : Type 1} → statement M
-limits-kept-spec = tie.close (tie.spec returns)
+pub limits_kept_spec : {M : Type 1} → statement M
+limits_kept_spec = tie.close (tie.spec returns)

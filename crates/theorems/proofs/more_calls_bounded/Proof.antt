@@ -6,5 +6,5 @@ use Rattle.theorems.proofs.more_calls_bounded.Tie as tie
 returns : tie.Need-returns
 returns c = (each_cost_bounded, least-cost-planned, least-cost_bounded, old_plan_bounded)
 
-pub more-calls-bounded-spec : {M : Type 1} → statement M
-more-calls-bounded-spec = tie.close (tie.spec returns)
+pub more_calls_bounded_spec : {M : Type 1} → statement M
+more_calls_bounded_spec = tie.close (tie.spec returns)

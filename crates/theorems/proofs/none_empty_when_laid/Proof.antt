@@ -6,5 +6,5 @@ use Rattle.theorems.proofs.none_empty_when_laid.Tie as tie
 returns : tie.Need-returns
 returns c = none_empty_when_laid
 
-pub none-empty-when-laid-spec : {M : Type 1} → statement M
-none-empty-when-laid-spec = tie.close (tie.spec returns)
+pub none_empty_when_laid_spec : {M : Type 1} → statement M
+none_empty_when_laid_spec = tie.close (tie.spec returns)

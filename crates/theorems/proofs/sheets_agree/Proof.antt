@@ -6,5 +6,5 @@ use Rattle.theorems.proofs.sheets_agree.Tie as tie
 returns : tie.Need-returns
 returns c = (sheet_agrees, sheet_after-calls, term_sheet_agrees, term_sheet_after-calls)
 
-pub sheets-agree-spec : {M : Type 1} → statement M
-sheets-agree-spec = tie.close (tie.spec returns)
+pub sheets_agree_spec : {M : Type 1} → statement M
+sheets_agree_spec = tie.close (tie.spec returns)

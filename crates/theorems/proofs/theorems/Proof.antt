@@ -8,5 +8,5 @@ use Rattle.theorems.proofs.theorems.Tie as tie
 returns : tie.Need-returns
 returns c = (ledger_agrees_from, ledger_agrees, plan_is_best, written_is_read, read_is_written)
 
-pub theorems-spec : {M : Type 1} → statement M
-theorems-spec = tie.close (tie.spec returns)
+pub theorems_spec : {M : Type 1} → statement M
+theorems_spec = tie.close (tie.spec returns)
