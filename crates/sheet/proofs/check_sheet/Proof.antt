@@ -25,66 +25,66 @@ both a b d p q = rw (p, q)
 
 -- The column, the days asked for, and places: the column's checks put, passed, the days' answer given, the days tested, counted, and room found.
 
-abbrev from : tie.After-check-column → tie.Start
+abbrev from : tie.After-check_column-c → tie.Start
 from c = c.before.before.before.before.before.before
 
-abbrev lent : tie.After-check-column → Column
+abbrev lent : tie.After-check_column-c → Column
 lent c = let a = (from c).args in column_of a.directory.now a.g.now a.w.now a.y.now a.n.now
 
-abbrev term : tie.After-check-column → TermAnswer
+abbrev term : tie.After-check_column-c → TermAnswer
 term c = (from c).args.t
 
-abbrev checked : tie.Else1 → tie.After-check-column
+abbrev checked : tie.Else-c-ne0 → tie.After-check_column-c
 checked c = c.before.before
 
-abbrev named : tie.Else2 → tie.Else1
+abbrev named : tie.Else-t-ne0 → tie.Else-c-ne0
 named c = c.before.before
 
-abbrev tested : tie.After-days-ok → tie.Else2
-tested c = c.before.before
+abbrev tested : tie.After-days_ok → tie.Else-t-ne0
+tested c = c.before
 
-abbrev counting : tie.After-count-during → tie.Else3
-counting c = c.before.before
+abbrev counting : tie.After-count_during-k → tie.Else-not-days_ok
+counting c = c.before
 
 -- from where room is found back to the column's checks
-abbrev good : tie.Else3 → tie.Else1
+abbrev good : tie.Else-not-days_ok → tie.Else-c-ne0
 good c = named (tested c.before)
 
-clean : (c : tie.Else1) → (checked c).check-column.result.refusal ≡ 0
-clean c = omega (arith, c.if1.false)
+clean : (c : tie.Else-c-ne0) → (checked c).check_column-c.result.refusal ≡ 0
+clean c = omega (arith, c.if-c-ne0.false)
 
-known : (c : tie.Else1) → Passed block_limit (lent (checked c)) (checked c).check-column.result
-known c = passed block_limit (lent (checked c)) _ (checked c).check-column.ensures (clean c)
+known : (c : tie.Else-c-ne0) → Passed block_limit (lent (checked c)) (checked c).check_column-c.result
+known c = passed block_limit (lent (checked c)) _ (checked c).check_column-c.ensures (clean c)
 
 -- the used slots are there
-growers-room : (c : tie.Else1) → (checked c).check-column.result.used ≤ length (lent (checked c)).slices.growers
+growers-room : (c : tie.Else-c-ne0) → (checked c).check_column-c.result.used ≤ length (lent (checked c)).slices.growers
 growers-room c = let w = known c in omega (arith, w.used_is, w.lent.shape.room)
 
-days_room : (c : tie.Else1) → (checked c).check-column.result.used ≤ length (lent (checked c)).slices.days
+days_room : (c : tie.Else-c-ne0) → (checked c).check_column-c.result.used ≤ length (lent (checked c)).slices.days
 days_room c = let w = known c in omega (arith, growers-room c, w.lent.even.days)
 
-given : (c : tie.Else2) → is_given (term (checked (named c))) ≡ true
-given c = eq-eqb (term (checked (named c))).refusal 0 (omega (arith, c.if2.false))
+given : (c : tie.Else-t-ne0) → is_given (term (checked (named c))) ≡ true
+given c = eq-eqb (term (checked (named c))).refusal 0 (omega (arith, c.if-t-ne0.false))
 
-days_are : (c : tie.After-days-ok) → every day_ok (all_records block_limit (lent (checked (named (tested c))))) ≡ c.days_ok_lem.result
+days_are : (c : tie.After-days_ok) → every day_ok (all_records block_limit (lent (checked (named (tested c))))) ≡ c.days_ok.result
 days_are c =
     let e = named (tested c) in
-    let w = known e in days_there block_limit (lent (checked e)) w.lent _ _ w.used_is c.days_ok_lem.ensures
+    let w = known e in days_there block_limit (lent (checked e)) w.lent _ _ w.used_is c.days_ok.ensures
 
-dated : (c : tie.Else3) → (let k = checked (good c) in is_given (term k) && every day_ok (all_records block_limit (lent k))) ≡ true
-dated c = both _ _ true (given (tested c.before)) (days_are c.before ∙ not-false _ c.if3.false)
+dated : (c : tie.Else-not-days_ok) → (let k = checked (good c) in is_given (term k) && every day_ok (all_records block_limit (lent k))) ≡ true
+dated c = both _ _ true (given (tested c.before)) (days_are c.before ∙ c.if-not-days_ok.false)
 
-many_is : (c : tie.After-count-during) → let k = checked (good (counting c)) in c.count-during.result ≡ length (span_slots block_limit (lent k) (span_of (term k)))
+many_is : (c : tie.After-count_during-k) → let k = checked (good (counting c)) in c.count_during-k.result ≡ length (span_slots block_limit (lent k) (span_of (term k)))
 many_is c =
     let e = good (counting c) in
     let k = checked e in
     let w = known e in
-    c.count-during.ensures ∙ ap length (slots_are block_limit (lent k) w.lent _ w.used_is (span_of (term k)) _ (length-take-le _ _ (days_room e)))
+    c.count_during-k.ensures ∙ ap length (slots_are block_limit (lent k) w.lent _ w.used_is (span_of (term k)) _ (length-take-le _ _ (days_room e)))
 
 -- the bytes of the text, as `lines_fit` has them
-size_is : (c : tie.Else3) → let k = checked (good c) in
+size_is : (c : tie.Else-not-days_ok) → let k = checked (good c) in
     let x = (lent k).slices in
-    let m = k.check-column.result.used in
+    let m = k.check_column-c.result.used in
     length (span_text block_limit (lent k) (span_of (term k)))
     ≡ bytes_of (take m x.growers) (slots_during (span_of (term k)) (take m x.days) (length (take m x.growers)))
 size_is c =
@@ -93,93 +93,93 @@ size_is c =
     let w = known e in
     text_size block_limit (lent k) w.lent _ w.used_is (span_of (term k)) _ (length-take-le _ _ (growers-room e))
 
-returns : tie.Need-returns
-returns c = let k = c.before.before.before in column_refused block_limit (lent k) (term k) _ _ _ _ k.check-column.ensures c.before.if1.true _ c.not-sized.ensures
+returns : tie.Need-returns-then-c-ne0
+returns c = let k = c in column_refused block_limit (lent k.before.before.before) (term k.before.before.before) _ _ _ _ k.check_column-c.ensures c.if-c-ne0.true _ c.not_sized.ensures
 
-returns-2 : tie.Need-returns-2
+returns-2 : tie.Need-returns-then-t-ne0
 returns-2 c =
-    let e = c.before.before.before in
-    let k = checked e in
-    days_refused block_limit (lent k) (term k) _ _ _ _ k.check-column.ensures (clean e)
-    (rw (ne_eqb (term k).refusal 0 (λ z. c.before.if2.true z))) _ c.not-sized2.ensures
+    let e = c in
+    let k = checked e.before.before.before in
+    days_refused block_limit (lent k) (term k) _ _ _ _ k.check_column-c.ensures (clean e.before.before.before)
+    (rw (ne_eqb (term k).refusal 0 (λ z. c.if-t-ne0.true z))) _ c.not_sized-then-t-ne0.ensures
 
-slice-aggregate-days-ok : tie.Need-slice-aggregate-days-ok
-slice-aggregate-days-ok c = sym (length-take-le _ _ (days_room (named c.before)))
+slice-aggregate-days-ok : tie.Need-slice_bounds-days_ok-end
+slice-aggregate-days-ok c = sym (length-take-le _ _ (days_room (named c)))
 
-returns-3 : tie.Need-returns-3
+returns-3 : tie.Need-returns-then-not-days_ok
 returns-3 c =
-    let d = c.before.before in
-    let e = named (tested d) in
+    let d = c in
+    let e = named (tested d.before.before) in
     let k = checked e in
-    days_refused block_limit (lent k) (term k) _ _ _ _ k.check-column.ensures (clean e)
-    (both _ _ false (given (tested d)) (days_are d ∙ not-true _ c.before.if3.true)) _ c.not-sized3.ensures
+    days_refused block_limit (lent k) (term k) _ _ _ _ k.check_column-c.ensures (clean e)
+    (both _ _ false (given (tested d.before.before)) (days_are d.before.before ∙ c.if-not-days_ok.true)) _ c.not_sized-then-not-days_ok.ensures
 
-slice-aggregate-count-during : tie.Need-slice-aggregate-count-during
-slice-aggregate-count-during c = sym (length-take-le _ _ (days_room (good c.before)))
+slice-aggregate-count-during : tie.Need-slice_bounds-count_during-end
+slice-aggregate-count-during c = sym (length-take-le _ _ (days_room (good c)))
 
-count-during-requires : tie.Need-count-during-requires
+count-during-requires : tie.Need-count_during-k-requires
 count-during-requires c κs =
-    let e = good c.before in
+    let e = good c in
     let k = checked e in
-    omega (arith, length-take-le k.check-column.result.used (lent k).slices.days (days_room e), growers-room e, (known e).lent.most)
+    omega (arith, length-take-le k.check_column-c.result.used (lent k).slices.days (days_room e), growers-room e, (known e).lent.most)
 
-returns-4 : tie.Need-returns-4
+returns-4 : tie.Need-returns-then-order_room-k
 returns-4 c =
-    let n = c.before.before in
-    let d = counting n in
+    let n = c in
+    let d = counting n.before.before in
     let k = checked (good d) in
-    order_short block_limit (lent k) (term k) _ _ _ _ k.check-column.ensures (clean (good d)) (dated d) (many_is n) c.before.if4.true _ c.not-sized4.ensures
+    order_short block_limit (lent k) (term k) _ _ _ _ k.check_column-c.ensures (clean (good d)) (dated d) (many_is n.before.before) c.if-order_room-k.true _ c.not_sized-then-order_room-k.ensures
 
-returns-5 : tie.Need-returns-5
+returns-5 : tie.Need-returns-then-work_room-k
 returns-5 c =
-    let o = c.before.before in
-    let n = o.before in
-    let d = counting n in
+    let o = c in
+    let n = o in
+    let d = counting n.before.before.before in
     let k = checked (good d) in
-    work_short block_limit (lent k) (term k) _ _ _ _ k.check-column.ensures (clean (good d)) (dated d) (many_is n) o.if4.false c.before.if5.true _
-    c.not-sized5.ensures
+    work_short block_limit (lent k) (term k) _ _ _ _ k.check_column-c.ensures (clean (good d)) (dated d) (many_is n.before.before.before) o.if-order_room-k.false c.if-work_room-k.true _
+    c.not_sized-then-work_room-k.ensures
 
-slice-aggregate-lines-fit : tie.Need-slice-aggregate-lines-fit
-slice-aggregate-lines-fit c = sym (length-take-le _ _ (growers-room (good (counting c.before.before.before))))
+slice-aggregate-lines-fit : tie.Need-slice_bounds-lines_fit-end
+slice-aggregate-lines-fit c = sym (length-take-le _ _ (growers-room (good (counting c.before.before))))
 
-slice-aggregate-lines-fit-2 : tie.Need-slice-aggregate-lines-fit-2
-slice-aggregate-lines-fit-2 c = sym (length-take-le _ _ (days_room (good (counting c.before.before.before.before))))
+slice-aggregate-lines-fit-2 : tie.Need-slice_bounds-lines_fit-end-2
+slice-aggregate-lines-fit-2 c = sym (length-take-le _ _ (days_room (good (counting c.before.before))))
 
-lines-fit-requires : tie.Need-lines-fit-requires
+lines-fit-requires : tie.Need-lines_fit-requires
 lines-fit-requires c κs =
-    let n = c.before.before.before.before in
-    let e = good (counting n) in
+    let n = c in
+    let e = good (counting n.before.before) in
     let k = checked e in
     let x = (lent k).slices in
-    let m : ℕ = k.check-column.result.used in
+    let m : ℕ = k.check_column-c.result.used in
     let g : length (take m x.growers) ≡ m = length-take-le m x.growers (growers-room e) in
     let d : length (take m x.days) ≡ m = length-take-le m x.days (days_room e) in (
       omega (arith, g, growers-room e, (known e).lent.most),
       d ∙ sym g,
-      n.count-during.ensures ∙ ap (λ (j : ℕ). length (slots_during (span_of (term k)) (take m x.days) j)) (d ∙ sym g),
+      n.count_during-k.ensures ∙ ap (λ (j : ℕ). length (slots_during (span_of (term k)) (take m x.days) j)) (d ∙ sym g),
     )
 
-returns-6 : tie.Need-returns-6
+returns-6 : tie.Need-returns-then-not-lines_fit
 returns-6 c =
-    let f = c.before.before in
-    let n = f.before.before.before.before.before in
-    let d = counting n in
+    let f = c in
+    let n = f in
+    let d = counting n.before.before.before.before.before in
     let k = checked (good d) in
-    text_short block_limit (lent k) (term k) _ _ _ _ k.check-column.ensures (clean (good d)) (dated d) (many_is n) (size_is d)
-    (sym f.lines_fit.ensures ∙ not-true _ c.before.if6.true) _ c.not-sized6.ensures
+    text_short block_limit (lent k) (term k) _ _ _ _ k.check_column-c.ensures (clean (good d)) (dated d) (many_is n.before.before.before.before.before) (size_is d)
+    (sym f.lines_fit.ensures ∙ c.if-not-lines_fit.true) _ c.not_sized-then-not-lines_fit.ensures
 
-returns-7 : tie.Need-returns-7
+returns-7 : tie.Need-returns
 returns-7 c =
-    let f = c.before in
-    let w = f.before.before.before in
-    let n = w.before.before in
-    let d = counting n in
+    let f = c in
+    let w = f in
+    let n = w in
+    let d = counting n.before.before.before.before in
     let k = checked (good d) in
-    all_fits block_limit (lent k) (term k) _ _ _ _ k.check-column.ensures (clean (good d)) (dated d) (many_is n) (size_is d)
-    (sym f.lines_fit.ensures ∙ not-false _ c.if6.false) w.before.if4.false w.if5.false (known (good d)).used_is
+    all_fits block_limit (lent k) (term k) _ _ _ _ k.check_column-c.ensures (clean (good d)) (dated d) (many_is n.before.before.before.before) (size_is d)
+    (sym f.lines_fit.ensures ∙ c.if-not-lines_fit.false) w.if-order_room-k.false w.if-work_room-k.false (known (good d)).used_is
 
-pub check-sheet-spec : {M : Type 1} → statement M
-check-sheet-spec =
+pub check_sheet_spec : {M : Type 1} → statement M
+check_sheet_spec =
     tie.close
     (tie.spec
     (λ c κs. search rules) (λ c κs. search rules) returns (λ c κs. search rules) returns-2 slice-aggregate-days-ok (λ c κs. search rules)

@@ -26,23 +26,23 @@ fewer s = let g = s.args.growers.now in omega (arith, once_fewer (growers_at g (
 few : (s : tie.Start) → length (slots s) ≤ most_slots
 few s = let a = s.args in omega (arith, picked_few (λ (i : ℕ). is_in (span a.first a.last) (get_or a.days.now i 0)) (length a.growers.now), s.requires.0)
 
-returns : tie.Need-returns
+returns : tie.Need-returns-then-k-room
 returns c =
-    let s = c.before.before.before in
-    sym (le-leb (81 * length (each_once (growers_at s.args.growers.now (slots s))) + 61) _ (omega (arith, fewer s, s.requires.2, c.if1.true)))
+    let s = c in
+    sym (le-leb (81 * length (each_once (growers_at s.args.growers.now (slots s.before.before.before))) + 61) _ (omega (arith, fewer s.before.before.before, s.requires.2, c.if-k-room.true)))
 
-mul-result : tie.Need-overflow-mul-result
-mul-result c = let s = c.before.before.before.before in omega (arith, c.count.ensures, fewer s, few s)
+mul-result : tie.Need-overflow_mul-result
+mul-result c = let s = c in omega (arith, c.count.ensures, fewer s.before.before.before.before, few s.before.before.before.before)
 
-add-result : tie.Need-overflow-add-result
-add-result c = let s = c.before.before.before.before in omega (arith, c.count.ensures, fewer s, few s)
+add-result : tie.Need-overflow_add-result
+add-result c = let s = c in omega (arith, c.count.ensures, fewer s.before.before.before.before, few s.before.before.before.before)
 
-returns-2 : tie.Need-returns-2
-returns-2 c = ap (λ (n : ℕ). leb (81 * n + 61) c.before.before.before.before.args.room) c.count.ensures
+returns-2 : tie.Need-returns
+returns-2 c = ap (λ (n : ℕ). leb (81 * n + 61) c.args.room) c.count.ensures
 
-pub lines-fit-spec : {M : Type 1} → statement M
-lines-fit-spec =
+pub lines_fit_spec : {M : Type 1} → statement M
+lines_fit_spec =
     tie.close
     (tie.spec
-    (λ c. let s = c.before.before in omega (arith, few s, s.requires.2)) (λ c. let s = c.before.before in omega (arith, few s, s.requires.2)) returns
+    (λ c. let s = c in omega (arith, few s.before.before, s.requires.2)) (λ c. let s = c in omega (arith, few s.before.before, s.requires.2)) returns
     (λ c κs. search rules) mul-result add-result returns-2)

@@ -12,86 +12,83 @@ use Rattle.sheet.proofs.write.Tie as tie
 
 -- The column, and what is known of it once every check has passed.
 
-abbrev from : tie.After-check-sheet → tie.Start
+abbrev from : tie.After-check_sheet-c → tie.Start
 from c = c.before.before.before.before.before.before.before.before.before
 
-abbrev lent : tie.After-check-sheet → Column
+abbrev lent : tie.After-check_sheet-c → Column
 lent c = let a = (from c).args in column_of a.directory.now a.growers.now a.weights.now a.yields.now a.days.now
 
-can : (c : tie.Else1)
+can : (c : tie.Else-n-ne0)
     → let a = (from c.before).args in
-    CanWrite block_limit (lent c.before) a.t a.text.now a.order.now a.work.now c.before.check-sheet.result c.before.check-sheet.ensures
-can c = can_write block_limit (lent c.before) _ _ _ _ _ c.before.check-sheet.ensures c.if1.false
+    CanWrite block_limit (lent c.before) a.t a.text.now a.order.now a.work.now c.check_sheet-c.result c.check_sheet-c.ensures
+can c = can_write block_limit (lent c.before) _ _ _ _ _ c.check_sheet-c.ensures c.if-n-ne0.false
 
 -- Places: the slots lent to be arranged, arranged, and all lent to be written by.
 
-abbrev good : tie.After-arrange-during-arg4 → tie.Else1
-good c = c.before.before.before.before
+abbrev good : tie.After-arrange_during-arg-2-1 → tie.Else-n-ne0
+good c = c.before.before
 
-abbrev arranged : tie.After-put-sheet-arg → tie.After-arrange-during
+abbrev arranged : tie.After-put_sheet-arg-1 → tie.After-arrange_during
 arranged c = c.before.before.before.before.before
 
-abbrev ready : tie.After-put-sheet-arg → tie.Else1
+abbrev ready : tie.After-put_sheet-arg-1 → tie.Else-n-ne0
 ready c = good (arranged c).before
 
-abbrev all-lent : tie.After-put-sheet-arg6 → tie.After-put-sheet-arg
-all-lent c = c.before.before.before.before.before
+returns : tie.Need-returns-then-n-ne0
+returns c = let k = c in sheet_refused block_limit (lent k.before) _ _ _ _ _ k.check_sheet-c.ensures c.if-n-ne0.true
 
-returns : tie.Need-returns
-returns c = let k = c.before in sheet_refused block_limit (lent k) _ _ _ _ _ k.check-sheet.ensures c.if1.true
+slice-aggregate-arrange-during : tie.Need-slice_bounds-arrange_during-end
+slice-aggregate-arrange-during c = sym (length-take-le _ _ (can c).there)
 
-slice-aggregate-arrange-during : tie.Need-slice-aggregate-arrange-during
-slice-aggregate-arrange-during c = sym (length-take-le _ _ (can c.before).there)
+slice-aggregate-arrange-during-2 : tie.Need-slice_bounds-arrange_during-end-2
+slice-aggregate-arrange-during-2 c = let w = can c in sym (length-take-le _ _ (omega (arith, w.there, w.lent.even.days)))
 
-slice-aggregate-arrange-during-2 : tie.Need-slice-aggregate-arrange-during-2
-slice-aggregate-arrange-during-2 c = let w = can c.before.before in sym (length-take-le _ _ (omega (arith, w.there, w.lent.even.days)))
+slice-aggregate-arrange-during-3 : tie.Need-slice_bounds-arrange_during-end-4
+slice-aggregate-arrange-during-3 c = sym (length-take-le _ _ (can c.before).order_room)
 
-slice-aggregate-arrange-during-3 : tie.Need-slice-aggregate-arrange-during-3
-slice-aggregate-arrange-during-3 c = sym (length-take-le _ _ (can c.before.before.before).order_room)
-
-slice-aggregate-arrange-during-4 : tie.Need-slice-aggregate-arrange-during-4
+slice-aggregate-arrange-during-4 : tie.Need-slice_bounds-arrange_during-end-6
 slice-aggregate-arrange-during-4 c = sym (length-take-le _ _ (can (good c)).work_room)
 
-arrange-during-requires : tie.Need-arrange-during-requires
-arrange-during-requires c κs = let w = can (good c) in (days_long w ∙ sym (growers_long w), w.decreases.few, order_size w, work_size w)
+arrange-during-requires : tie.Need-arrange_during-requires
+arrange-during-requires c κs = let w = can (good c) in (days_long w ∙ sym (growers_long w), w.measured.few, order_size w, work_size w)
 
-slice-reshare-prefix-put-sheet : tie.Need-slice-reshare-prefix-put-sheet
-slice-reshare-prefix-put-sheet c = order_long (can (ready c)) (arranged c).arrange-during.ensures.0
+slice-reshare-prefix-put-sheet : tie.Need-slice_bounds-put_sheet-end
+slice-reshare-prefix-put-sheet c = order_long (can (ready c)) (arranged c).arrange_during.ensures.0
 
-slice-aggregate-put-sheet : tie.Need-slice-aggregate-put-sheet
-slice-aggregate-put-sheet c = sym (length-take-le _ _ (slice-reshare-prefix-put-sheet c.before))
+slice-aggregate-put-sheet : tie.Need-slice_bounds-put_sheet-end-2
+slice-aggregate-put-sheet c = sym (length-take-le _ _ (slice-reshare-prefix-put-sheet c))
 
-slice-aggregate-put-sheet-2 : tie.Need-slice-aggregate-put-sheet-2
-slice-aggregate-put-sheet-2 c = sym (length-take-le _ _ (can (ready c.before.before)).there)
+slice-aggregate-put-sheet-2 : tie.Need-slice_bounds-put_sheet-end-3
+slice-aggregate-put-sheet-2 c = sym (length-take-le _ _ (can (ready c)).there)
 
-slice-aggregate-put-sheet-3 : tie.Need-slice-aggregate-put-sheet-3
-slice-aggregate-put-sheet-3 c = let w = can (ready c.before.before.before) in sym (length-take-le _ _ (omega (arith, w.there, w.lent.even.weights)))
+slice-aggregate-put-sheet-3 : tie.Need-slice_bounds-put_sheet-end-4
+slice-aggregate-put-sheet-3 c = let w = can (ready c) in sym (length-take-le _ _ (omega (arith, w.there, w.lent.even.weights)))
 
-slice-aggregate-put-sheet-4 : tie.Need-slice-aggregate-put-sheet-4
-slice-aggregate-put-sheet-4 c = let w = can (ready c.before.before.before.before) in sym (length-take-le _ _ (omega (arith, w.there, w.lent.even.yields)))
+slice-aggregate-put-sheet-4 : tie.Need-slice_bounds-put_sheet-end-5
+slice-aggregate-put-sheet-4 c = let w = can (ready c) in sym (length-take-le _ _ (omega (arith, w.there, w.lent.even.yields)))
 
-slice-aggregate-put-sheet-5 : tie.Need-slice-aggregate-put-sheet-5
-slice-aggregate-put-sheet-5 c = let w = can (ready (all-lent c)) in sym (length-take-le _ _ (omega (arith, w.there, w.lent.even.days)))
+slice-aggregate-put-sheet-5 : tie.Need-slice_bounds-put_sheet-end-6
+slice-aggregate-put-sheet-5 c = let w = can (ready c) in sym (length-take-le _ _ (omega (arith, w.there, w.lent.even.days)))
 
-put-sheet-requires : tie.Need-put-sheet-requires
+put-sheet-requires : tie.Need-put_sheet-e-requires
 put-sheet-requires c κs =
-    let p = all-lent c in
+    let p = c in
     let w = can (ready p) in
-    let a = (arranged p).arrange-during.ensures.0 in
-    (w.decreases, in_order w a, text_room w a)
+    let a = (arranged p).arrange_during.ensures.0 in
+    (w.measured, in_order w a, text_room w a)
 
-returns-2 : tie.Need-returns-2
+returns-2 : tie.Need-returns
 returns-2 c =
-    let s = c.before.before in
-    let p = all-lent s.before in
-    let a = (arranged p).arrange-during.ensures in
-    sheet_done (can (ready p)) a.0 s.put-sheet.ensures.0 s.put-sheet.ensures.1 a.1
+    let s = c in
+    let p = s in
+    let a = (arranged p.before.before.before).arrange_during.ensures in
+    sheet_done (can (ready p.before.before.before)) a.0 s.put_sheet-e.ensures.0 s.put_sheet-e.ensures.1 a.1
 
 pub write_spec : {M : Type 1} → statement M
 write_spec =
     tie.close
     (tie.spec
-    (λ c κs. search rules) returns slice-aggregate-arrange-during slice-aggregate-arrange-during-2 (λ c. (can c.before.before).order_room)
-    slice-aggregate-arrange-during-3 (λ c. (can c.before.before.before).work_room) slice-aggregate-arrange-during-4 arrange-during-requires
+    (λ c κs. search rules) returns slice-aggregate-arrange-during slice-aggregate-arrange-during-2 (λ c. (can c).order_room)
+    slice-aggregate-arrange-during-3 (λ c. (can c.before).work_room) slice-aggregate-arrange-during-4 arrange-during-requires
     slice-reshare-prefix-put-sheet slice-aggregate-put-sheet slice-aggregate-put-sheet-2 slice-aggregate-put-sheet-3 slice-aggregate-put-sheet-4
     slice-aggregate-put-sheet-5 put-sheet-requires (λ c. search rules) (λ c. search rules) (λ c. search rules) returns-2)

@@ -7,8 +7,8 @@ use Rattle.sheet.proofs.write_sheet.Statement.{statement}
 use Rattle.sheet.proofs.write_sheet.Tie as tie
 
 returns : tie.Need-returns
-returns c = c.before.before.before.before.before.before.write.ensures ∙ whole_call block_limit _ _ _ _
+returns c = c.write.ensures ∙ whole_call block_limit _ _ _ _
 
-pub write-sheet-spec : {M : Type 1} → statement M
-write-sheet-spec =
+pub write_sheet_spec : {M : Type 1} → statement M
+write_sheet_spec =
     tie.close (tie.spec (λ c κs. search rules) (λ c. search rules) (λ c. search rules) (λ c. search rules) returns)
