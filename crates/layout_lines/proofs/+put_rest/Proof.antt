@@ -44,10 +44,10 @@ module _ (t : ℕ) where
   Start = lts.Start (claims t) (at t) put-rest.Post
 
   abbrev Goes : Type 0
-  Goes = lts.Else1 (claims t) (at t) put-rest.Post
+  Goes = lts.Else-not-goes_on (claims t) (at t) put-rest.Post
 
   abbrev Chosen : Type 0
-  Chosen = lts.After-choose (claims t) (at t) put-rest.Post
+  Chosen = lts.After-choose-next (claims t) (at t) put-rest.Post
 
   abbrev start : Goes → Start
   start c = c.before.before.before.before.before.before
@@ -68,7 +68,7 @@ module _ (t : ℕ) where
   carrying c = (start c).requires.1.1.0.1
 
   goes : (c : Goes) → goes_on (place (start c)) ≡ true
-  goes c = sym c.before.goes_on.ensures ∙ not-false _ c.if1.false
+  goes c = sym c.goes_on.ensures ∙ c.if-not-goes_on.false
 
   short : (c : Goes) → (let x = place (start c) in x.i + 1 - x.a ≤ x.longest)
   short c = is_short (place (start c)) (goes c)
@@ -85,142 +85,142 @@ module _ (t : ℕ) where
   front-size c = length-take-le _ (start c).args.row.now (omega (arith, row_room c))
 
   -- what is listed past a block without an end, at the last block, and at another that is an end
-  passes : (c : lts.Else3 (claims t) (at t) put-rest.Post) → (let x = place (start c.before.before.before.before) in followed x ≡ followed (later x))
+  passes : (c : lts.Else-i-rules (claims t) (at t) put-rest.Post) → (let x = place (start c.before.before.before.before) in followed x ≡ followed (later x))
   passes c =
-      let g = c.before.before.before.before in
-      passed_over (place (start g)) (short g) (more g c.if3.false).0 (not-true _ c.before.before.if2.true)
+      let g = c in
+      passed_over (place (start g.before.before.before.before)) (short g.before.before.before.before) (more g.before.before.before.before c.if-i-rules.false).0 (c.if-not-fits-i.true)
 
   flag : (c : Chosen) → (let a = (start (goes_at c)).args in get_or a.fits.now a.i false ≡ true)
-  flag c = not-false _ c.before.before.if2.false
+  flag c = c.if-not-fits-i.false
 
   ends : (c : Chosen) → (let x = place (start (goes_at c)) in x.i + 1 ≡ x.n → followed x ≡ (x.i ∷ []) ∷ [])
   ends c e = let g = goes_at c in last_end (place (start g)) (short g) e (more_fit (place (start g)) (goes g)) (flag c)
 
-  goes_on : (c : lts.Else4 (claims t) (at t) put-rest.Post)
+  goes_on_here : (c : lts.Else-i-rules-2 (claims t) (at t) put-rest.Post)
       → (let x = place (start (goes_at c.before.before.before.before)) in followed x ≡ map (λ (es : List ℕ). x.i ∷ es) (followed (behind x)) ++ followed (later x))
-  goes_on c =
-      let d = c.before.before.before.before in
-      let g = goes_at d in
-      chosen_or_not (place (start g)) (short g) (more g c.if4.false).0 (flag d)
+  goes_on_here c =
+      let d = c in
+      let g = goes_at d.before.before.before.before in
+      chosen_or_not (place (start g)) (short g) (more g c.if-i-rules-2.false).0 (flag d.before.before.before.before)
 
   -- the row is as long as it was
-  row-long : (c : lts.After-put-rest2 (claims t) (at t) put-rest.Post) → 132 ≤ length c.put-rest2.new.1.1.1.1.1.1.1.0
+  row-long : (c : lts.After-put_rest-e (claims t) (at t) put-rest.Post) → 132 ≤ length c.put_rest-e.new.row
   row-long c =
-      let d = c.before.before.before.before.before.before.before in
-      let same = c.put-rest2.auto.1.1.1.1.1.1.1.0 in
-      omega (arith, d.choose.ensures.carrying.room, same)
+      let d = c in
+      let same = c.put_rest-e.auto.row in
+      omega (arith, d.choose-next.ensures.carrying.room, same)
 
-  returns : lts.Need-returns (claims t) (at t) put-rest.Post
-  returns c = let x = place c.before.before.before.before.before.before in none_put x _ _ _ _ _ (stops x (sym c.before.goes_on.ensures ∙ not-true _ c.if1.true))
+  returns : lts.Need-returns-then-not-goes_on (claims t) (at t) put-rest.Post
+  returns c = let x = place c.before.before.before.before.before.before in none_put x _ _ _ _ _ (stops x (sym c.goes_on.ensures ∙ c.if-not-goes_on.true))
 
-  returns-2 : lts.Need-returns-2 (claims t) (at t) put-rest.Post
-  returns-2 c = let g = c.before.before.before.before in let x = place (start g) in none_put x _ _ _ _ _ (no_end x (short g) c.if3.true (not-true _ c.before.before.if2.true))
+  returns-2 : lts.Need-returns-then-i-rules (claims t) (at t) put-rest.Post
+  returns-2 c = let g = c in let x = place (start g.before.before.before.before) in none_put x _ _ _ _ _ (no_end x (short g.before.before.before.before) c.if-i-rules.true (c.if-not-fits-i.true))
 
-  put-rest-requires : lts.Need-put-rest-requires (claims t) (at t) put-rest.Post
+  put-rest-requires : lts.Need-put_rest-requires (claims t) (at t) put-rest.Post
   put-rest-requires c κs =
-      let e = c.before.before in
-      let g = e.before.before.before.before in
-      let m = more g e.if3.false in
-      (m.1, (holds g, ((choosing_later (choosing g) m.0, carrying g), passed_room (place (start g)) _ _ _ _ (start g).args.text.now (passes e) (start g).requires.1.1.1)))
+      let e = c in
+      let g = e in
+      let m = more g.before.before.before.before.before.before e.if-i-rules.false in
+      (m.1, (holds g.before.before.before.before.before.before, ((choosing_later (choosing g.before.before.before.before.before.before) m.0, carrying g.before.before.before.before.before.before), passed_room (place (start g.before.before.before.before.before.before)) _ _ _ _ (start g.before.before.before.before.before.before).args.text.now (passes e.before.before) (start g.before.before.before.before.before.before).requires.1.1.1)))
 
-  returns-3 : lts.Need-returns-3 (claims t) (at t) put-rest.Post
+  returns-3 : lts.Need-returns-then-not-fits-i (claims t) (at t) put-rest.Post
   returns-3 c =
-      let r = c.before.before.before.before in
-      let e = r.before.before.before in
-      passed_put (place (start e.before.before.before.before)) _ _ _ _ _ (passes e) r.put-rest.ensures
+      let r = c in
+      let e = r in
+      passed_put (place (start e.before.before.before.before.before.before.before.before.before.before.before)) _ _ _ _ _ (passes e.before.before.before.before.before.before.before) r.put_rest.ensures
 
-  choose-requires : lts.Need-choose-requires (claims t) (at t) put-rest.Post
+  choose-requires : lts.Need-choose-next-requires (claims t) (at t) put-rest.Post
   choose-requires c κs =
-      let g = c.before.before.before in
-      let k = choosing g in
-      (holds_less _ _ _ (holds g) (omega (arith, k.inside)), (k.first, omega (arith, k.few, k.inside), omega (arith, k.few, k.inside, k.first, k.count), carrying g))
+      let g = c in
+      let k = choosing g.before.before.before in
+      (holds_less _ _ _ (holds g.before.before.before) (omega (arith, k.inside)), (k.first, omega (arith, k.few, k.inside), omega (arith, k.few, k.inside, k.first, k.count), carrying g.before.before.before))
 
-  put-line-requires : lts.Need-put-line-requires (claims t) (at t) put-rest.Post
+  put-line-requires : lts.Need-put_line-requires (claims t) (at t) put-rest.Post
   put-line-requires c κs =
-      let e = c.before.before in
-      let d = e.before.before.before.before in
-      let g = goes_at d in
+      let e = c in
+      let d = e in
+      let g = goes_at d.before.before.before.before.before in
       let k = choosing g in (
         omega (arith, k.few, k.inside, k.first, k.count),
-        d.choose.ensures.carrying,
-        last_room (place (start g)) _ _ _ _ (start g).args.text.now d.choose.ensures (row_room g) (ends d e.if4.true) (front-size g) (start g).pre.1.1.1,
+        d.choose-next.ensures.carrying,
+        last_room (place (start g)) _ _ _ _ (start g).args.text.now d.choose-next.ensures (row_room g) (ends d.before.before.before.before.before e.if-i-rules-2.true) (front-size g) (start g).requires.1.1.1,
       )
 
-  returns-4 : lts.Need-returns-4 (claims t) (at t) put-rest.Post
+  returns-4 : lts.Need-returns-then-i-rules-2 (claims t) (at t) put-rest.Post
   returns-4 c =
-      let r = c.before.before in
-      let e = r.before.before.before in
-      let d = e.before.before.before.before in
-      let g = goes_at d in
-      last_put (place (start g)) _ _ _ _ _ d.choose.ensures (row_room g) (ends d e.if4.true) r.put-line.ensures
+      let r = c in
+      let e = r in
+      let d = e in
+      let g = goes_at d.before.before.before.before.before.before.before.before in
+      last_put (place (start g)) _ _ _ _ _ d.choose-next.ensures (row_room g) (ends d.before.before.before.before.before.before.before.before e.if-i-rules-2.true) r.put_line.ensures
 
-  put-rest-requires-2 : lts.Need-put-rest-requires-2 (claims t) (at t) put-rest.Post
+  put-rest-requires-2 : lts.Need-put_rest-e-requires (claims t) (at t) put-rest.Post
   put-rest-requires-2 c κs =
-      let e = c.before.before in
-      let d = e.before.before.before.before in
-      let g = goes_at d in
-      let m = more g e.if4.false in (
+      let e = c in
+      let d = e in
+      let g = goes_at d.before.before.before.before.before.before in
+      let m = more g e.if-i-rules-2.false in (
         m.1,
         (
           holds g,
           (
-            (choosing_behind (choosing g) m.0, d.choose.ensures.carrying),
-            here_room (place (start g)) _ _ _ _ (start g).args.text.now d.choose.ensures (row_room g) (goes_on e) (start g).pre.1.1.1,
+            (choosing_behind (choosing g) m.0, d.choose-next.ensures.carrying),
+            here_room (place (start g)) _ _ _ _ (start g).args.text.now d.choose-next.ensures (row_room g) (goes_on_here e.before.before) (start g).requires.1.1.1,
           ),
         ),
       )
 
-  put-rest-requires-3 : lts.Need-put-rest-requires-3 (claims t) (at t) put-rest.Post
+  put-rest-requires-3 : lts.Need-put_rest-requires-2 (claims t) (at t) put-rest.Post
   put-rest-requires-3 c κs =
-      let r = c.before.before.before.before.before.before in
-      let e = r.before.before.before in
-      let d = e.before.before.before.before in
-      let g = goes_at d in
-      let m = more g e.if4.false in (
+      let r = c in
+      let e = r in
+      let d = e in
+      let g = goes_at d.before.before.before.before.before.before.before.before.before.before.before.before.before in
+      let m = more g e.if-i-rules-2.false in (
         m.1,
         (
           holds g,
           (
-            (choosing_later (choosing g) m.0, record { room = row-long r; high = (carrying g).high; low = (carrying g).low }),
-            past_room (place (start g)) _ _ _ _ _ d.choose.ensures (row_room g) (goes_on e) (start g).pre.1.1.1 r.put-rest2.ensures,
+            (choosing_later (choosing g) m.0, record { room = row-long r.before.before.before.before.before.before; high = (carrying g).high; low = (carrying g).low }),
+            past_room (place (start g)) _ _ _ _ _ d.choose-next.ensures (row_room g) (goes_on_here e.before.before.before.before.before.before.before.before.before) (start g).requires.1.1.1 r.put_rest-e.ensures,
           ),
         ),
       )
 
-  returns-5 : lts.Need-returns-5 (claims t) (at t) put-rest.Post
+  returns-5 : lts.Need-returns (claims t) (at t) put-rest.Post
   returns-5 c =
-      let l = c.before.before.before.before in
-      let r = l.before.before.before.before.before.before.before in
-      let e = r.before.before.before in
-      let d = e.before.before.before.before in
-      let g = goes_at d in
-      both_put (place (start g)) _ _ _ _ _ d.choose.ensures (row_room g) (goes_on e) (start g).pre.1.1.1 r.put-rest2.ensures l.put-rest3.ensures
+      let l = c in
+      let r = l in
+      let e = r in
+      let d = e in
+      let g = goes_at d.before.before.before.before.before.before.before.before.before.before.before.before.before.before.before.before.before.before in
+      both_put (place (start g)) _ _ _ _ _ d.choose-next.ensures (row_room g) (goes_on_here e.before.before.before.before.before.before.before.before.before.before.before.before.before.before) (start g).requires.1.1.1 r.put_rest-e.ensures l.put_rest-2.ensures
 
-pub +put-rest-spec : {M : Type 1} → statement M
-+put-rest-spec = close μ λ t. lts.spec (claims t) (at t) put-rest.Post
-    (λ c κs. let k = c.before.before.before.before.requires.1.1.0.0 in omega (arith, k.few, k.inside, k.first))
-    (returns t)
+pub +put_rest_spec : {M : Type 1} → statement M
++put_rest_spec = close μ λ t. lts.spec (claims t) (at t) put-rest.Post
+    (λ c κs. let k = c.requires.1.1.0.0 in omega (arith, k.few, k.inside, k.first))
+    (returns t )
     (λ c. let k = choosing t c.before in omega (arith, k.flags, k.inside))
     (λ c. let k = choosing t c.before.before in omega (arith, k.few, k.inside))
-    (returns-2 t)
+    (returns-2 t )
     (λ c. let k = choosing t c.before.before.before.before in omega (arith, k.few, k.inside))
-    (put-rest-requires t)
+    (put-rest-requires t )
     (λ c. search rules)
     (λ c. search rules)
-    (returns-3 t)
-    (choose-requires t)
+    (returns-3 t )
+    (choose-requires t )
     (λ c. let k = choosing t (goes_at t c.before.before) in omega (arith, k.few, k.inside))
     (λ c. let k = choosing t (goes_at t c.before.before.before.before.before) in omega (arith, k.few, k.inside, k.first, k.count))
-    (put-line-requires t)
+    (put-line-requires t )
     (λ c. search rules)
     (λ c. search rules)
-    (returns-4 t)
+    (returns-4 t )
     (λ c. let k = choosing t (goes_at t c.before.before.before.before) in omega (arith, k.few, k.inside, k.first, k.count))
     (λ c. let k = choosing t (goes_at t c.before.before.before.before) in omega (arith, k.few, k.inside))
     (λ c. let k = choosing t (goes_at t c.before.before.before.before) in omega (arith, k.few, k.inside))
-    (put-rest-requires-2 t)
+    (put-rest-requires-2 t )
     (λ c. let k = choosing t (goes_at t c.before.before.before.before.before.before.before.before.before.before.before) in omega (arith, k.few, k.inside))
-    (put-rest-requires-3 t)
+    (put-rest-requires-3 t )
     (λ c. search rules)
     (λ c. search rules)
-    (returns-5 t)
+    (returns-5 t )

@@ -40,10 +40,10 @@ module _ (t : ℕ) where
   Start = lts.Start (claims t) (at t) size-rest.Post
 
   abbrev Goes : Type 0
-  Goes = lts.Else1 (claims t) (at t) size-rest.Post
+  Goes = lts.Else-not-goes_on (claims t) (at t) size-rest.Post
 
   abbrev Chosen : Type 0
-  Chosen = lts.Else4 (claims t) (at t) size-rest.Post
+  Chosen = lts.Else-i-rules-2 (claims t) (at t) size-rest.Post
 
   abbrev start : Goes → Start
   start c = c.before.before.before
@@ -58,7 +58,7 @@ module _ (t : ℕ) where
   choosing c = (start c).requires.1
 
   goes : (c : Goes) → goes_on (place (start c)) ≡ true
-  goes c = sym c.before.goes_on.ensures ∙ not-false _ c.if1.false
+  goes c = sym c.goes_on.ensures ∙ c.if-not-goes_on.false
 
   short : (c : Goes) → (let x = place (start c) in x.i + 1 - x.a ≤ x.longest)
   short c = is_short (place (start c)) (goes c)
@@ -68,80 +68,80 @@ module _ (t : ℕ) where
   more c h = omega (arith, (choosing c).inside, (start c).requires.0)
 
   -- both sizes are small
-  few-here : (c : lts.After-size-rest3 (claims t) (at t) size-rest.Post)
-      → (let h = c.before.size-rest2.result in let l = c.size-rest3.result in (h.layouts + l.layouts ≤ 4096) × (h.bytes + l.bytes ≤ 671744))
+  few-here : (c : lts.After-size_rest-later (claims t) (at t) size-rest.Post)
+      → (let h = c.size_rest-here.result in let l = c.size_rest-later.result in (h.layouts + l.layouts ≤ 4096) × (h.bytes + l.bytes ≤ 671744))
   few-here c =
-      let e = c.before.before in
-      let g = goes_at e in
+      let e = c in
+      let g = goes_at e.before.before in
       let x = place (start g) in
-      let m = (more g e.if4.false).0 in
-      let h = few_sized (behind x) (choosing_behind (choosing g) m) c.before.size-rest2.ensures in
-      let l = few_sized (later x) (choosing_later (choosing g) m) c.size-rest3.ensures in
+      let m = (more g e.if-i-rules-2.false).0 in
+      let h = few_sized (behind x) (choosing_behind (choosing g) m) c.size_rest-here.ensures in
+      let l = few_sized (later x) (choosing_later (choosing g) m) c.size_rest-later.ensures in
       (omega arith, omega arith)
 
-  returns : lts.Need-returns (claims t) (at t) size-rest.Post
+  returns : lts.Need-returns-then-not-goes_on (claims t) (at t) size-rest.Post
   returns c =
-      let g = c.before.before in
-      let x = place g.before.before in
-      sized_none c.nothing.ensures.0 c.nothing.ensures.1 (stops x (sym g.goes_on.ensures ∙ not-true _ c.before.if1.true))
+      let g = c in
+      let x = place g.before.before.before.before in
+      sized_none c.nothing.ensures.0 c.nothing.ensures.1 (stops x (sym g.goes_on.ensures ∙ c.if-not-goes_on.true))
 
-  returns-2 : lts.Need-returns-2 (claims t) (at t) size-rest.Post
+  returns-2 : lts.Need-returns-then-i-rules (claims t) (at t) size-rest.Post
   returns-2 c =
-      let f = c.before.before.before in
-      sized_none c.nothing2.ensures.0 c.nothing2.ensures.1 (no_end (place (start f.before.before)) (short f.before.before) c.before.if3.true (not-true _ f.if2.true))
+      let f = c in
+      sized_none c.nothing-then-i-rules.ensures.0 c.nothing-then-i-rules.ensures.1 (no_end (place (start f.before.before.before.before.before)) (short f.before.before.before.before.before) c.if-i-rules.true (f.if-not-fits-i.true))
 
-  size-rest-requires : lts.Need-size-rest-requires (claims t) (at t) size-rest.Post
-  size-rest-requires c κs = let g = c.before.before.before.before in let m = more g c.if3.false in (m.1, choosing_later (choosing g) m.0)
+  size-rest-requires : lts.Need-size_rest-requires (claims t) (at t) size-rest.Post
+  size-rest-requires c κs = let g = c in let m = more g.before.before.before.before c.if-i-rules.false in (m.1, choosing_later (choosing g.before.before.before.before) m.0)
 
-  returns-3 : lts.Need-returns-3 (claims t) (at t) size-rest.Post
+  returns-3 : lts.Need-returns-then-not-fits-i (claims t) (at t) size-rest.Post
   returns-3 c =
-      let f = c.before.before.before in
-      let g = f.before.before in
-      sized_as c.size-rest.ensures (passed_over (place (start g)) (short g) (more g c.before.if3.false).0 (not-true _ f.if2.true))
+      let f = c in
+      let g = f in
+      sized_as c.size_rest.ensures (passed_over (place (start g.before.before.before.before.before)) (short g.before.before.before.before.before) (more g.before.before.before.before.before c.if-i-rules.false).0 (f.if-not-fits-i.true))
 
-  returns-4 : lts.Need-returns-4 (claims t) (at t) size-rest.Post
+  returns-4 : lts.Need-returns-then-i-rules-2 (claims t) (at t) size-rest.Post
   returns-4 c =
-      let f = c.before.before.before in
-      let g = f.before.before in
+      let f = c in
+      let g = f in
       sized_one c.one_of.ensures.0 c.one_of.ensures.1
-      (last_end (place (start g)) (short g) c.before.if4.true (more_fit (place (start g)) (goes g)) (not-false _ f.if2.false))
+      (last_end (place (start g.before.before.before.before.before)) (short g.before.before.before.before.before) c.if-i-rules-2.true (more_fit (place (start g.before.before.before.before.before)) (goes g.before.before.before.before.before)) (f.if-not-fits-i.false))
 
-  size-rest-requires-2 : lts.Need-size-rest-requires-2 (claims t) (at t) size-rest.Post
-  size-rest-requires-2 c κs = let g = goes_at c in let m = more g c.if4.false in (m.1, choosing_behind (choosing g) m.0)
+  size-rest-requires-2 : lts.Need-size_rest-here-requires (claims t) (at t) size-rest.Post
+  size-rest-requires-2 c κs = let g = goes_at c in let m = more g c.if-i-rules-2.false in (m.1, choosing_behind (choosing g) m.0)
 
-  size-rest-requires-3 : lts.Need-size-rest-requires-3 (claims t) (at t) size-rest.Post
-  size-rest-requires-3 c κs = let g = goes_at c.before in let m = more g c.before.if4.false in (m.1, choosing_later (choosing g) m.0)
+  size-rest-requires-3 : lts.Need-size_rest-later-requires (claims t) (at t) size-rest.Post
+  size-rest-requires-3 c κs = let g = goes_at c.before in let m = more g c.if-i-rules-2.false in (m.1, choosing_later (choosing g) m.0)
 
-  returns-5 : lts.Need-returns-5 (claims t) (at t) size-rest.Post
+  returns-5 : lts.Need-returns (claims t) (at t) size-rest.Post
   returns-5 c =
-      let l = c.before.before.before.before in
-      let e = l.before.before in
-      let g = goes_at e in
-      sized_both (place (start g)).i l.before.size-rest2.ensures l.size-rest3.ensures
-      (chosen_or_not (place (start g)) (short g) (more g e.if4.false).0 (not-false _ e.before.before.if2.false))
+      let l = c in
+      let e = l in
+      let g = goes_at e.before.before.before.before.before.before in
+      sized_both (place (start g)).i l.size_rest-here.ensures l.size_rest-later.ensures
+      (chosen_or_not (place (start g)) (short g) (more g e.if-i-rules-2.false).0 (e.if-not-fits-i.false))
 
-pub +size-rest-spec : {M : Type 1} → statement M
-+size-rest-spec = close μ λ t. lts.spec (claims t) (at t) size-rest.Post
-    (λ c κs. let k = c.before.requires.1 in omega (arith, k.few, k.inside, k.first))
+pub +size_rest_spec : {M : Type 1} → statement M
++size_rest_spec = close μ λ t. lts.spec (claims t) (at t) size-rest.Post
+    (λ c κs. let k = c.requires.1 in omega (arith, k.few, k.inside, k.first))
     (λ c κs. search rules)
-    (returns t)
+    (returns t )
     (λ c. let k = choosing t c.before in omega (arith, k.flags, k.inside))
     (λ c. let k = choosing t c.before.before in omega (arith, k.few, k.inside))
     (λ c κs. search rules)
-    (returns-2 t)
+    (returns-2 t )
     (λ c. let k = choosing t c.before.before.before.before in omega (arith, k.few, k.inside))
-    (size-rest-requires t)
-    (returns-3 t)
+    (size-rest-requires t )
+    (returns-3 t )
     (λ c. let k = choosing t c.before.before in omega (arith, k.few, k.inside))
     (λ c. let k = choosing t c.before.before.before.before in omega (arith, k.few, k.inside, k.first, k.count))
     (λ c κs. let k = choosing t c.before.before.before.before in omega (arith, k.few, k.inside, k.first, k.count))
-    (returns-4 t)
+    (returns-4 t )
     (λ c. let k = choosing t (goes_at t c) in omega (arith, k.few, k.inside, k.first, k.count))
     (λ c. let k = choosing t (goes_at t c) in omega (arith, k.few, k.inside))
     (λ c. let k = choosing t (goes_at t c) in omega (arith, k.few, k.inside))
-    (size-rest-requires-2 t)
+    (size-rest-requires-2 t )
     (λ c. let k = choosing t (goes_at t c.before) in omega (arith, k.few, k.inside))
-    (size-rest-requires-3 t)
+    (size-rest-requires-3 t )
     (λ c. omega (arith, few-here t c.before.before))
     (λ c. omega (arith, few-here t c.before.before.before.before))
-    (returns-5 t)
+    (returns-5 t )

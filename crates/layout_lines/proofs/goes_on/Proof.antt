@@ -5,11 +5,11 @@ use Rattle.checks.proofs.Answers.{and_no, and_yes}
 use Rattle.layout_lines.proofs.goes_on.Statement.{statement}
 use Rattle.layout_lines.proofs.goes_on.Tie as tie
 
-returns : tie.Need-returns
-returns c = and_no _ _ (le-ltb _ _ c.if1.true)
+returns : tie.Need-returns-then-rules-k
+returns c = and_no _ _ (le-ltb _ _ c.if-rules-k.true)
 
-returns-2 : tie.Need-returns-2
-returns-2 c = and_yes _ _ (lt-ltb _ _ c.before.if1.false)
+returns-2 : tie.Need-returns
+returns-2 c = and_yes _ _ (lt-ltb _ _ c.if-rules-k.false)
 
-pub goes-on-spec : {M : Type 1} → statement M
-goes-on-spec = tie.close (tie.spec returns (λ c. search rules) (λ c. search rules) returns-2)
+pub goes_on_spec : {M : Type 1} → statement M
+goes_on_spec = tie.close (tie.spec returns (λ c. search rules) (λ c. search rules) returns-2)

@@ -4,10 +4,10 @@ use borrow.Author.Rules.{rules}
 use Rattle.layout_lines.proofs.put_all.Statement.{statement}
 use Rattle.layout_lines.proofs.put_all.Tie as tie
 
-put-rest-requires : tie.Need-put-rest-requires
+put-rest-requires : tie.Need-put_rest-requires
 put-rest-requires c κs =
-    let s = c.before.before.before.before.before in
+    let s = c in
     (s.requires.0, ((s.requires.1.0, record { room = search rules; high = omega arith; low = omega arith }), omega (arith, s.requires.1.1)))
 
-pub put-all-spec : {M : Type 1} → statement M
-put-all-spec = tie.close (tie.spec (λ c. search rules) put-rest-requires (λ c. search rules) (λ c. search rules))
+pub put_all_spec : {M : Type 1} → statement M
+put_all_spec = tie.close (tie.spec (λ c. search rules) put-rest-requires (λ c. search rules) (λ c. search rules))

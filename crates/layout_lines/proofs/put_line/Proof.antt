@@ -16,10 +16,10 @@ use Rattle.layout_lines.proofs.put_line.Tie as tie
 
 -- Places: the cost written, K written before it, and the start.
 
-abbrev count-put : tie.After-put-signed → tie.After-put-number
+abbrev count-put : tie.After-put_signed → tie.After-put_number
 count-put c = c.before.before.before.before.before
 
-abbrev start : tie.After-put-signed → tie.Start
+abbrev start : tie.After-put_signed → tie.Start
 start c = (count-put c).before.before.before.before
 
 -- the fields of the ends
@@ -33,54 +33,54 @@ room : (s : tie.Start) → s.args.at + (32 + length (ends s)) ≤ length s.args.
 room s = omega (arith, ends-size s, s.requires.2)
 
 -- the cost arrives as the number that its bits hold
-cost-put : (c : tie.After-put-signed) → (let s = start c in
-    c.put-signed.new.0 ≡ placed (s.args.at + 11) (signed_field (sub_ℕ s.args.number (2 ^ 60))) (count-put c).put-number.new.0)
+cost-put : (c : tie.After-put_signed) → (let s = start c in
+    c.put_signed.new.text ≡ placed (s.args.at + 11) (signed_field (sub_ℕ s.args.number (2 ^ 60))) (count-put c).put_number.new.text)
 cost-put c =
     let s = start c in
-    c.put-signed.ensures
-    ∙ ap (λ (y : ℤ). placed (s.args.at + 11) (signed_field y) (count-put c).put-number.new.0)
-    (held-cost s.args.number (omega (arith, s.pre.0, s.pre.1.high)) _ c.before.unbiased.ensures)
+    c.put_signed.ensures
+    ∙ ap (λ (y : ℤ). placed (s.args.at + 11) (signed_field y) (count-put c).put_number.new.text)
+    (held-cost s.args.number (omega (arith, s.requires.0, s.requires.1.high)) _ c.unbiased.ensures)
 
-slice-aggregate-put-bytes : tie.Need-slice-aggregate-put-bytes
-slice-aggregate-put-bytes c = sym (ends-size (start c.before.before.before.before))
+slice-aggregate-put-bytes : tie.Need-slice_bounds-put_bytes-end
+slice-aggregate-put-bytes c = sym (ends-size (start c.before.before.before))
 
-put-bytes-requires : tie.Need-put-bytes-requires
+put-bytes-requires : tie.Need-put_bytes-e-requires
 put-bytes-requires c κs =
-    let d = c.before.before.before.before in
-    let s = start d in
-    ends_room s.args.at s.args.k (sub_ℕ s.args.number (2 ^ 60)) (ends s) s.args.text.now _ _ [] 0 (count-put d).put-number.ensures (cost-put d) (room s)
+    let d = c in
+    let s = start d.before.before.before in
+    ends_room s.args.at s.args.k (sub_ℕ s.args.number (2 ^ 60)) (ends s) s.args.text.now _ _ [] 0 (count-put d.before.before.before).put_number.ensures (cost-put d.before.before.before) (room s)
 
 -- what the line is, once its ends are written
-wrote : (c : tie.After-put-bytes) → (let s = start c.before.before.before.before.before in
-    (c.put-bytes.result < length c.put-bytes.new.0)
-    × (length (set c.put-bytes.new.0 c.put-bytes.result line_end) ≡ length s.args.text.now)
+wrote : (c : tie.After-put_bytes-e) → (let s = start c.before.before.before.before in
+    (c.put_bytes-e.result < length c.put_bytes-e.new.text)
+    × (length (set c.put_bytes-e.new.text c.put_bytes-e.result line_end) ≡ length s.args.text.now)
     × Wrote s.args.text.now s.args.at (number_field s.args.k ++ (signed_field (sub_ℕ s.args.number (2 ^ 60)) ++ (ends s ++ line_end ∷ [])))
-    (set c.put-bytes.new.0 c.put-bytes.result line_end) (c.put-bytes.result + 1))
+    (set c.put_bytes-e.new.text c.put_bytes-e.result line_end) (c.put_bytes-e.result + 1))
 wrote c =
-    let d = c.before.before.before.before.before in
-    let s = start d in
+    let d = c in
+    let s = start d.before.before.before.before in
     let z = sub_ℕ s.args.number (2 ^ 60) in
-    let p = (count-put d).put-number.ensures in
-    let w = c.put-bytes.ensures in (
-      byte_room s.args.at s.args.k z (ends s) s.args.text.now _ _ _ _ p (cost-put d) (room s) w,
-      line_size s.args.at s.args.k z (ends s) s.args.text.now _ _ _ _ p (cost-put d) (room s) w,
-      line_wrote s.args.at s.args.k z (ends s) s.args.text.now _ _ _ _ p (cost-put d) (room s) w,
+    let p = (count-put d.before.before.before.before).put_number.ensures in
+    let w = c.put_bytes-e.ensures in (
+      byte_room s.args.at s.args.k z (ends s) s.args.text.now _ _ _ _ p (cost-put d.before.before.before.before) (room s) w,
+      line_size s.args.at s.args.k z (ends s) s.args.text.now _ _ _ _ p (cost-put d.before.before.before.before) (room s) w,
+      line_wrote s.args.at s.args.k z (ends s) s.args.text.now _ _ _ _ p (cost-put d.before.before.before.before) (room s) w,
     )
 
-slice-write-text : tie.Need-slice-write-text
+slice-write-text : tie.Need-bounds-text-e
 slice-write-text c = (wrote c.before.before).0
 
-add-result : tie.Need-overflow-add-result
+add-result : tie.Need-overflow_add-result
 add-result c = omega (arith, (wrote c.before.before).0)
 
-same_length : tie.Need-same-length
+same_length : tie.Need-shape_of-text
 same_length c = (wrote c.before.before).1
 
 returns : tie.Need-returns
 returns c = (wrote c.before.before).2
 
-pub put-line-spec : {M : Type 1} → statement M
-put-line-spec =
+pub put_line_spec : {M : Type 1} → statement M
+put_line_spec =
     tie.close
     (tie.spec
     (λ c. search rules)

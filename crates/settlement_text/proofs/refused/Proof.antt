@@ -9,8 +9,8 @@ use Rattle.settlement_text.proofs.refused.Statement.{statement}
 use Rattle.settlement_text.proofs.refused.Tie as tie
 
 returns : tie.Need-returns
-returns c = let n = c.before.before.before.args.n in output_is (refusal_text n) _ 12 c.before.put_one.ensures (sym (length-line (n ∷ [])))
+returns c = let n = c.args.n in output_is (refusal_text n) _ 12 c.put_one.ensures (sym (length-line (n ∷ [])))
 
-pub refused-spec : {M : Type 1} → statement M
-refused-spec =
+pub refused_spec : {M : Type 1} → statement M
+refused_spec =
     tie.close (tie.spec (λ c. search rules) (λ c κs. search rules) returns)

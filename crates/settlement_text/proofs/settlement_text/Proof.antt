@@ -5,25 +5,25 @@ use Rattle.settlement_text.proofs.settlement_text.Statement.{statement}
 use Rattle.settlement_text.proofs.settlement_text.Tie as tie
 
 -- places: the text accepted, and the text read
-abbrev accepted : tie.After-write-sheet → tie.Else1
+abbrev accepted : tie.After-write_sheet-w → tie.Else-n-ne0
 accepted c = c.before.before.before.before.before.before.before.before.before.before
 
-abbrev was_read : tie.Else1 → tie.After-read
+abbrev was_read : tie.Else-n-ne0 → tie.After-read-a
 was_read c = c.before.before.before.before.before
 
-returns : tie.Need-returns
+returns : tie.Need-returns-then-n-ne0
 returns c =
-    let r = c.before.before.before.before.before.before in
-    program_refused _ _ _ r.read.ensures _ c.before.if1.true c.refused.ensures
+    let r = c in
+    program_refused _ _ _ r.read-a.ensures _ c.if-n-ne0.true c.refused.ensures
 
-returns-2 : tie.Need-returns-2
+returns-2 : tie.Need-returns
 returns-2 c =
-    let w = c.before.before.before in
-    let e = accepted w in
-    program_prints _ _ _ (was_read e).read.ensures e.if1.left _ _ _ _ w.write-sheet.ensures
+    let w = c in
+    let e = accepted w.before.before.before in
+    program_prints _ _ _ (was_read e).read-a.ensures e.if-n-ne0.false _ _ _ _ w.write_sheet-w.ensures
 
-pub settlement-text-spec : {M : Type 1} → statement M
-settlement-text-spec =
+pub settlement_text_spec : {M : Type 1} → statement M
+settlement_text_spec =
     tie.close
     (tie.spec
     (λ c. search rules) (λ c. search rules) (λ c. search rules) (λ c. search rules) (λ c κs. search rules) (λ c κs. search rules) returns
