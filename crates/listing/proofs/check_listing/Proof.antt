@@ -43,9 +43,10 @@ block-count-requires c κs = let y = (given c).size in omega (arith, y.block_lea
 
 returns-2 : tie.Need-returns-2
 returns-2 c =
-    let n = c.before.before.before in
-    let s = start n in
-    too_many block_limit s.args.card s.args.limits (the-set s) s.args.histograms.now s.args.room (passed n) _ (omega (arith, c.block-count.ensures, c.before.if2.true))
+    let n = c.before.before in
+    let g = n.before in
+    let s = start g in
+    too_many block_limit s.args.card s.args.limits (the-set s) s.args.histograms.now s.args.room (passed g) _ (omega (arith, n.block-count.ensures, c.before.if2.true))
     c.refused2.ensures
 
 rules-of-requires : tie.Need-rules-of-requires
@@ -56,12 +57,13 @@ mark-requires c κs = let e = c.before.before in ((given e.before.before).size, 
 
 size-rest-requires : tie.Need-size-rest-requires
 size-rest-requires c κs =
-    let m = c.before.before.before.before.before in
-    let w = small m in
-    let b = ap (λ (x : Rules). x.blocks) c.rules-of.ensures in
+    let m = c.before.before in
+    let r = m.before.before in
+    let w = small r.before in
+    let b = ap (λ (x : Rules). x.blocks) r.rules-of.ensures in
     record {
       few = omega (arith, w.1);
-      flags = omega (arith, w.1, c.mark.ensures.long);
+      flags = omega (arith, w.1, m.mark.ensures.long);
       inside = omega (arith, w.0);
       first = omega arith;
       count = omega arith;
@@ -71,20 +73,22 @@ size-rest-requires c κs =
 all : (c : tie.After-size-rest) → (let s = start c.before.before.before.before.before.before.before.before in
     Counted block_limit s.args.card s.args.limits (the-set s) s.args.histograms.now c.size-rest.result.layouts c.size-rest.result.bytes)
 all c =
-    let m = c.before.before.before.before.before.before in
-    let n = m.before.before in
-    let s = start n in
-    counted block_limit s.args.card s.args.limits (the-set s) s.args.histograms.now (passed n) (few m) c.rules-of.ensures m.block-count.ensures
-    (given n).some c.mark.ensures c.size-rest.ensures
+    let m = c.before.before.before in
+    let r = m.before.before in
+    let e = r.before in
+    let n = e.before in
+    let s = start n.before in
+    counted block_limit s.args.card s.args.limits (the-set s) s.args.histograms.now (passed n.before) (few e) r.rules-of.ensures n.block-count.ensures
+    (given n.before).some m.mark.ensures c.size-rest.ensures
 
 returns-3 : tie.Need-returns-3
 returns-3 c = none_there (all c.before.before.before) _ _ c.before.if3.true c.refused3.ensures
 
 returns-4 : tie.Need-returns-4
-returns-4 c = let e = c.before.before.before.before.before in too_short (all e) _ c.if3.false _ c.before.if4.true c.refused4.ensures
+returns-4 c = let e = c.before.before.before in too_short (all e.before.before) _ e.if3.false _ c.before.if4.true c.refused4.ensures
 
 returns-5 : tie.Need-returns-5
-returns-5 c = let e = c.before.before.before.before in accepted (all e) _ c.if3.false c.if4.false
+returns-5 c = let e = c.before.before in accepted (all e.before.before) _ e.if3.false c.if4.false
 
 pub check-listing-spec : {M : Type 1} → statement M
 check-listing-spec =
