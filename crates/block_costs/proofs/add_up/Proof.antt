@@ -26,8 +26,7 @@ add-block-requires c κs =
     let l = c.loop-i in
     let first = l.invariant.1 in
     let cleared = c.clear_first.ensures in
-    let s = c in
-    (s.requires.0, (s.requires.1.0, (omega (arith, first.long, cleared.long), first.summed)))
+    (c.requires.0, (c.requires.1.0, (omega (arith, first.long, cleared.long), first.summed)))
 
 add-i : tie.Need-overflow_add-i invariant-loop decreases-loop
 add-i c = omega arith

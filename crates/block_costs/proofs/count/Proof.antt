@@ -9,10 +9,9 @@ use Rattle.block_costs.proofs.count.Tie as tie
 
 returns : tie.Need-returns
 returns c =
-    let s = c in
-    let h = s.args.h.now in
+    let h = c.args.h.now in
     let x = c.slot-x in
-    (c.wide.ensures ∙ ap (λ (k : ℕ). get_or h k 0) x.ensures, omega (arith, c.wide.ensures, s.requires.0.each x.result))
+    (c.wide.ensures ∙ ap (λ (k : ℕ). get_or h k 0) x.ensures, omega (arith, c.wide.ensures, c.requires.0.each x.result))
 
 pub count_spec : {M : Type 1} → statement M
 count_spec =

@@ -11,12 +11,9 @@ use Rattle.block_costs.proofs.fixed.Tie as tie
 returns : tie.Need-returns
 unfolding fixed_of slot position
 returns c =
-    let writes = c in
-    let scans = writes in
-    let reads = scans in
-    four_products _ _ _ _ _ _ _ _ (product_is _ _ _ _ _ reads.product-reads.ensures.0 (omega arith) (omega (arith, reads.counts.ensures.0)))
-    (product_is _ _ _ _ _ scans.product-scans.ensures.0 (omega arith) (omega (arith, scans.counts-2.ensures.0)))
-    (product_is _ _ _ _ _ writes.product-writes.ensures.0 (omega arith) (omega (arith, writes.counts-3.ensures.0)))
+    four_products _ _ _ _ _ _ _ _ (product_is _ _ _ _ _ c.product-reads.ensures.0 (omega arith) (omega (arith, c.counts.ensures.0)))
+    (product_is _ _ _ _ _ c.product-scans.ensures.0 (omega arith) (omega (arith, c.counts-2.ensures.0)))
+    (product_is _ _ _ _ _ c.product-writes.ensures.0 (omega arith) (omega (arith, c.counts-3.ensures.0)))
     (product_is _ _ _ _ _ c.product-moves.ensures.0 (omega arith) (omega (arith, c.counts-4.ensures.0)))
 
 pub fixed_spec : {M : Type 1} → statement M

@@ -20,8 +20,7 @@ returns-2 c = c.per_block_before.ensures ∙ term_as block_limit _ _ _ _ per_blo
 
 weighted-requires : tie.Need-weighted-requires
 weighted-requires c κs =
-    let s = c in
-    omega (arith, before_small block_limit s.args.card s.args.h.now s.args.i s.requires.1.0 s.requires.0, c.per_block_before-then-q-eq-WEIGHTED_BEFORE.ensures)
+    omega (arith, before_small block_limit c.args.card c.args.h.now c.args.i c.requires.1.0 c.requires.0, c.per_block_before-then-q-eq-WEIGHTED_BEFORE.ensures)
 
 returns-3 : tie.Need-returns-then-q-eq-WEIGHTED_BEFORE
 unfolding term_of
@@ -33,8 +32,7 @@ returns-4 c = c.per_block_after.ensures ∙ term_as block_limit _ _ _ _ per_bloc
 
 weighted-requires-2 : tie.Need-weighted-requires-then-q-eq-WEIGHTED_AFTER
 weighted-requires-2 c κs =
-    let s = c in
-    omega (arith, after_small block_limit s.args.card s.args.h.now s.args.i s.requires.1.0 s.requires.0, c.per_block_after-then-q-eq-WEIGHTED_AFTER.ensures)
+    omega (arith, after_small block_limit c.args.card c.args.h.now c.args.i c.requires.1.0 c.requires.0, c.per_block_after-then-q-eq-WEIGHTED_AFTER.ensures)
 
 returns-5 : tie.Need-returns-then-q-eq-WEIGHTED_AFTER
 unfolding term_of
@@ -47,8 +45,7 @@ returns-6 c = c.per_partition_added.ensures ∙ term_as block_limit _ _ _ _ per_
 returns-7 : tie.Need-returns
 unfolding term_of
 returns-7 c =
-    let s = c in
-    c.per_partition_saved.ensures ∙ term_as block_limit _ _ _ s.args.q per_partition_saved (omega arith)
+    c.per_partition_saved.ensures ∙ term_as block_limit _ _ _ c.args.q per_partition_saved (omega arith)
 
 pub term_spec : {M : Type 1} → statement M
 term_spec =

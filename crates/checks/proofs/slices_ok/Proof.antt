@@ -15,18 +15,18 @@ returns c = slices_other_weights (slices c.before.before.before.before.before) c
 
 returns-2 : tie.Need-returns-then-y-g
 returns-2 c =
-    let b = c.before in
-    slices_other_yields (slices b.before.before.before.before.before) b.if-w-g.false c.if-y-g.true
+    let b = c.before.before.before.before.before.before in
+    slices_other_yields (slices b) c.if-w-g.false c.if-y-g.true
 
 returns-3 : tie.Need-returns-then-n-g
 returns-3 c =
-    let b = c.before.before in
-    slices_other_days (slices b.before.before.before.before.before) b.if-w-g.false c.before.if-y-g.false c.if-n-g.true
+    let b = c.before.before.before.before.before.before.before in
+    slices_other_days (slices b) c.if-w-g.false c.before.if-y-g.false c.if-n-g.true
 
 returns-4 : tie.Need-returns
 returns-4 c =
-    let b = c.before.before.before in
-    c.slots_ok.ensures ∙ slices_even (slices b.before.before.before.before.before) b.if-w-g.false c.before.before.if-y-g.false c.before.if-n-g.false
+    let b = c.before.before.before.before.before.before.before.before in
+    c.slots_ok.ensures ∙ slices_even (slices b) c.if-w-g.false c.before.before.if-y-g.false c.before.if-n-g.false
 
 pub slices_ok_spec : {M : Type 1} → statement M
 slices_ok_spec = tie.close (tie.spec returns returns-2 returns-3 (λ c κs. search rules) returns-4)

@@ -34,21 +34,19 @@ few : (c : tie.After-onward-n) → c.onward-n.result ≤ block_limit
 few c = omega (arith, c.onward-n.ensures, has_onward block_limit _ _ (there c.before).0.here)
 
 returns : tie.Need-returns-then-f-ne0
-returns c = let l = c in delete_refused block_limit (lent l.before.before.before.before) _ _ l.locate-f.ensures _ c.without_totals.ensures c.if-f-ne0.true
+returns c = let l = c.before.before.before.before in delete_refused block_limit (lent l) _ _ c.locate-f.ensures _ c.without_totals.ensures c.if-f-ne0.true
 
 with-more-requires : tie.Need-with_more-counts-requires
 with-more-requires c κs =
-    let e = c in
-    let s = scan_small block_limit _ _ _ (located e.before).locate-f.ensures (is_found e.before) in
+    let e = c.before in
+    let s = scan_small block_limit _ _ _ (located e).locate-f.ensures (is_found e) in
     (s.0, s.1, omega (arith, few c), omega (arith, few c))
 
 returns-2 : tie.Need-returns
 returns-2 c =
-    let t = c in
-    let m = t in
-    let e = m in
-    let l = located e.before.before.before.before.before.before.before.before.before.before.before.before.before.before.before.before.before.before.before in
-    delete_done block_limit (lent l) _ _ l.locate-f.ensures (is_found e.before.before.before.before.before.before.before.before.before.before.before.before.before.before.before.before.before.before.before) _ _ _ _ c.without_totals-2.ensures t.take_out.ensures m.onward-n.ensures m.with_more-counts.ensures
+    let e = c.before.before.before.before.before.before.before.before.before.before.before.before.before.before.before.before.before.before.before in
+    let l = located e in
+    delete_done block_limit (lent l) _ _ l.locate-f.ensures (is_found e) _ _ _ _ c.without_totals-2.ensures c.take_out.ensures c.onward-n.ensures c.with_more-counts.ensures
 
 pub delete_spec : {M : Type 1} → statement M
 delete_spec =

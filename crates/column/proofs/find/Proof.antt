@@ -9,8 +9,7 @@ use Rattle.column.proofs.find.Tie as tie
 
 returns : tie.Need-returns
 returns c =
-    let b = c in
-    let g = b.args in
+    let g = c.args in
     let col = column_of g.directory.now g.growers.now g.weights.now g.yields.now g.days.now in
     c.range.ensures ∙ find_is_range block_limit col g.grower
 

@@ -22,7 +22,7 @@ abbrev lent : tie.After-open-o → Column
 lent c = let a = (start c).args in column_of a.directory.now a.growers.now a.weights.now a.yields.now a.days.now
 
 -- past the checks
-is_open : (c : tie.Else-n-ne0) → let o = c in Open block_limit (lent o.before) (start o.before).args.d o.open-o.result o.open-o.ensures
+is_open : (c : tie.Else-n-ne0) → let o = c.before in Open block_limit (lent o) (start o).args.d c.open-o.result c.open-o.ensures
 is_open c = insert_open block_limit _ _ _ c.open-o.ensures c.if-n-ne0.false
 
 there : (c : tie.Else-n-ne0) → let o = c.open-o.result in let k = lent c.before in
@@ -30,17 +30,15 @@ there : (c : tie.Else-n-ne0) → let o = c.open-o.result in let k = lent c.befor
 there c = open_ready block_limit _ _ _ c.open-o.ensures (is_open c)
 
 returns : tie.Need-returns-then-n-ne0
-returns c = let o = c in insert_refused block_limit (lent o.before.before) _ _ o.open-o.ensures _ c.refused.ensures c.if-n-ne0.true
+returns c = let o = c.before.before in insert_refused block_limit (lent o) _ _ c.open-o.ensures _ c.refused.ensures c.if-n-ne0.true
 
 add-each : tie.Need-overflow_add-each
 add-each c = omega (arith, c.onward-each.ensures, has_onward block_limit _ _ (there c.before).0.here)
 
 returns-2 : tie.Need-returns
 returns-2 c =
-    let p = c in
-    let n = p in
-    let e = n in
-    insert_done block_limit (lent e.before.before.before.before.before.before.before.before.before.before.before.before.before.before.before.before.before.before.before) _ _ e.open-o.ensures (is_open e.before.before.before.before.before.before.before.before.before.before.before.before.before.before.before.before.before.before) _ _ _ p.put.ensures n.onward-each.ensures c.without_totals.ensures
+    let e = c.before.before.before.before.before.before.before.before.before.before.before.before.before.before.before.before.before.before in
+    insert_done block_limit (lent e.before) _ _ c.open-o.ensures (is_open e) _ _ _ c.put.ensures c.onward-each.ensures c.without_totals.ensures
 
 pub insert_spec : {M : Type 1} → statement M
 insert_spec =

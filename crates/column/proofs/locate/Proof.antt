@@ -24,16 +24,16 @@ abbrev the-column : tie.Start → Column
 the-column c = let a = c.args in column_of a.directory.now a.g.now a.w.now a.y.now a.n.now
 
 -- past checks 2, 3 and 6
-shaped : (c : tie.Else-refusal-ne0) → let s = c in
-    Carried block_limit (lent_checks block_limit (the-column s.before.before.before.before.before.before.before)) s.args.directory.now s.args.d.grower c.lent-shape.result
+shaped : (c : tie.Else-refusal-ne0) → let s = c.before.before.before.before.before.before.before in
+    Carried block_limit (lent_checks block_limit (the-column s)) c.args.directory.now c.args.d.grower c.lent-shape.result
 shaped c = carried block_limit _ _ _ _ c.lent-shape.ensures c.if-refusal-ne0.false
 
 refusal : (c : tie.After-lent-shape) → c.lent-shape.result.refusal ≡ first_failed (lent_checks block_limit (the-column c.before.before.before.before.before.before))
 refusal c = shape_refusal block_limit _ _ _ _ c.lent-shape.ensures
 
 -- the grower's partition lies in the slices
-near-at : (c : tie.After-length_of) → let l = c in let s = l in
-    Near block_limit (the-column s.before.before.before.before.before.before.before.before.before.before) s.args.d.grower l.lent-shape.result.start c.length_of.result
+near-at : (c : tie.After-length_of) → let s = c.before.before.before.before.before.before.before.before.before.before in
+    Near block_limit (the-column s) c.args.d.grower c.lent-shape.result.start c.length_of.result
 near-at c = let w = shaped c.before.before.before in near block_limit _ _ w.passed _ _ w.target w.start _ c.length_of.ensures
 
 returns : tie.Need-returns-then-refusal-ne0
@@ -41,44 +41,40 @@ returns c = c.not_located.ensures ∙ located_lent block_limit _ _ _ (refusal c.
 
 returns-2 : tie.Need-returns-then-not-in_range
 returns-2 c =
-    let r = c in
-    c.not_located-then-not-in_range.ensures ∙ located_range block_limit _ _ (shaped r.before.before.before).passed (sym r.in_range.ensures ∙ c.if-not-in_range.true)
+    let r = c.before.before.before in
+    c.not_located-then-not-in_range.ensures ∙ located_range block_limit _ _ (shaped r).passed (sym c.in_range.ensures ∙ c.if-not-in_range.true)
 
 length-of-requires : tie.Need-length_of-requires
 length-of-requires c κs =
-    let e = c in
-    let w = shaped e.before.before in
-    near_partition block_limit (the-column e.before.before.before.before.before.before.before.before.before) _ w.passed _ _ w.target w.start
+    let e = c.before.before in
+    let w = shaped e in
+    near_partition block_limit (the-column e.before.before.before.before.before.before.before) _ w.passed _ _ w.target w.start
 
 block-requires : tie.Need-block-requires
 block-requires c κs =
-    let e = c in
-    (lent_column block_limit (the-column e.before.before.before.before.before.before.before.before.before.before.before.before.before.before) (shaped e.before.before.before.before.before.before.before).passed).shape.size
+    let e = c.before.before.before.before.before.before.before in
+    (lent_column block_limit (the-column e.before.before.before.before.before.before.before) (shaped e).passed).shape.size
 
 search-part-requires : tie.Need-search_part-requires
 search-part-requires c κs =
-    let n = c in
-    let e = n in
-    let b = e in
-    let a = b.args in
-    let k = near-at n.before.before.before.before.before in
-    let s = e.lent-shape.result.start in (
+    let b = c.before.before.before.before.before.before.before.before.before.before.before.before.before.before.before in
+    let a = c.args in
+    let k = near-at c.before.before.before.before.before in
+    let s = c.lent-shape.result.start in (
       simp (length-take, length-drop) (omega (arith, k.most)),
-      even_part (slices_at a.g a.w a.y a.n) (s + n.length_of.result - s) s k.even,
-      rw (c.block.ensures ∙ block_is block_limit _) (lent_column block_limit (the-column b.before.before.before.before.before.before.before.before.before.before.before.before.before.before.before) (shaped e.before.before.before.before.before.before.before.before).passed).block,
+      even_part (slices_at a.g a.w a.y a.n) (s + c.length_of.result - s) s k.even,
+      rw (c.block.ensures ∙ block_is block_limit _) (lent_column block_limit (the-column b) (shaped c.before.before.before.before.before.before.before.before).passed).block,
     )
 
 returns-3 : tie.Need-returns
 returns-3 c =
-    let n = c in
-    let e = n in
-    let s = e in
-    let w = shaped e.before.before.before.before.before.before.before.before.before in
-    let k = near-at n.before.before.before.before.before.before in
-    let col = the-column s.before.before.before.before.before.before.before.before.before.before.before.before.before.before.before.before in
+    let s = c.before.before.before.before.before.before.before.before.before.before.before.before.before.before.before.before in
+    let w = shaped c.before.before.before.before.before.before.before.before.before in
+    let k = near-at c.before.before.before.before.before.before in
+    let col = the-column s in
     c.search_part.ensures
-    ∙ rw (c.block.ensures ∙ block_is block_limit _, w.target, near_part block_limit col s.args.d w.passed _ _ k.start k.count, k.start)
-    (located_searched block_limit col _ w.passed (sym n.in_range.ensures ∙ n.if-not-in_range.false))
+    ∙ rw (c.block.ensures ∙ block_is block_limit _, w.target, near_part block_limit col c.args.d w.passed _ _ k.start k.count, k.start)
+    (located_searched block_limit col _ w.passed (sym c.in_range.ensures ∙ c.if-not-in_range.false))
 
 pub locate_spec : {M : Type 1} → statement M
 locate_spec =

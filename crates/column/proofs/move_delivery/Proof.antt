@@ -32,44 +32,40 @@ shaped c = lent_column block_limit _ (is_found c).lent
 -- the new grower's partition is one of the partitions
 inside : (c : tie.After-partition_of-u) → c.partition_of-u.result < partition_count block_limit (lent (located c.before)).directory
 inside c =
-    let e = c in
-    let k = lent (located e.before) in
-    omega (arith, c.partition_of-u.ensures, target_there block_limit k (is_found e.before).lent (start (located e.before)).args.new_grower, count_lengths block_limit k (shaped e.before))
+    let e = c.before in
+    let k = lent (located e) in
+    omega (arith, c.partition_of-u.ensures, target_there block_limit k (is_found e).lent (start (located e)).args.new_grower, count_lengths block_limit k (shaped e))
 
 -- two partitions are no further apart than there are partitions
 few : (c : tie.After-apart-n) → c.apart-n.result ≤ block_limit
 few c =
-    let e = c in
-    let k = lent (located e.before.before) in
-    let o = is_found e.before.before in
-    let l = shaped e.before.before in
-    omega (arith, c.apart-n.ensures, inside c.before, o.target_is, target_there block_limit k o.lent (start (located e.before.before)).args.d.grower, count_lengths block_limit k l, l.shape.few)
+    let e = c.before.before in
+    let k = lent (located e) in
+    let o = is_found e in
+    let l = shaped e in
+    omega (arith, c.apart-n.ensures, inside c.before, o.target_is, target_there block_limit k o.lent (start (located e)).args.d.grower, count_lengths block_limit k l, l.shape.few)
 
 returns : tie.Need-returns-then-f-ne0
-returns c = let l = c in move_refused block_limit (lent l.before.before.before.before) _ _ l.locate-f.ensures _ c.without_totals.ensures c.if-f-ne0.true _
+returns c = let l = c.before.before.before.before in move_refused block_limit (lent l) _ _ c.locate-f.ensures _ c.without_totals.ensures c.if-f-ne0.true _
 
 with-more-requires : tie.Need-with_more-counts-requires
 with-more-requires c κs =
-    let e = c in
-    let s = scan_small block_limit _ _ _ (located e.before.before).locate-f.ensures (is_found e.before.before) in
+    let e = c.before.before in
+    let s = scan_small block_limit _ _ _ (located e).locate-f.ensures (is_found e) in
     (s.0, s.1, omega (arith, few c), omega (arith, few c))
 
 shift-requires : tie.Need-shift-requires
 shift-requires c κs =
-    let p = c in
-    let e = p in
-    let r = found_ready block_limit (lent (located e.before.before.before.before.before.before.before.before)) _ _ (located e.before.before.before.before.before.before.before.before).locate-f.ensures (is_found e.before.before.before.before.before.before.before.before) in
-    (r.0, r.1, inside p.before.before.before.before.before.before.before)
+    let e = c.before.before.before.before.before.before.before.before in
+    let r = found_ready block_limit (lent (located e)) _ _ (located e).locate-f.ensures (is_found e) in
+    (r.0, r.1, inside c.before.before.before.before.before.before.before)
 
 returns-2 : tie.Need-returns
 returns-2 c =
-    let s = c in
-    let m = s in
-    let p = m in
-    let e = p in
-    let l = located e.before.before.before.before.before.before.before.before.before.before.before.before.before.before.before.before.before.before.before.before in
-    move_done block_limit (lent l) _ _ l.locate-f.ensures (is_found e.before.before.before.before.before.before.before.before.before.before.before.before.before.before.before.before.before.before.before.before) _ _ _ _ c.without_totals-2.ensures (start l).args.new_grower _ p.partition_of-u.ensures s.shift.ensures
-    m.apart-n.ensures m.with_more-counts.ensures
+    let e = c.before.before.before.before.before.before.before.before.before.before.before.before.before.before.before.before.before.before.before.before in
+    let l = located e in
+    move_done block_limit (lent l) _ _ l.locate-f.ensures (is_found e) _ _ _ _ c.without_totals-2.ensures (start l).args.new_grower _ c.partition_of-u.ensures c.shift.ensures
+    c.apart-n.ensures c.with_more-counts.ensures
 
 pub move_delivery_spec : {M : Type 1} → statement M
 move_delivery_spec =

@@ -24,7 +24,7 @@ abbrev the-column : tie.After-lent-shape → Column
 the-column c = let a = (start c).args in column_of a.directory.now a.g.now a.w.now a.y.now a.n.now
 
 -- past checks 2, 3 and 6
-shaped : (c : tie.Else-refusal-ne0) → let l = c in Carried block_limit (lent_checks block_limit (the-column l.before)) (start l.before).args.directory.now (start l.before).args.grower l.lent-shape.result
+shaped : (c : tie.Else-refusal-ne0) → let l = c.before in Carried block_limit (lent_checks block_limit (the-column l)) (start l).args.directory.now (start l).args.grower c.lent-shape.result
 shaped c = carried block_limit _ _ _ _ c.lent-shape.ensures c.if-refusal-ne0.false
 
 lent : (c : tie.Else-refusal-ne0) → LentColumn block_limit (the-column c.before)
@@ -32,31 +32,31 @@ lent c = lent_column block_limit _ (shaped c).passed
 
 returns : tie.Need-returns-then-refusal-ne0
 returns c =
-    let l = c in
-    c.refused.ensures ∙ grower_no block_limit (the-column l.before.before) (direction_of (start l.before.before).args.up) _ _ (shape_refusal block_limit _ _ _ _ l.lent-shape.ensures) c.if-refusal-ne0.true
+    let l = c.before.before in
+    c.refused.ensures ∙ grower_no block_limit (the-column l) (direction_of (start l).args.up) _ _ (shape_refusal block_limit _ _ _ _ c.lent-shape.ensures) c.if-refusal-ne0.true
 
 search-requires : tie.Need-search-requires
 search-requires c κs =
-    let e = c in
-    let w = shaped e.before.before in
-    let l = lent e.before.before in
+    let e = c.before.before in
+    let w = shaped e in
+    let l = lent e in
     rw (c.lengths.ensures, c.block.ensures ∙ block_is block_limit _) (
       (
         rw w.target (target_there block_limit _ w.passed _),
         omega (arith, count_lengths block_limit _ l, l.shape.few),
         l.shape.room,
         l.block,
-        w.start ∙ ap (start_of (lengths_of block_limit (the-column e.before.before.before))) (sym w.target),
+        w.start ∙ ap (start_of (lengths_of block_limit (the-column e.before))) (sym w.target),
       ),
       (l.most, l.even),
     )
 
 returns-2 : tie.Need-returns
 returns-2 c =
-    let e = c in
-    let w = shaped e.before.before.before in
+    let e = c.before.before.before in
+    let w = shaped e in
     (rw (c.lengths.ensures, c.block.ensures ∙ block_is block_limit _) at c.search.ensures)
-    ∙ grower_yes block_limit (the-column e.before.before.before.before) _ _ _ w.passed w.target
+    ∙ grower_yes block_limit (the-column e.before) _ _ _ w.passed w.target
 
 pub neighbour_spec : {M : Type 1} → statement M
 neighbour_spec =

@@ -23,7 +23,7 @@ abbrev the-column : tie.After-lent-shape → Column
 the-column c = let a = (start c).args in column_of a.directory.now a.g.now a.w.now a.y.now a.n.now
 
 -- past checks 2, 3 and 6
-shaped : (c : tie.Else-refusal-ne0) → let l = c in Carried block_limit (lent_checks block_limit (the-column l.before)) (start l.before).args.directory.now (start l.before).args.d.grower l.lent-shape.result
+shaped : (c : tie.Else-refusal-ne0) → let l = c.before in Carried block_limit (lent_checks block_limit (the-column l)) (start l).args.directory.now (start l).args.d.grower c.lent-shape.result
 shaped c = carried block_limit _ _ _ _ c.lent-shape.ensures c.if-refusal-ne0.false
 
 refusal : (c : tie.After-lent-shape) → c.lent-shape.result.refusal ≡ first_failed (lent_checks block_limit (the-column c))
@@ -34,8 +34,8 @@ returns c = c.refused.ensures ∙ opened_lent block_limit _ _ _ (refusal c.befor
 
 returns-2 : tie.Need-returns-then-not-in_range
 returns-2 c =
-    let r = c in
-    c.refused-then-not-in_range.ensures ∙ opened_range block_limit _ _ (shaped r.before.before.before).passed (sym r.in_range.ensures ∙ c.if-not-in_range.true)
+    let r = c.before.before.before in
+    c.refused-then-not-in_range.ensures ∙ opened_range block_limit _ _ (shaped r).passed (sym c.in_range.ensures ∙ c.if-not-in_range.true)
 
 -- past check 8, and past check 19
 in_range_lem : (c : tie.Else-not-in_range) → in_range (start c.before.before.before).args.d ≡ true
@@ -46,25 +46,21 @@ on-a-day c = sym c.day_ok.ensures ∙ c.if-not-day_ok.false
 
 returns-3 : tie.Need-returns-then-not-day_ok
 returns-3 c =
-    let v = c in
-    let i = v in
-    let w = shaped i.before.before.before.before.before in
-    c.refused-then-not-day_ok.ensures ∙ opened_day block_limit _ _ w.passed (in_range_lem i.before.before.before) (sym v.day_ok.ensures ∙ c.if-not-day_ok.true)
+    let i = c.before.before.before in
+    let w = shaped i.before.before in
+    c.refused-then-not-day_ok.ensures ∙ opened_day block_limit _ _ w.passed (in_range_lem i) (sym c.day_ok.ensures ∙ c.if-not-day_ok.true)
 
 returns-4 : tie.Need-returns-then-g-shape
 returns-4 c =
-    let o = c in
-    let i = o in
-    let w = shaped i.before.before.before.before.before.before.before in
-    c.refused-then-g-shape.ensures ∙ opened_full block_limit _ _ w.passed (in_range_lem i.before.before.before.before.before) (on-a-day o.before.before.before) (omega (arith, w.used, c.if-g-shape.true))
+    let i = c.before.before.before.before.before in
+    let w = shaped i.before.before in
+    c.refused-then-g-shape.ensures ∙ opened_full block_limit _ _ w.passed (in_range_lem i) (on-a-day c.before.before.before) (omega (arith, w.used, c.if-g-shape.true))
 
 returns-5 : tie.Need-returns
 returns-5 c =
-    let o = c in
-    let i = o in
-    let e = i in
-    let w = shaped e.before.before.before.before.before.before in
-    opened_yes block_limit _ _ w.passed (in_range_lem i.before.before.before.before) (on-a-day o.before.before) (omega (arith, w.used, c.if-g-shape.false)) _ e.if-refusal-ne0.false w.used w.target w.start
+    let e = c.before.before.before.before.before.before in
+    let w = shaped e in
+    opened_yes block_limit _ _ w.passed (in_range_lem c.before.before.before.before) (on-a-day c.before.before) (omega (arith, w.used, c.if-g-shape.false)) _ c.if-refusal-ne0.false w.used w.target w.start
 
 pub open_spec : {M : Type 1} → statement M
 open_spec =

@@ -20,8 +20,8 @@ abbrev start : tie.After-lent_growers-shape → tie.Start
 start c = c.before.before.before
 
 -- past checks 2, 3 and 6
-shaped : (c : tie.Else-n-ne0) → let l = c in let a = (start l.before).args in
-    Carried block_limit (partition_checks block_limit a.directory.now a.growers.now) a.directory.now a.grower l.lent_growers-shape.result
+shaped : (c : tie.Else-n-ne0) → let l = c.before in let a = (start l).args in
+    Carried block_limit (partition_checks block_limit a.directory.now a.growers.now) a.directory.now a.grower c.lent_growers-shape.result
 shaped c = carried block_limit _ _ _ _ c.lent_growers-shape.ensures c.if-n-ne0.false
 
 shaped-directory : (c : tie.Else-n-ne0) → T (directory_ok block_limit most_slots (start c.before).args.directory.now)

@@ -11,10 +11,8 @@ use Rattle.column.proofs.partition_slice.Tie as tie
 
 part-result-end : tie.Need-slice_bounds-result-end
 part-result-end c =
-    let b₁ = c in
-    let b₂ = b₁ in
-    let g = b₂.args in
-    omega (arith, handed_inside block_limit g.directory.now g.growers.now g.grower b₁.partition-p.result b₁.partition-p.ensures)
+    let g = c.args in
+    omega (arith, handed_inside block_limit g.directory.now g.growers.now g.grower c.partition-p.result c.partition-p.ensures)
 
 returns : tie.Need-returns
 returns c =

@@ -26,13 +26,13 @@ grow-requires c κs = let p = (start c.before.before.before.before.before.before
 
 returns : tie.Need-returns
 returns c =
-    let s = c in
-    let k = lent s.before.before.before.before.before.before.before.before.before.before.before.before.before in
+    let s = c.before.before.before.before.before.before.before.before.before.before.before.before.before in
+    let k = lent s in
     let o = k.slices in
-    let a = (start s.before.before.before.before.before.before.before.before.before.before.before.before.before).args in
+    let a = (start s).args in
     let ns = lengths_of block_limit k in
     column_is (inserted ns a.partition) a.d (one_more a.partition ns) k _ _ _ _ _ c.grow.ensures
-    (by_lengths (λ (ls : List ℕ). inserted ls a.partition) a.d o.growers o.weights o.yields o.days _ _ _ _ _ ns s.lengths.ensures s.insert_slots.ensures)
+    (by_lengths (λ (ls : List ℕ). inserted ls a.partition) a.d o.growers o.weights o.yields o.days _ _ _ _ _ ns c.lengths.ensures c.insert_slots.ensures)
 
 pub put_spec : {M : Type 1} → statement M
 put_spec =

@@ -23,7 +23,7 @@ abbrev the-column : tie.After-lent-shape → Column
 the-column c = let a = (start c).args in column_of a.directory.now a.growers.now a.weights.now a.yields.now a.days.now
 
 -- past checks 2, 3 and 6
-shaped : (c : tie.Else-n-ne0) → let l = c in Carried block_limit (lent_checks block_limit (the-column l.before)) (start l.before).args.directory.now (start l.before).args.lo l.lent-shape.result
+shaped : (c : tie.Else-n-ne0) → let l = c.before in Carried block_limit (lent_checks block_limit (the-column l)) (start l).args.directory.now (start l).args.lo c.lent-shape.result
 shaped c = carried block_limit _ _ _ _ c.lent-shape.ensures c.if-n-ne0.false
 
 refusal : (c : tie.After-lent-shape) → c.lent-shape.result.refusal ≡ first_failed (lent_checks block_limit (the-column c))

@@ -28,23 +28,21 @@ lent c = lent_column block_limit _ c.requires.0
 
 -- the scan, in the column's terms
 scanned : (c : tie.After-scan_parts-s)
-    → (let s = c in let k = the-column s.before.before.before.before.before.before.before.before.before in let lo = target block_limit k s.args.lo in
+    → (let s = c.before.before.before.before.before.before.before.before.before in let k = the-column s in let lo = target block_limit k c.args.lo in
     c.scan_parts-s.result
-    ≡ scan_of (get_or s.args.directory.now 0 0) (lengths_of block_limit k) lo (target block_limit k s.args.hi + 1 - lo) s.args.lo s.args.hi
-    (span s.args.first s.args.last) (slots k))
+    ≡ scan_of (get_or c.args.directory.now 0 0) (lengths_of block_limit k) lo (target block_limit k c.args.hi + 1 - lo) c.args.lo c.args.hi
+    (span c.args.first c.args.last) (slots k))
 scanned c =
-    let p = c in
-    let s = p in
-    rw (c.lengths.ensures, s.requires.2, p.last_scanned-to.ensures, c.block.ensures ∙ block_is block_limit _) at c.scan_parts-s.ensures
+    rw (c.lengths.ensures, c.requires.2, c.last_scanned-to.ensures, c.block.ensures ∙ block_is block_limit _) at c.scan_parts-s.ensures
 
 abbrev start : tie.After-scan_parts-s → tie.Start
 start c = c.before.before.before.before.before.before.before.before.before
 
 scan-parts-requires : tie.Need-scan_parts-s-requires
 scan-parts-requires c κs =
-    let s = c in
-    let p = s.requires in
-    let l = lent s.before.before.before.before.before.before.before.before in
+    let s = c.before.before.before.before.before.before.before.before in
+    let p = c.requires in
+    let l = lent s in
     rw (c.lengths.ensures, c.last_scanned-to.ensures, c.block.ensures ∙ block_is block_limit _) (
       (
         rw p.2 (targets_ordered block_limit _ p.0 _ _ p.1),
@@ -59,11 +57,11 @@ scan-parts-requires c κs =
 -- the lengths that a bad scan is asked about again are the same
 failed-check-requires : tie.Need-failed_check-requires
 failed-check-requires c κs =
-    let r = c in
-    let s = start r.before.before.before in
+    let r = c.before.before.before in
+    let s = start r in
     let p = s.requires in
     let l = lent s in
-    rw (c.lengths-then-not-s.ensures, r.last_scanned-to.ensures) (
+    rw (c.lengths-then-not-s.ensures, c.last_scanned-to.ensures) (
       rw p.2 (targets_ordered block_limit _ p.0 _ _ p.1),
       target_there block_limit _ p.0 _,
       omega (arith, count_lengths block_limit _ l, l.shape.few),
@@ -77,41 +75,38 @@ failed : (c : tie.After-failed_check)
     → (let s = start c.before.before.before.before in let k = the-column s in let lo = target block_limit k s.args.lo in
     c.failed_check.result ≡ cond (every in_range (records_in (lengths_of block_limit k) lo (target block_limit k s.args.hi + 1 - lo) (slots k))) 19 8)
 failed c =
-    let r = c in
-    let s = start r.before.before.before.before in
+    let r = c.before.before.before.before in
+    let s = start r in
     let from = s.requires.2 in
-    let to = r.last_scanned-to.ensures in
+    let to = c.last_scanned-to.ensures in
     let ns = c.lengths-then-not-s.ensures in
     c.failed_check.ensures ∙ (λ i. cond (every in_range (records_in (ns i) (from i) (to i + 1 - from i) (slots (the-column s)))) 19 8)
 
 returns : tie.Need-returns-then-not-s
 returns c =
-    let f = c in
-    let r = f in
-    let p = (start r.before.before.before.before.before).requires in
-    c.refused.ensures ∙ range_bad block_limit _ p.0 _ _ _ p.1 _ (scanned r.before.before.before.before.before) (not-true _ f.if-not-s.true) _ (failed f.before)
+    let r = c.before.before.before.before.before in
+    let p = (start r).requires in
+    c.refused.ensures ∙ range_bad block_limit _ p.0 _ _ _ p.1 _ (scanned r) (not-true _ c.if-not-s.true) _ (failed c.before)
 
 returns-2 : tie.Need-returns-then-not-span_ok
 returns-2 c =
-    let v = c in
-    let r = v in
-    let p = (start r.before.before.before.before.before).requires in
+    let r = c.before.before.before.before.before in
+    let p = (start r).requires in
     c.refused-then-not-span_ok.ensures
-    ∙ range_undated block_limit _ p.0 _ _ _ p.1 _ (scanned r.before.before.before.before.before) (not-false _ v.if-not-s.false) v.span_ok.result v.span_ok.ensures (c.if-not-span_ok.true)
+    ∙ range_undated block_limit _ p.0 _ _ _ p.1 _ (scanned r) (not-false _ c.if-not-s.false) c.span_ok.result c.span_ok.ensures (c.if-not-span_ok.true)
 
 returns-3 : tie.Need-returns
 returns-3 c =
-    let v = c in
-    let r = v in
-    let p = (start r.before.before.before.before.before.before).requires in
-    range_good block_limit _ p.0 _ _ _ p.1 _ (scanned r.before.before.before.before.before.before) (not-false _ v.if-not-s.false) v.span_ok.result v.span_ok.ensures _
+    let r = c.before.before.before.before.before.before in
+    let p = (start r).requires in
+    range_good block_limit _ p.0 _ _ _ p.1 _ (scanned r) (not-false _ c.if-not-s.false) c.span_ok.result c.span_ok.ensures _
     (c.if-not-span_ok.false) c.reads_of-counts.ensures
 
 pub read_spec : {M : Type 1} → statement M
 read_spec =
     tie.close
     (tie.spec
-    (λ c κs. let s = c in (most_shaped block_limit _ (lent s.before.before.before.before.before), s.requires.2))
+    (λ c κs. let s = c.before.before.before.before.before in (most_shaped block_limit _ (lent s), c.requires.2))
     (λ c κs. numbered block_limit _ (lent c.before.before.before.before.before.before))
     (λ c κs. (lent c.before.before.before.before.before.before.before).shape.size)
     scan-parts-requires

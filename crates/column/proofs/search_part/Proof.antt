@@ -53,47 +53,44 @@ scanned c =
 
 returns : tie.Need-returns-then-not-dated
 returns c =
-    let v = c in
-    let s = v in
-    let a = s.args in
+    let s = c.before.before.before.before.before.before.before.before in
+    let a = c.args in
     c.not_located.ensures
-    ∙ empty_undated a.block a.partition a.start a.d (records s.before.before.before.before.before.before.before.before) (omega (arith, size s.before.before.before.before.before.before.before.before, c.if-g-eq0.true)) (sym v.day_ok-dated.ensures ∙ c.if-not-dated.true)
+    ∙ empty_undated a.block a.partition a.start a.d (records s) (omega (arith, size s, c.if-g-eq0.true)) (sym c.day_ok-dated.ensures ∙ c.if-not-dated.true)
 
 returns-2 : tie.Need-returns-then-g-eq0
 returns-2 c =
-    let v = c in
-    let s = v in
-    let a = s.args in
+    let s = c.before.before.before.before.before.before.before.before.before in
+    let a = c.args in
     let none : c.reads_of.result ≡ reads_of 0 = c.reads_of.ensures in
     c.not_located_after.ensures
-    ∙ search_empty a.block a.partition a.start a.d (records s.before.before.before.before.before.before.before.before.before) _ s.requires.2 none (omega (arith, size s.before.before.before.before.before.before.before.before.before, c.if-g-eq0.true))
-    (sym v.day_ok-dated.ensures ∙ c.if-not-dated.false)
+    ∙ search_empty a.block a.partition a.start a.d (records s) _ c.requires.2 none (omega (arith, size s, c.if-g-eq0.true))
+    (sym c.day_ok-dated.ensures ∙ c.if-not-dated.false)
 
 returns-3 : tie.Need-returns-then-values_ok
 returns-3 c =
-    let v = c in
-    let f = v in
-    let s = start f.before.before.before.before.before in
+    let f = c.before.before.before.before.before in
+    let s = start f in
     let a = s.args in
     c.not_located-then-values_ok.ensures
-    ∙ search_late a.block a.partition a.start a.d (records s) (fits f.before.before.before.before.before false (not-true _ v.if-not-f.true)) (in_range_lem v.before.before true c.if-values_ok.true)
+    ∙ search_late a.block a.partition a.start a.d (records s) (fits f false (not-true _ c.if-not-f.true)) (in_range_lem c.before.before true c.if-values_ok.true)
 
 returns-4 : tie.Need-returns-then-not-f
 returns-4 c =
-    let v = c in
-    let s = start v.before.before.before.before.before in
+    let v = c.before.before in
+    let s = start v.before.before.before in
     let a = s.args in
-    c.not_located-then-not-f.ensures ∙ search_bad a.block a.partition a.start a.d (records s) (in_range_lem v.before.before false c.if-values_ok.false)
+    c.not_located-then-not-f.ensures ∙ search_bad a.block a.partition a.start a.d (records s) (in_range_lem v false c.if-values_ok.false)
 
 returns-5 : tie.Need-returns-then-not-dated-2
 returns-5 c =
-    let f = c in
-    let s = start f.before.before.before.before in
+    let f = c.before.before.before.before in
+    let s = start f in
     let a = s.args in
-    let good = fits f.before.before.before.before true (not-false _ c.if-not-f.false) in
+    let good = fits f true (not-false _ c.if-not-f.false) in
     c.not_located-then-not-dated-2.ensures
     ∙ search_undated a.block a.partition a.start a.d (records s) (first_holds _ (every day_ok (records s)) good)
-    (rw (own-day f.before.before.before.before false (c.if-not-dated-2.true)))
+    (rw (own-day f false (c.if-not-dated-2.true)))
 
 -- records and delivery pass both checks
 passed : (c : tie.After-reads_of-counts) → let s = start (found c) in (every in_range (records s) ≡ true) × (day_ok s.args.d && every day_ok (records s) ≡ true)
@@ -113,18 +110,18 @@ slot c =
 
 returns-6 : tie.Need-returns-then-i-g
 returns-6 c =
-    let r = c in
-    let s = start (found r.before) in
+    let r = c.before in
+    let s = start (found r) in
     let a = s.args in
-    search_found a.block a.partition a.start a.d (records s) (passed r.before).0 (passed r.before).1 _ _ (slot r.before) (scanned r.before) (omega (arith, size s, c.if-i-g.true))
+    search_found a.block a.partition a.start a.d (records s) (passed r).0 (passed r).1 _ _ (slot r) (scanned r) (omega (arith, size s, c.if-i-g.true))
 
 returns-7 : tie.Need-returns
 returns-7 c =
-    let r = c in
-    let s = start (found r.before.before) in
+    let r = c.before.before in
+    let s = start (found r) in
     let a = s.args in
     c.not_located_after-2.ensures
-    ∙ search_missing a.block a.partition a.start a.d (records s) (passed r.before.before).0 (passed r.before.before).1 _ _ (slot r.before.before) (scanned r.before.before) (omega (arith, size s, c.if-i-g.false))
+    ∙ search_missing a.block a.partition a.start a.d (records s) (passed r).0 (passed r).1 _ _ (slot r) (scanned r) (omega (arith, size s, c.if-i-g.false))
 
 pub search_part_spec : {M : Type 1} → statement M
 search_part_spec =

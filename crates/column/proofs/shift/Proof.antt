@@ -22,20 +22,20 @@ shrink-requires c κs = let p = (start c.before.before.before.before.before.befo
 
 grow-requires : tie.Need-grow-requires
 grow-requires c κs =
-    let k = c in
-    let p = (start (moved-slots k.before.before.before)).requires in
-    rw k.shrink.ensures (partition_after block_limit _ _ _ p.0.here (omega (arith, p.1)) p.2)
+    let k = c.before.before.before in
+    let p = (start (moved-slots k)).requires in
+    rw c.shrink.ensures (partition_after block_limit _ _ _ p.0.here (omega (arith, p.1)) p.2)
 
 returns : tie.Need-returns
 returns c =
-    let k = c in
-    let s = start (moved-slots k.before.before.before.before.before.before) in
+    let k = c.before.before.before.before.before.before in
+    let s = start (moved-slots k) in
     let a = s.args in
     let col = column_of a.directory.now a.g.now a.w.now a.y.now a.n.now in
     let ns = lengths_of block_limit col in
     column_is (moved ns a.from a.slot a.to) a.d (one_more a.to (one_fewer a.from ns)) col _ _ _ _ _
-    (twice block_limit a.directory.now a.from a.to s.requires.0.here (omega (arith, s.requires.1)) _ _ k.shrink.ensures c.grow.ensures)
-    (moved-slots k.before.before.before.before.before.before).shift_slots.ensures
+    (twice block_limit a.directory.now a.from a.to s.requires.0.here (omega (arith, s.requires.1)) _ _ c.shrink.ensures c.grow.ensures)
+    (moved-slots k).shift_slots.ensures
 
 pub shift_spec : {M : Type 1} → statement M
 shift_spec =

@@ -27,21 +27,20 @@ forward-slots-requires c κs =
 
 returns : tie.Need-returns-then-from-to
 returns c =
-    let f = c in
-    let a = (start f.before.before.before.before.before.before.before.before.before).args in
-    by_lengths (λ (ns : List ℕ). moved ns a.from a.slot a.to) a.d a.g.now a.w.now a.y.now a.n.now _ _ _ _ _ _ f.lengths.ensures f.forward_slots.ensures
+    let f = c.before.before.before.before.before.before.before.before.before in
+    let a = (start f).args in
+    by_lengths (λ (ns : List ℕ). moved ns a.from a.slot a.to) a.d a.g.now a.w.now a.y.now a.n.now _ _ _ _ _ _ c.lengths.ensures c.forward_slots.ensures
 
 backward-slots-requires : tie.Need-backward_slots-requires
 backward-slots-requires c κs =
-    let s = c in
     let p = (start-2 c).requires in
-    rw c.lengths-2.ensures (s.if-from-to.false, has_inside block_limit _ _ p.0.here, p.0.start, s.start_of-to_start.ensures, p.1, p.0.room, p.0.even)
+    rw c.lengths-2.ensures (c.if-from-to.false, has_inside block_limit _ _ p.0.here, p.0.start, c.start_of-to_start.ensures, p.1, p.0.room, p.0.even)
 
 returns-2 : tie.Need-returns
 returns-2 c =
-    let b = c in
-    let a = (start-2 b.before.before.before.before.before.before.before.before.before).args in
-    by_lengths (λ (ns : List ℕ). moved ns a.from a.slot a.to) a.d a.g.now a.w.now a.y.now a.n.now _ _ _ _ _ _ b.lengths-2.ensures b.backward_slots.ensures
+    let b = c.before.before.before.before.before.before.before.before.before in
+    let a = (start-2 b).args in
+    by_lengths (λ (ns : List ℕ). moved ns a.from a.slot a.to) a.d a.g.now a.w.now a.y.now a.n.now _ _ _ _ _ _ c.lengths-2.ensures c.backward_slots.ensures
 
 pub shift_slots_spec : {M : Type 1} → statement M
 shift_slots_spec =

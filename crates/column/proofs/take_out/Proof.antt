@@ -28,13 +28,13 @@ shrink-requires c κs = let p = (start c.before.before.before.before.before.befo
 
 returns : tie.Need-returns
 returns c =
-    let s = c in
-    let k = lent s.before.before.before.before.before.before.before.before.before.before.before.before.before in
+    let s = c.before.before.before.before.before.before.before.before.before.before.before.before.before in
+    let k = lent s in
     let o = k.slices in
-    let a = (start s.before.before.before.before.before.before.before.before.before.before.before.before.before).args in
+    let a = (start s).args in
     let ns = lengths_of block_limit k in
     column_is (deleted ns a.partition a.slot) freed (one_fewer a.partition ns) k _ _ _ _ _ c.shrink.ensures
-    (by_lengths (λ (ls : List ℕ). deleted ls a.partition a.slot) freed o.growers o.weights o.yields o.days _ _ _ _ _ ns s.lengths.ensures s.delete_slots.ensures)
+    (by_lengths (λ (ls : List ℕ). deleted ls a.partition a.slot) freed o.growers o.weights o.yields o.days _ _ _ _ _ ns c.lengths.ensures c.delete_slots.ensures)
 
 pub take_out_spec : {M : Type 1} → statement M
 take_out_spec =

@@ -32,20 +32,20 @@ judge-requires c κs = (found c.before).within
 
 returns-2 : tie.Need-returns-in_default
 returns-2 c =
-    let j = c in
-    text_bad _ (none (passed j.before.before)) (found (passed j.before.before)) j.judge-j.ensures c.in_default.is _ c.not_checked-in_default.ensures
+    let j = c.before.before in
+    text_bad _ (none (passed j)) (found (passed j)) c.judge-j.ensures c.in_default.is _ c.not_checked-in_default.ensures
 
 returns-3 : tie.Need-returns-then-slots-rows
 returns-3 c =
-    let m = c in
-    let j = judged m.before.before in
-    text_full _ (none (passed j)) (found (passed j)) j.judge-j.ensures m.in-AllGood.is (omega (arith, c.if-slots-rows.true)) _ c.not_checked-then-slots-rows.ensures
+    let m = c.before.before in
+    let j = judged m in
+    text_full _ (none (passed j)) (found (passed j)) j.judge-j.ensures c.in-AllGood.is (omega (arith, c.if-slots-rows.true)) _ c.not_checked-then-slots-rows.ensures
 
 returns-4 : tie.Need-returns
 returns-4 c =
-    let m = c in
-    let j = judged m.before in
-    text_good _ (none (passed j)) (found (passed j)) j.judge-j.ensures m.in-AllGood.is (omega (arith, c.if-slots-rows.false))
+    let m = c.before in
+    let j = judged m in
+    text_good _ (none (passed j)) (found (passed j)) j.judge-j.ensures c.in-AllGood.is (omega (arith, c.if-slots-rows.false))
 
 pub check_text_spec : {M : Type 1} → statement M
 check_text_spec =

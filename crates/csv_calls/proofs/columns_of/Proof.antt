@@ -33,21 +33,19 @@ sought c = c.before.before.before.before
 
 returns : tie.Need-returns-then-not-all
 returns c =
-    let t = c in
-    header_absent (names (sought t.before.before)) (sym t.all.ensures ∙ c.if-not-all.true) c.no_columns.ensures
+    let t = c.before.before in
+    header_absent (names (sought t)) (sym c.all.ensures ∙ c.if-not-all.true) c.no_columns.ensures
 
 returns-2 : tie.Need-returns-then-not-all-2
 returns-2 c =
-    let u = c in
-    let f = u in
-    header_twice (names (sought f.before.before.before.before.before.before.before)) (sym f.all.ensures ∙ f.if-not-all.false) (sym u.all-2.ensures ∙ c.if-not-all-2.true)
+    let f = c.before.before.before.before.before.before.before in
+    header_twice (names (sought f)) (sym c.all.ensures ∙ c.if-not-all.false) (sym c.all-2.ensures ∙ c.if-not-all-2.true)
     c.no_columns-then-not-all-2.ensures
 
 returns-3 : tie.Need-returns
 returns-3 c =
-    let u = c in
-    let f = u in
-    header_good (names (sought f.before.before.before.before.before.before)) (sym f.all.ensures ∙ f.if-not-all.false) (sym u.all-2.ensures ∙ c.if-not-all-2.false)
+    let f = c.before.before.before.before.before.before in
+    header_good (names (sought f)) (sym c.all.ensures ∙ c.if-not-all.false) (sym c.all-2.ensures ∙ c.if-not-all-2.false)
 
 pub columns_of_spec : {M : Type 1} → statement M
 columns_of_spec =

@@ -37,15 +37,14 @@ slice-aggregate-put-rows-4 c = sym (used_days (can (headed c)).fits)
 
 put-rows-requires : tie.Need-put_rows-e-requires
 put-rows-requires c κs =
-    let r = c in
-    let e = headed r in
-    (used_even (can e).fits, rows_room _ _ _ (can e) r.put_header-start.ensures)
+    let e = headed c in
+    (used_even (can e).fits, rows_room _ _ _ (can e) c.put_header-start.ensures)
 
 returns-2 : tie.Need-returns
 returns-2 c =
-    let r = c in
-    let e = headed r.before.before.before in
-    export_done _ _ _ (can e) r.put_header-start.ensures c.put_rows-e.ensures
+    let r = c.before.before.before in
+    let e = headed r in
+    export_done _ _ _ (can e) c.put_header-start.ensures c.put_rows-e.ensures
 
 pub export_spec : {M : Type 1} → statement M
 export_spec =

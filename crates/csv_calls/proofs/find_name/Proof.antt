@@ -58,26 +58,26 @@ behind-at-requires c κs = (found c.before.before).within
 
 loop-less : tie.Need-loop-s-smaller invariant-loop decreases-loop
 loop-less c =
-    let b = c in
-    header_less (at (field b.before.before)).loop-s.invariant (found (field b.before.before)) b.is_name-found.ensures c.with_column-s.ensures
-    (behind_as b.behind_at-e.ensures c.in-Comma.is)
+    let b = c.before.before in
+    header_less (at (field b)).loop-s.invariant (found (field b)) c.is_name-found.ensures c.with_column-s.ensures
+    (behind_as c.behind_at-e.ensures c.in-Comma.is)
 
 loop-again : tie.Need-loop-s-preserved invariant-loop decreases-loop
 loop-again c =
-    let b = c in
-    header_comma (at (field b.before.before)).loop-s.invariant (found (field b.before.before)) b.is_name-found.ensures c.with_column-s.ensures
-    (behind_as b.behind_at-e.ensures c.in-Comma.is)
+    let b = c.before.before in
+    header_comma (at (field b)).loop-s.invariant (found (field b)) c.is_name-found.ensures c.with_column-s.ensures
+    (behind_as c.behind_at-e.ensures c.in-Comma.is)
 
 returns-2 : tie.Need-returns-in-End invariant-loop decreases-loop
 returns-2 c =
-    let b = c in
-    header_end (at (field b.before.before)).loop-s.invariant (found (field b.before.before)) b.is_name-found.ensures c.with_column.ensures
-    (behind_as b.behind_at-e.ensures c.in-End.is)
+    let b = c.before.before in
+    header_end (at (field b)).loop-s.invariant (found (field b)) c.is_name-found.ensures c.with_column.ensures
+    (behind_as c.behind_at-e.ensures c.in-End.is)
 
 returns-3 : tie.Need-returns-in-Broken invariant-loop decreases-loop
 returns-3 c =
-    let b = c in
-    header_broken (at (field b.before)).loop-s.invariant (found (field b.before)) (behind_as b.behind_at-e.ensures c.in-Broken.is)
+    let b = c.before in
+    header_broken (at (field b)).loop-s.invariant (found (field b)) (behind_as c.behind_at-e.ensures c.in-Broken.is)
 
 returns-4 : tie.Need-returns invariant-loop decreases-loop
 returns-4 c = absurd (omega (arith, c.loop-s.invariant.passed.high))

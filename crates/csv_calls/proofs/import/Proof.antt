@@ -33,8 +33,8 @@ returns c = answer_slices _ _ (sym c.slices_ok.ensures ∙ c.if-not-slices_ok.tr
 
 returns-2 : tie.Need-returns-then-n-ne0
 returns-2 c =
-    let t = c in
-    answer_text _ _ (even t.before.before.before) t.check_text-t.ensures.refused c.if-n-ne0.true _ c.not_imported-then-n-ne0.ensures
+    let t = c.before.before.before in
+    answer_text _ _ (even t) c.check_text-t.ensures.refused c.if-n-ne0.true _ c.not_imported-then-n-ne0.ensures
 
 store-requires : tie.Need-store-requires
 store-requires c κs = let e = lending c in storable _ _ (even e.before.before) (good e)
@@ -51,10 +51,10 @@ slice-aggregate-clear c = sym (length-take-le _ _ (slice-relend-prefix-clear c.b
 
 returns-3 : tie.Need-returns
 returns-3 c =
-    let n = c in
-    let s = stored n.before.before.before.before in
+    let n = c.before.before.before.before in
+    let s = stored n in
     let e = lending s.before in
-    answer-rows _ _ (even e.before.before) (good e) (sym e.if-n-ne0.false ∙ e.check_text-t.ensures.refused) s.store.ensures n.clear.ensures
+    answer-rows _ _ (even e.before.before) (good e) (sym e.if-n-ne0.false ∙ e.check_text-t.ensures.refused) s.store.ensures c.clear.ensures
 
 pub import_spec : {M : Type 1} → statement M
 import_spec =

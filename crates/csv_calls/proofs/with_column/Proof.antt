@@ -9,13 +9,11 @@ returns c = rw (c.if-not-found.true)
 
 returns-2 : tie.Need-returns-then-s-ne0
 returns-2 c =
-    let if1 = c in
-    rw (if1.if-not-found.false, ne_eqb if1.args.s.times 0 c.if-s-ne0.true)
+    rw (c.if-not-found.false, ne_eqb c.args.s.times 0 c.if-s-ne0.true)
 
 returns-3 : tie.Need-returns
 returns-3 c =
-    let if1 = c in
-    rw (if1.if-not-found.false, c.if-s-ne0.false)
+    rw (c.if-not-found.false, c.if-s-ne0.false)
 
 pub with_column_spec : {M : Type 1} → statement M
 with_column_spec = tie.close (tie.spec returns (λ c. search rules) returns-2 returns-3)

@@ -10,8 +10,7 @@ returns : tie.Need-returns-in_default
 returns c = cell_torn (torn_is c.field_at-f.ensures c.in_default.is)
 
 found : (c : tie.In-Found) →
-    let s = c in
-    FoundAt s.args.text.now s.args.at c.in-Found.a c.in-Found.e c.in-Found.c c.in-Found.r
+    FoundAt c.args.text.now c.args.at c.in-Found.a c.in-Found.e c.in-Found.c c.in-Found.r
 found c = found_is c.field_at-f.ensures c.in-Found.is
 
 sub-spell : tie.Need-slice_bounds-spell-count

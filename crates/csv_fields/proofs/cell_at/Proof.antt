@@ -7,19 +7,18 @@ use Rattle.csv_fields.proofs.cell_at.Statement.{statement}
 use Rattle.csv_fields.proofs.cell_at.Tie as tie
 
 passed : (c : tie.Then-at-e) →
-    let s = c in
-    DigitsTo s.args.text.now s.args.at c.in-Digits.n c.in-Digits.e
+    DigitsTo c.args.text.now c.args.at c.in-Digits.n c.in-Digits.e
 passed c = (run_is c.digits_at-d.ensures c.in-Digits.is).passed
 
 returns : tie.Need-returns-in-Comma
 returns c =
-    let e = c in
-    cell_comma (passed e.before.before) (λ z. omega arith) (behind_as c.behind_at-b.ensures c.in-Comma.is)
+    let e = c.before.before in
+    cell_comma (passed e) (λ z. omega arith) (behind_as c.behind_at-b.ensures c.in-Comma.is)
 
 returns-2 : tie.Need-returns-in-End
 returns-2 c =
-    let e = c in
-    cell_end (passed e.before.before) (λ z. omega arith) (behind_as c.behind_at-b.ensures c.in-End.is)
+    let e = c.before.before in
+    cell_end (passed e) (λ z. omega arith) (behind_as c.behind_at-b.ensures c.in-End.is)
 
 pub cell_at_spec : {M : Type 1} → statement M
 cell_at_spec =

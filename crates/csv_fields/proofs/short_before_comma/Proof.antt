@@ -7,8 +7,7 @@ use Rattle.csv_fields.proofs.short_before_comma.Tie as tie
 
 -- the digits that were read
 passed : (c : tie.Else-e-at) →
-    let s = c in
-    ShortAt s.args.text.now s.args.at c.in-Read.n c.in-Read.e
+    ShortAt c.args.text.now c.args.at c.in-Read.n c.in-Read.e
 passed c = short_is c.short_at-d.ensures c.in-Read.is
 
 shared-slice-read-if2 : tie.Need-bounds-text-e

@@ -16,8 +16,7 @@ returns-3 : tie.Need-returns-in_default
 returns-3 c = skipped_torn (field_torn _ _ (omega arith) (omega arith) (open_is c.quoted_end-q.ensures c.in_default.is))
 
 closed : (c : tie.In-Closed) →
-    let s = c in
-    ClosedAt s.args.text.now (s.args.at + 1) c.in-Closed.e c.in-Closed.clean
+    ClosedAt c.args.text.now (c.args.at + 1) c.in-Closed.e c.in-Closed.clean
 closed c = closed_is c.quoted_end-q.ensures c.in-Closed.is
 
 returns-4 : tie.Need-returns

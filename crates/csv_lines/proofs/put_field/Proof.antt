@@ -8,7 +8,7 @@ use Rattle.csv_lines.proofs.put_field.Statement.{statement}
 use Rattle.csv_lines.proofs.put_field.Tie as tie
 
 put-plain-requires : tie.Need-put_plain-e-requires
-put-plain-requires c κs = let s = c in front_room s.args.at (plain_number s.args.n) (s.args.behind ∷ []) s.args.text.now s.requires
+put-plain-requires c κs = front_room c.args.at (plain_number c.args.n) (c.args.behind ∷ []) c.args.text.now c.requires
 
 slice-write-text : tie.Need-bounds-text-e
 slice-write-text c = byte_behind c.put_plain-e.ensures _ c.requires

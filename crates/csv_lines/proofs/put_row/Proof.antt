@@ -21,7 +21,7 @@ abbrev row : tie.Start → Delivery
 row s = delivery s.args.g s.args.w s.args.y 0
 
 put-field-requires : tie.Need-put_field-a-requires
-put-field-requires c κs = let s = c in grower_room (row s.before.before) s.args.text.now s.args.at s.requires
+put-field-requires c κs = let s = c.before.before in grower_room (row s) c.args.text.now c.args.at c.requires
 
 put-field-requires-2 : tie.Need-put_field-b-requires
 put-field-requires-2 c κs = let s = start c in weight_room (row s) s.requires c.put_field-a.ensures
@@ -41,12 +41,12 @@ put-line-end-requires c κs =
 
 returns : tie.Need-returns
 returns c =
-    let l = c in
-    let d = second l.before.before.before in
+    let l = c.before.before.before in
+    let d = second l in
     let f = first d in
     let s = start f in
     row_done (row s) s.requires f.put_field-a.ensures d.put_field-b.ensures
-    l.put_plain-c.ensures c.put_line_end.ensures
+    c.put_plain-c.ensures c.put_line_end.ensures
 
 pub put_row_spec : {M : Type 1} → statement M
 put_row_spec =

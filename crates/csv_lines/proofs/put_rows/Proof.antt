@@ -22,8 +22,7 @@ put-row-requires c κs = row_room c.loop-i.invariant c.loop-i-test.true
 
 loop-again : tie.Need-loop-i-preserved invariant-loop decreases-loop
 loop-again c =
-    let top = c in
-    rows_next top.loop-i.invariant top.loop-i-test.true c.put_row-e.ensures
+    rows_next c.loop-i.invariant c.loop-i-test.true c.put_row-e.ensures
 
 same_length : tie.Need-shape_of-text invariant-loop decreases-loop
 same_length c = c.loop-i.invariant.left.size

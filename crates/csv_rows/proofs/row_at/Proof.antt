@@ -10,8 +10,7 @@ use Rattle.csv_rows.proofs.row_at.Tie as tie
 -- Past the test of the count, and past each number.
 
 read : (c : tie.Else-count-c) →
-    let s = c in
-    ReadAt s.args.text.now s.args.at s.args.c c.in-Whole.count c.in-Whole.grower c.in-Whole.weight c.in-Whole.oil_yield c.in-Whole.next
+    ReadAt c.args.text.now c.args.at c.args.c c.in-Whole.count c.in-Whole.grower c.in-Whole.weight c.in-Whole.oil_yield c.in-Whole.next
 read c = whole_is c.record_at.ensures c.in-Whole.is
 
 abbrev counted : tie.In-Value → tie.Else-count-c
@@ -30,7 +29,7 @@ returns-2 : tie.Need-returns-then-count-c
 returns-2 c = row_count (whole_is c.record_at.ensures c.in-Whole.is) (λ z. omega arith)
 
 returns-3 : tie.Need-returns-in_default-grower
-returns-3 c = let e = c in row_no_grower (read e.before) (omega arith) c.in_default-grower.is
+returns-3 c = let e = c.before in row_no_grower (read e) (omega arith) c.in_default-grower.is
 
 returns-4 : tie.Need-returns-in_default-weight
 returns-4 c = let e = counted c.before in row_no_weight (read e) (omega arith) (none_there most_weight c.in_default-weight.is)
@@ -45,16 +44,16 @@ returns-6 c =
 
 returns-7 : tie.Need-returns-then-z-gt-MOST_YIELD
 returns-7 c =
-    let y = c in
-    let e = counted (grown (weighed y.before.before)) in row_no_yield (read e) (omega arith) (too_large most_yield y.in-Value-oil_yield.is (omega arith))
+    let y = c.before.before in
+    let e = counted (grown (weighed y)) in row_no_yield (read e) (omega arith) (too_large most_yield c.in-Value-oil_yield.is (omega arith))
 
 returns-8 : tie.Need-returns
 returns-8 c =
-    let y = c in
-    let w = weighed y.before.before in
+    let y = c.before.before in
+    let w = weighed y in
     let e = counted (grown w) in
     row_good (read e) (omega arith) (grown w).in-Value.is (in_range_lem most_weight w.in-Value-weight.is (omega arith))
-    (in_range_lem most_yield y.in-Value-oil_yield.is (omega arith))
+    (in_range_lem most_yield c.in-Value-oil_yield.is (omega arith))
 
 pub row_at_spec : {M : Type 1} → statement M
 row_at_spec =

@@ -29,9 +29,9 @@ second c = short_cell_is c.short_before_comma-b.ensures c.in-Read-b.is
 
 returns-5 : tie.Need-returns
 returns-5 c =
-    let b = c in
-    let a = one b.before.before in
-    short_three _ (from a).requires (first a) (second b.before.before) (short_cell_is c.short_before_end-e.ensures c.in-Read-e.is)
+    let b = c.before.before in
+    let a = one b in
+    short_three _ (from a).requires (first a) (second b) (short_cell_is c.short_before_end-e.ensures c.in-Read-e.is)
     (sym a.in_order.ensures ∙ a.if-not-in_order.false)
 
 pub short_record_spec : {M : Type 1} → statement M

@@ -6,9 +6,7 @@ use Rattle.csv_rows.proofs.store.Tie as tie
 
 returns : tie.Need-returns
 returns c =
-    let r = c in
-    let l = r in
-    all_stored l.requires l.least-room.ensures _ r.read_rows.ensures
+    all_stored c.requires c.least-room.ensures _ c.read_rows.ensures
 
 pub store_spec : {M : Type 1} → statement M
 store_spec =

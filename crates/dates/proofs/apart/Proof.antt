@@ -17,13 +17,11 @@ before-year-requires c κs = search rules
 
 sub-n : tie.Need-overflow_sub-n
 sub-n c =
-    let s = c in
-    omega (arith, c.before_year.ensures.0, (year_found s.args.day s.requires).begun)
+    omega (arith, c.before_year.ensures.0, (year_found c.args.day c.requires).begun)
 
 month-at-requires : tie.Need-month_at-m-requires
 month-at-requires c κs =
-    let s = c in
-    in_year s.args.day (4 * s.args.day / 1461) c.before_year.result c.leap-l.result (year_found s.args.day s.requires) c.leap-l.ensures c.before_year.ensures.0
+    in_year c.args.day (4 * c.args.day / 1461) c.before_year.result c.leap-l.result (year_found c.args.day c.requires) c.leap-l.ensures c.before_year.ensures.0
 
 before-month-requires : tie.Need-before_month-b-requires
 before-month-requires c κs = search rules
@@ -39,12 +37,11 @@ add-t9 c = search rules
 
 returns : tie.Need-returns
 returns c =
-    let s = c in
     let l = c.leap-l in
     let a = c.before_year in
     let m = c.month_at-m in
-    parted s.args.day (4 * s.args.day / 1461) a.result m.result c.before_month-b.result l.result
-    (year_found s.args.day s.requires) l.ensures a.ensures.0 m.ensures c.before_month-b.ensures.0
+    parted c.args.day (4 * c.args.day / 1461) a.result m.result c.before_month-b.result l.result
+    (year_found c.args.day c.requires) l.ensures a.ensures.0 m.ensures c.before_month-b.ensures.0
 
 pub apart_spec : {M : Type 1} → statement M
 apart_spec =

@@ -11,40 +11,35 @@ no-day-requires c κs = search rules
 
 returns : tie.Need-returns-then-year-lt-FIRST_YEAR
 returns c =
-    let s = c in
-    c.no_day.ensures ∙ day_refused s.args.year s.args.month s.args.day (λ r. omega (arith, r.year_least, c.if-year-lt-FIRST_YEAR.true))
+    c.no_day.ensures ∙ day_refused c.args.year c.args.month c.args.day (λ r. omega (arith, r.year_least, c.if-year-lt-FIRST_YEAR.true))
 
 no-day-requires-2 : tie.Need-no_day-requires-then-year-gt-LAST_YEAR
 no-day-requires-2 c κs = search rules
 
 returns-2 : tie.Need-returns-then-year-gt-LAST_YEAR
 returns-2 c =
-    let s = c in
-    c.no_day-then-year-gt-LAST_YEAR.ensures ∙ day_refused s.args.year s.args.month s.args.day (λ r. omega (arith, r.year_most, c.if-year-gt-LAST_YEAR.true))
+    c.no_day-then-year-gt-LAST_YEAR.ensures ∙ day_refused c.args.year c.args.month c.args.day (λ r. omega (arith, r.year_most, c.if-year-gt-LAST_YEAR.true))
 
 no-day-requires-3 : tie.Need-no_day-requires-then-month-lt1
 no-day-requires-3 c κs = search rules
 
 returns-3 : tie.Need-returns-then-month-lt1
 returns-3 c =
-    let s = c in
-    c.no_day-then-month-lt1.ensures ∙ day_refused s.args.year s.args.month s.args.day (λ r. omega (arith, r.month_least, c.if-month-lt1.true))
+    c.no_day-then-month-lt1.ensures ∙ day_refused c.args.year c.args.month c.args.day (λ r. omega (arith, r.month_least, c.if-month-lt1.true))
 
 no-day-requires-4 : tie.Need-no_day-requires-then-month-gt12
 no-day-requires-4 c κs = search rules
 
 returns-4 : tie.Need-returns-then-month-gt12
 returns-4 c =
-    let s = c in
-    c.no_day-then-month-gt12.ensures ∙ day_refused s.args.year s.args.month s.args.day (λ r. omega (arith, r.month_most, c.if-month-gt12.true))
+    c.no_day-then-month-gt12.ensures ∙ day_refused c.args.year c.args.month c.args.day (λ r. omega (arith, r.month_most, c.if-month-gt12.true))
 
 no-day-requires-5 : tie.Need-no_day-requires-then-day-lt1
 no-day-requires-5 c κs = search rules
 
 returns-5 : tie.Need-returns-then-day-lt1
 returns-5 c =
-    let s = c in
-    c.no_day-then-day-lt1.ensures ∙ day_refused s.args.year s.args.month s.args.day (λ r. omega (arith, r.day_least, c.if-day-lt1.true))
+    c.no_day-then-day-lt1.ensures ∙ day_refused c.args.year c.args.month c.args.day (λ r. omega (arith, r.day_least, c.if-day-lt1.true))
 
 leap-requires : tie.Need-leap-l-requires
 leap-requires c κs = search rules
@@ -57,12 +52,11 @@ no-day-requires-6 c κs = search rules
 
 returns-6 : tie.Need-returns-then-month_days-day
 returns-6 c =
-    let s = c in
     let l = c.leap-l in
     let e = c.month_days in
     c.no_day-then-month_days-day.ensures
-    ∙ day_refused s.args.year s.args.month s.args.day
-    (too_late s.args.year s.args.month s.args.day e.result l.result l.ensures e.ensures.0 c.if-month_days-day.true)
+    ∙ day_refused c.args.year c.args.month c.args.day
+    (too_late c.args.year c.args.month c.args.day e.result l.result l.ensures e.ensures.0 c.if-month_days-day.true)
 
 before-year-requires : tie.Need-before_year-requires
 before-year-requires c κs = search rules
@@ -78,13 +72,11 @@ add-t11 c = search rules
 
 returns-7 : tie.Need-returns
 returns-7 c =
-    let s = c in
-    let l = c in
     let a = c.before_year in
     let e = c.month_days in
-    day_answer s.args.year s.args.month s.args.day e.result a.result c.before_month.result l.leap-l.result
-    l.if-year-lt-FIRST_YEAR.false l.if-year-gt-LAST_YEAR.false l.if-month-lt1.false l.if-month-gt12.false l.if-day-lt1.false
-    l.leap-l.ensures e.ensures.0 c.if-month_days-day.false a.ensures.0 c.before_month.ensures.0
+    day_answer c.args.year c.args.month c.args.day e.result a.result c.before_month.result c.leap-l.result
+    c.if-year-lt-FIRST_YEAR.false c.if-year-gt-LAST_YEAR.false c.if-month-lt1.false c.if-month-gt12.false c.if-day-lt1.false
+    c.leap-l.ensures e.ensures.0 c.if-month_days-day.false a.ensures.0 c.before_month.ensures.0
 
 pub day_of_spec : {M : Type 1} → statement M
 day_of_spec =

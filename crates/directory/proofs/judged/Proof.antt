@@ -39,25 +39,19 @@ returns-5 c =
 
 returns-6 : tie.Need-returns-then-c-s
 returns-6 c =
-    let v = c in
-    let ns = v.args.directory.now in
-    let sum = v.surveyed-s.ensures.1 in
+    let ns = c.args.directory.now in
+    let sum = c.surveyed-s.ensures.1 in
     c.refused-then-c-s.ensures ∙ judged_not block_limit _ _ _ (λ s. let h = s.room in omega (arith, sum ∙ ap sum_of (lengths_part block_limit ns s.size s.few)))
 
 returns-7 : tie.Need-returns
 returns-7 c =
-    let b₁ = c in
-    let b₂ = b₁ in
-    let b₃ = b₂ in
-    let b₄ = b₃ in
-    let b₅ = b₄ in
-    let g = b₅.args in
+    let g = c.args in
     let ns = g.directory.now in
-    let size : length ns ≡ directory_size block_limit = b₄.if-directory-ne-DIRECTORY_SIZE.false in
+    let size : length ns ≡ directory_size block_limit = c.if-directory-ne-DIRECTORY_SIZE.false in
     let few : get_or ns 1 0 ≤ block_limit = omega arith in
     let lens = lengths_part block_limit ns size few in
     let fences = fences_part block_limit ns size few in
-    let s = b₁.surveyed-s.ensures in
+    let s = c.surveyed-s.ensures in
     let up = of_true _ (sym s.0 ∙ not-false _ c.if-not-s.false) in
     let sum = s.1 ∙ ap sum_of lens in
     let found = s.2 up in
@@ -66,7 +60,7 @@ returns-7 c =
       size = size;
       some = omega arith;
       few = few;
-      unused = unused_both block_limit ns size few (of_true _ (sym b₃.zeros.ensures ∙ b₂.if-not-zeros.false));
+      unused = unused_both block_limit ns size few (of_true _ (sym c.zeros.ensures ∙ c.if-not-zeros.false));
       rises = rw fences at up;
       room = omega arith;
     } in

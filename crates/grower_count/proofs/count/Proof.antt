@@ -48,9 +48,8 @@ shared-slice-read-g c = slot c.before
 
 returns : tie.Need-returns-then-g invariant-loop decreases-loop
 returns c =
-    let t = c in
-    let l = t in
-    counting_last l.loop-n.invariant.0 (long l.before.before.before) t.loop-n-test.true (λ p. omega (arith, c.shared_slice_known-in-loop-n-1.given p, c.if-g.true))
+    let l = c.before.before.before in
+    counting_last c.loop-n.invariant.0 (long l) c.loop-n-test.true (λ p. omega (arith, c.shared_slice_known-in-loop-n-1.given p, c.if-g.true))
 
 add-lo : tie.Need-overflow_add-lo invariant-loop decreases-loop
 add-lo c = omega (arith, c.shared_slice_known-in-loop-n-1.given (get_or c.loop-n.batch 8191 0), c.if-g.false)
@@ -60,14 +59,14 @@ abbrev turn : tie.After-seen-in-loop-n-2-1 invariant-loop decreases-loop → tie
 turn c = c.before.before.before.before.before.before.before.before.before
 
 loop-less : tie.Need-loop-n-smaller invariant-loop decreases-loop
-loop-less c = let t = turn c in let l = t in counting_less l.loop-n.invariant.0 (long l.before) t.loop-n-test.true
+loop-less c = let t = turn c in let l = t.before in counting_less t.loop-n.invariant.0 (long l) t.loop-n-test.true
 
 loop-again : tie.Need-loop-n-preserved invariant-loop decreases-loop
 loop-again c =
     let e = c.window-n-in-loop-n.ensures in
     let t = turn c in
-    let l = t in
-    (counting_more l.loop-n.invariant.0 (long l.before) t.loop-n-test.true e.0, e.1, e.2, e.3)
+    let l = t.before in
+    (counting_more t.loop-n.invariant.0 (long l) t.loop-n-test.true e.0, e.1, e.2, e.3)
 
 add-result : tie.Need-overflow_add-result invariant-loop decreases-loop
 add-result c = omega (arith, fits c.before)

@@ -23,8 +23,8 @@ returns c = cut_none _ _ c.if-batch-eq0.true
 first : (c : tie.After-slice_known-1 invariant-loop decreases-loop) → let a = c.args in get_or a.batch.now 0 0 < length a.growers.now
 first c = let a = c.args in slot_inside a.growers.now a.batch.now 0 c.requires.0 (omega (arith, c.if-batch-eq0.false))
 
-here : (c : tie.After-slice_known-in-loop-i-1 invariant-loop decreases-loop) → let l = c in get_or l.loop-i.batch l.loop-i.i 0 < length l.args.growers.now
-here c = let l = c in slot_read _ l.loop-i.invariant c.loop-i-test.true l.requires.0
+here : (c : tie.After-slice_known-in-loop-i-1 invariant-loop decreases-loop) → get_or c.loop-i.batch c.loop-i.i 0 < length c.args.growers.now
+here c = slot_read _ c.loop-i.invariant c.loop-i-test.true c.requires.0
 
 cast-last : tie.Need-overflow_cast-last invariant-loop decreases-loop
 cast-last c = omega (arith, first c)
@@ -49,12 +49,10 @@ shared-slice-read-g c = here c.before
 
 loop-again : tie.Need-loop-i-preserved invariant-loop decreases-loop
 loop-again c =
-    let t = c in
-    let l = t in
-    let p = l.requires in
+    let p = c.requires in
     elim c.if-g-last.branch [
-      then-g-last w ↦ cutting_new _ l.loop-i.invariant t.loop-i-test.true _ p.0 p.1 w.if-g-last.true w.n-is
-    | else-g-last w ↦ cutting_old _ l.loop-i.invariant t.loop-i-test.true _ w.if-g-last.false w.n-is
+      then-g-last w ↦ cutting_new _ c.loop-i.invariant c.loop-i-test.true _ p.0 p.1 w.if-g-last.true w.n-is
+    | else-g-last w ↦ cutting_old _ c.loop-i.invariant c.loop-i-test.true _ w.if-g-last.false w.n-is
     ]
 
 returns-2 : tie.Need-returns invariant-loop decreases-loop

@@ -27,16 +27,15 @@ cast-j c = omega (arith, c.slice_known-in-loop-i-1.given c.place_of-p.result)
 
 loop-again : tie.Need-loop-i-preserved invariant-loop decreases-loop
 loop-again c =
-    let l = c in
     let h = c.loop-i-test.true in
-    let v = l.loop-i.invariant in
+    let v = c.loop-i.invariant in
     let new = c.is_new.ensures in
     elim c.if-is_new.branch [
       then-is_new w ↦ (
         filling_new _ _ _ v.0 h (omega (arith, v.0.room, v.0.same_length)) _ _ (sym new ∙ w.if-is_new.true) w.batch-is w.n-is,
         omega arith,
         omega (arith, w.n-is),
-        ap length w.seen-is ∙ length-set l.loop-i.seen c.place_of-p.result l.loop-i.i ∙ v.3,
+        ap length w.seen-is ∙ length-set c.loop-i.seen c.place_of-p.result c.loop-i.i ∙ v.3,
       )
     | else-is_new w ↦ (
         filling_old _ _ _ v.0 h (omega (arith, v.0.room, v.0.same_length)) _ _ (sym new ∙ w.if-is_new.false) w.batch-is w.n-is,

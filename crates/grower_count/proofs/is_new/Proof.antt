@@ -26,13 +26,13 @@ returns-3 c = simp (passes c.before.before.before.before, le-leb _ _ c.if-g-q.fa
 
 returns-4 : tie.Need-returns-then-growers-j
 returns-4 c =
-    let s = c in
-    simp (passes s.before.before.before.before.before.before, le-leb _ _ s.if-g-q.false, lt-ltb _ _ s.if-i-j.false, ne_eqb _ _ c.if-growers-j.true)
+    let s = c.before.before.before.before.before.before in
+    simp (passes s, le-leb _ _ c.if-g-q.false, lt-ltb _ _ c.if-i-j.false, ne_eqb _ _ c.if-growers-j.true)
 
 returns-5 : tie.Need-returns
 returns-5 c =
-    let s = c in
-    last-test _ _ _ _ _ _ (passes s.before.before.before.before.before.before.before) (le-leb _ _ s.if-g-q.false) (lt-ltb _ _ s.if-i-j.false) (eq-eqb _ _ c.if-growers-j.false) c.is_during-2.ensures
+    let s = c.before.before.before.before.before.before.before in
+    last-test _ _ _ _ _ _ (passes s) (le-leb _ _ c.if-g-q.false) (lt-ltb _ _ c.if-i-j.false) (eq-eqb _ _ c.if-growers-j.false) c.is_during-2.ensures
 
 pub is_new_spec : {M : Type 1} → statement M
 is_new_spec =

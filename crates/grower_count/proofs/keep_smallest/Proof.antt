@@ -9,15 +9,11 @@ sort-requires c κs = search rules
 
 cut-requires : tie.Need-cut-requires
 cut-requires c κs =
-    let s = c in
-    let b = s in
-    sorted_ready b.args.growers.now b.args.batch.now s.sort.ensures.0 b.requires.2
+    sorted_ready c.args.growers.now c.args.batch.now c.sort.ensures.0 c.requires.2
 
 returns : tie.Need-returns
 returns c =
-    let b = c in
-    let s = b in
-    (smallest_cut s.sort.ensures.0 b.cut.ensures c.at_most.ensures, s.sort.ensures.1)
+    (smallest_cut c.sort.ensures.0 c.cut.ensures c.at_most.ensures, c.sort.ensures.1)
 
 pub keep_smallest_spec : {M : Type 1} → statement M
 keep_smallest_spec =

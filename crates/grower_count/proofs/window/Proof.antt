@@ -55,12 +55,12 @@ keep-smallest-requires c κs =
 
 loop-again : tie.Need-loop-i-preserved invariant-loop decreases-loop
 loop-again c =
-    let s = c in
-    let f = filled s.before.before.before.before.before.before.before in
+    let s = c.before.before.before.before.before.before.before in
+    let f = filled s in
     let v = (top f).loop-i.invariant in
-    let e = s.keep_smallest-n.ensures in
+    let e = c.keep_smallest-n.ensures in
     let g = f.fill-f.ensures in
-    let l = s.keep_smallest-n.new in (
+    let l = c.keep_smallest-n.new in (
       window_next v.0 g.0 _ e.0,
       length_front f.fill-f.new.batch l.batch f.fill-f.result.count e.0.same_length ∙ g.0.same_length ∙ v.1,
       length_front (top f).loop-i.work l.work f.fill-f.result.count e.1 ∙ v.2,

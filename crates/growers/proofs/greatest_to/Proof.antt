@@ -34,15 +34,15 @@ offered c =
 
 loop-again : tie.Need-loop-i-preserved-then-m-z invariant-loop decreases-loop
 loop-again c =
-    let t = c in
-    let l = loop t.before in
-    nearing_taken down _ _ _ _ _ l.loop-i.invariant (offered t.before) (omega (arith, l.loop-i.invariant.fits)) (lt-leb t.down_or_first-z.result l.loop-i.m (omega arith))
+    let t = c.before in
+    let l = loop t in
+    nearing_taken down _ _ _ _ _ l.loop-i.invariant (offered t) (omega (arith, l.loop-i.invariant.fits)) (lt-leb c.down_or_first-z.result l.loop-i.m (omega arith))
 
 loop-again-2 : tie.Need-loop-i-preserved invariant-loop decreases-loop
 loop-again-2 c =
-    let t = c in
-    let l = loop t.before in
-    nearing_left down _ _ _ _ _ l.loop-i.invariant (offered t.before) (le-leb t.down_or_first-z.result l.loop-i.m (omega arith))
+    let t = c.before in
+    let l = loop t in
+    nearing_left down _ _ _ _ _ l.loop-i.invariant (offered t) (le-leb c.down_or_first-z.result l.loop-i.m (omega arith))
 
 returns : tie.Need-returns invariant-loop decreases-loop
 returns c = nearing_end down _ _ _ _ c.loop-i-test.false c.loop-i.invariant

@@ -34,15 +34,15 @@ offered c =
 
 loop-again : tie.Need-loop-i-preserved-then-z-m invariant-loop decreases-loop
 loop-again c =
-    let t = c in
-    let l = loop t.before in
-    nearing_taken up _ _ _ _ _ l.loop-i.invariant (offered t.before) (omega (arith, l.loop-i.invariant.fits)) (lt-leb l.loop-i.m t.up_or_last-z.result (omega arith))
+    let t = c.before in
+    let l = loop t in
+    nearing_taken up _ _ _ _ _ l.loop-i.invariant (offered t) (omega (arith, l.loop-i.invariant.fits)) (lt-leb l.loop-i.m c.up_or_last-z.result (omega arith))
 
 loop-again-2 : tie.Need-loop-i-preserved invariant-loop decreases-loop
 loop-again-2 c =
-    let t = c in
-    let l = loop t.before in
-    nearing_left up _ _ _ _ _ l.loop-i.invariant (offered t.before) (le-leb l.loop-i.m t.up_or_last-z.result (omega arith))
+    let t = c.before in
+    let l = loop t in
+    nearing_left up _ _ _ _ _ l.loop-i.invariant (offered t) (le-leb l.loop-i.m c.up_or_last-z.result (omega arith))
 
 returns : tie.Need-returns invariant-loop decreases-loop
 returns c = nearing_end up _ _ _ _ c.loop-i-test.false c.loop-i.invariant

@@ -23,39 +23,39 @@ start c = c.before.before.before.before.before
 
 near-more-requires : tie.Need-near_more-s-requires invariant-loop decreases-loop
 near-more-requires c κs =
-    let l = c in
-    let a = (start l.before.before.before.before.before).args in
-    let e = l.loop-e.e in (
+    let l = c.before.before.before.before.before in
+    let a = (start l).args in
+    let e = c.loop-e.e in (
       simp (length-take, length-drop) (omega arith),
-      even_part (slices_at a.g a.w a.y a.n) (e - (e - 64)) (e - 64) (start l.before.before.before.before.before).requires.1,
-      back_fits down a.grower (slices_at a.g a.w a.y a.n) (start l.before.before.before.before.before).requires.1 (start l.before.before.before.before.before).requires.0 l.loop-e.s e l.loop-e.invariant,
+      even_part (slices_at a.g a.w a.y a.n) (e - (e - 64)) (e - 64) (start l).requires.1,
+      back_fits down a.grower (slices_at a.g a.w a.y a.n) (start l).requires.1 (start l).requires.0 c.loop-e.s e c.loop-e.invariant,
     )
 
 loop-again : tie.Need-loop-e-preserved invariant-loop decreases-loop
 loop-again c =
-    let l = c in
-    let a = (start l.before.before.before.before.before.before).args in
-    let e = l.loop-e.e in
-    back_next down a.grower (slices_at a.g a.w a.y a.n) (start l.before.before.before.before.before.before).requires.1 (start l.before.before.before.before.before.before).requires.0 l.loop-e.s e l.loop-e.invariant (e - (e - 64)) (e - 64) _
+    let l = c.before.before.before.before.before.before in
+    let a = (start l).args in
+    let e = c.loop-e.e in
+    back_next down a.grower (slices_at a.g a.w a.y a.n) (start l).requires.1 (start l).requires.0 c.loop-e.s e c.loop-e.invariant (e - (e - 64)) (e - 64) _
     (omega arith) c.near_more-s.ensures
 
 near-more-requires-2 : tie.Need-near_more-requires invariant-loop decreases-loop
 near-more-requires-2 c κs =
-    let l = c in
-    let a = (start l.before.before.before.before.before).args in
-    let e = l.loop-e.e in (
+    let l = c.before.before.before.before.before in
+    let a = (start l).args in
+    let e = c.loop-e.e in (
       simp (length-take, length-drop) (omega arith),
-      even_part (slices_at a.g a.w a.y a.n) (e - 0) 0 (start l.before.before.before.before.before).requires.1,
-      back_fits down a.grower (slices_at a.g a.w a.y a.n) (start l.before.before.before.before.before).requires.1 (start l.before.before.before.before.before).requires.0 l.loop-e.s e l.loop-e.invariant,
+      even_part (slices_at a.g a.w a.y a.n) (e - 0) 0 (start l).requires.1,
+      back_fits down a.grower (slices_at a.g a.w a.y a.n) (start l).requires.1 (start l).requires.0 c.loop-e.s e c.loop-e.invariant,
     )
 
 returns : tie.Need-returns invariant-loop decreases-loop
 returns c =
-    let l = c in
-    let a = (start l.before.before.before.before.before.before).args in
-    let e = l.loop-e.e in
+    let l = c.before.before.before.before.before.before in
+    let a = (start l).args in
+    let e = c.loop-e.e in
     back_strides_end (near_all down a.grower) (slices_at a.g a.w a.y a.n) _
-    (back_next down a.grower (slices_at a.g a.w a.y a.n) (start l.before.before.before.before.before.before).requires.1 (start l.before.before.before.before.before.before).requires.0 l.loop-e.s e l.loop-e.invariant (e - 0) 0 _ (omega arith) c.near_more.ensures)
+    (back_next down a.grower (slices_at a.g a.w a.y a.n) (start l).requires.1 (start l).requires.0 c.loop-e.s e c.loop-e.invariant (e - 0) 0 _ (omega arith) c.near_more.ensures)
 
 pub near_down_spec : {M : Type 1} → statement M
 near_down_spec =

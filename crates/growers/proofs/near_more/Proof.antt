@@ -51,8 +51,8 @@ returns c = c.bad_nearest.ensures ∙ rw (not-true c.args.s.good c.if-not-s.true
 returns-2 : tie.Need-returns-then-not-values_ok
 unfolding near_more
 returns-2 c =
-    let v = c in
-    c.bad_nearest-then-not-values_ok.ensures ∙ rw (good v.before.before, in_range_lem v.before.before false (c.if-not-values_ok.true))
+    let v = c.before.before in
+    c.bad_nearest-then-not-values_ok.ensures ∙ rw (good v, in_range_lem v false (c.if-not-values_ok.true))
 
 -- what is in range is joined to a good search
 good-answer : (c : tie.After-last_wanted-last) (r : Nearest) → let a = (start c.before.before).args in
@@ -60,8 +60,8 @@ good-answer : (c : tie.After-last_wanted-last) (r : Nearest) → let a = (start 
     r ≡ good_nearest (joined_count w (count_in a.s) (nearest_of w a.grower a.g.now)) → r ≡ near_more w a.grower a.s (rows (slices_at a.g a.w a.y a.n))
 unfolding near_more
 good-answer c r e =
-    let v = c in
-    good_on bad_nearest (good v.before.before) (in_range_lem v.before.before true (c.if-not-values_ok.false)) (rw (growers v.before.before) e)
+    let v = c.before.before in
+    good_on bad_nearest (good v) (in_range_lem v true (c.if-not-values_ok.false)) (rw (growers v) e)
 
 none-from-to-requires : tie.Need-none_from_to-requires
 none-from-to-requires c κs =
@@ -71,32 +71,28 @@ none-from-to-requires c κs =
 
 returns-3 : tie.Need-returns-then-none_from_to
 returns-3 c =
-    let l = c in
-    let v = l in
-    let a = (start v.before.before.before.before).args in
+    let v = c.before.before.before.before in
+    let a = (start v).args in
     let w = direction_of a.up in
-    let none = rw l.last_wanted-last.ensures at (sym c.none_from_to.ensures ∙ c.if-none_from_to.true) in
-    good-answer l.before.before _ (good_is a.s (good v.before.before.before.before) ∙ ap good_nearest (sym (passed_over w a.grower a.g.now (fits v.before.before.before.before) (count_in a.s) none)))
+    let none = rw c.last_wanted-last.ensures at (sym c.none_from_to.ensures ∙ c.if-none_from_to.true) in
+    good-answer c.before.before _ (good_is a.s (good v) ∙ ap good_nearest (sym (passed_over w a.grower a.g.now (fits v) (count_in a.s) none)))
 
 joined-requires : tie.Need-joined-requires
 joined-requires c κs =
-    let f = c in
-    let s = start f.before.before.before.before.before.before in
-    let m = f.nearest_in-m.result in
+    let f = c.before.before.before.before.before.before in
+    let s = start f in
+    let m = c.nearest_in-m.result in
     (s.requires.2.few, omega (arith, s.requires.0, c.count_equal-k.ensures, keep_fewer (inside m m) s.args.g.now))
 
 returns-4 : tie.Need-returns
 returns-4 c =
-    let k = c in
-    let f = k in
-    let l = f in
-    let v = l in
-    let a = (start v.before.before.before.before.before.before.before).args in
+    let v = c.before.before.before.before.before.before.before in
+    let a = (start v).args in
     let w = direction_of a.up in
-    let some = rw l.last_wanted-last.ensures at (sym f.none_from_to.ensures ∙ f.if-none_from_to.false) in
-    good-answer l.before.before.before.before.before _
-    (first_joins w a.grower a.g.now (fits v.before.before.before.before.before.before.before) (count_in a.s) f.nearest_in-m.result k.count_equal-k.result (g-fits v.before.before.before.before.before.before.before) f.nearest_in-m.ensures
-    k.count_equal-k.ensures some _ c.joined.ensures.0 c.joined.ensures.1)
+    let some = rw c.last_wanted-last.ensures at (sym c.none_from_to.ensures ∙ c.if-none_from_to.false) in
+    good-answer c.before.before.before.before.before _
+    (first_joins w a.grower a.g.now (fits v) (count_in a.s) c.nearest_in-m.result c.count_equal-k.result (g-fits v) c.nearest_in-m.ensures
+    c.count_equal-k.ensures some _ c.joined.ensures.0 c.joined.ensures.1)
 
 pub near_more_spec : {M : Type 1} → statement M
 near_more_spec =

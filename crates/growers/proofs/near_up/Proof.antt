@@ -24,41 +24,41 @@ start c = c.before.before.before.before.before
 
 near-more-requires : tie.Need-near_more-s-requires invariant-loop decreases-loop
 near-more-requires c κs =
-    let l = c in
-    let a = (start l.before.before.before.before.before).args in
-    let i = l.loop-i.i in (
+    let l = c.before.before.before.before.before in
+    let a = (start l).args in
+    let i = c.loop-i.i in (
       simp (length-take, length-drop) (omega arith),
-      even_part (slices_at a.g a.w a.y a.n) (i + 64 - i) i (start l.before.before.before.before.before).requires.1,
-      front_fits up a.grower (slices_at a.g a.w a.y a.n) (start l.before.before.before.before.before).requires.1 (start l.before.before.before.before.before).requires.0 l.loop-i.s i l.loop-i.invariant,
+      even_part (slices_at a.g a.w a.y a.n) (i + 64 - i) i (start l).requires.1,
+      front_fits up a.grower (slices_at a.g a.w a.y a.n) (start l).requires.1 (start l).requires.0 c.loop-i.s i c.loop-i.invariant,
     )
 
 loop-again : tie.Need-loop-i-preserved invariant-loop decreases-loop
 loop-again c =
-    let l = c in
-    let a = (start l.before.before.before.before.before.before).args in
-    let i = l.loop-i.i in
+    let l = c.before.before.before.before.before.before in
+    let a = (start l).args in
+    let i = c.loop-i.i in
     let e : i + 64 - i ≡ 64 = omega arith in
-    front_next up a.grower (slices_at a.g a.w a.y a.n) (start l.before.before.before.before.before.before).requires.1 (start l.before.before.before.before.before.before).requires.0 l.loop-i.s i l.loop-i.invariant 64 _ (omega arith)
+    front_next up a.grower (slices_at a.g a.w a.y a.n) (start l).requires.1 (start l).requires.0 c.loop-i.s i c.loop-i.invariant 64 _ (omega arith)
     (rw e at c.near_more-s.ensures)
 
 near-more-requires-2 : tie.Need-near_more-requires invariant-loop decreases-loop
 near-more-requires-2 c κs =
-    let l = c in
-    let a = (start l.before.before.before.before.before).args in
-    let i = l.loop-i.i in (
+    let l = c.before.before.before.before.before in
+    let a = (start l).args in
+    let i = c.loop-i.i in (
       simp (length-take, length-drop) (omega arith),
-      even_part (slices_at a.g a.w a.y a.n) (length a.g.now - i) i (start l.before.before.before.before.before).requires.1,
-      front_fits up a.grower (slices_at a.g a.w a.y a.n) (start l.before.before.before.before.before).requires.1 (start l.before.before.before.before.before).requires.0 l.loop-i.s i l.loop-i.invariant,
+      even_part (slices_at a.g a.w a.y a.n) (length a.g.now - i) i (start l).requires.1,
+      front_fits up a.grower (slices_at a.g a.w a.y a.n) (start l).requires.1 (start l).requires.0 c.loop-i.s i c.loop-i.invariant,
     )
 
 returns : tie.Need-returns invariant-loop decreases-loop
 returns c =
-    let l = c in
-    let a = (start l.before.before.before.before.before.before).args in
-    let i = l.loop-i.i in
+    let l = c.before.before.before.before.before.before in
+    let a = (start l).args in
+    let i = c.loop-i.i in
     let n = length a.g.now - i in
-    let k = front_next up a.grower (slices_at a.g a.w a.y a.n) (start l.before.before.before.before.before.before).requires.1 (start l.before.before.before.before.before.before).requires.0 l.loop-i.s i l.loop-i.invariant n _ (omega arith) c.near_more.ensures in
-    strides_end (near_all up a.grower) (slices_at a.g a.w a.y a.n) (start l.before.before.before.before.before.before).requires.1 _ (i + n) k (omega arith)
+    let k = front_next up a.grower (slices_at a.g a.w a.y a.n) (start l).requires.1 (start l).requires.0 c.loop-i.s i c.loop-i.invariant n _ (omega arith) c.near_more.ensures in
+    strides_end (near_all up a.grower) (slices_at a.g a.w a.y a.n) (start l).requires.1 _ (i + n) k (omega arith)
 
 pub near_up_spec : {M : Type 1} → statement M
 near_up_spec =

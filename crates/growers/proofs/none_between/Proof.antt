@@ -43,19 +43,19 @@ loop c = c.before.before.before
 
 loop-again : tie.Need-loop-i-preserved-then-d-span invariant-loop decreases-loop
 loop-again c =
-    let t = c in
-    let l = loop t.before in
+    let t = c.before in
+    let l = loop t in
     let a = l.args in
-    flag_bad _ _ _ _ t.loop-i-test.true l.loop-i.invariant
-    (is_inside _ a.lo a.hi _ l.requires (omega arith) t.distance-d.ensures.0 t.distance-d.ensures.1 (omega (arith, c.if-d-span.true)))
+    flag_bad _ _ _ _ c.loop-i-test.true l.loop-i.invariant
+    (is_inside _ a.lo a.hi _ l.requires (omega arith) c.distance-d.ensures.0 c.distance-d.ensures.1 (omega (arith, c.if-d-span.true)))
 
 loop-again-2 : tie.Need-loop-i-preserved invariant-loop decreases-loop
 loop-again-2 c =
-    let t = c in
-    let l = loop t.before in
+    let t = c.before in
+    let l = loop t in
     let a = l.args in
-    flag_good _ _ _ _ t.loop-i-test.true l.loop-i.invariant
-    (is-outside _ a.lo a.hi _ l.requires (omega arith) t.distance-d.ensures.0 t.distance-d.ensures.1 (omega (arith, c.if-d-span.false)))
+    flag_good _ _ _ _ c.loop-i-test.true l.loop-i.invariant
+    (is-outside _ a.lo a.hi _ l.requires (omega arith) c.distance-d.ensures.0 c.distance-d.ensures.1 (omega (arith, c.if-d-span.false)))
 
 returns : tie.Need-returns invariant-loop decreases-loop
 returns c = flag_end _ _ _ _ c.loop-i-test.false c.loop-i.invariant

@@ -43,9 +43,9 @@ on-path : (c : tie.In-loop-j invariant-loop decreases-loop) → let a = (start c
 on-path c = omega (arith, c.either-steps.ensures, c.loop-j-test.true)
 
 -- the partition there
-step : (c : tie.After-partition_after-i invariant-loop decreases-loop) → let p = c in let a = (start p.before.before).args in
-    Met a.up a.lens.now a.from p.loop-j.edge p.loop-j.j c.partition_after-i.result
-step c = let p = c in met _ _ _ _ _ _ (start p.before.before).requires.0.0 (on-path c.before) p.loop-j.invariant.here c.partition_after-i.ensures
+step : (c : tie.After-partition_after-i invariant-loop decreases-loop) → let p = c.before.before in let a = (start p).args in
+    Met a.up a.lens.now a.from c.loop-j.edge c.loop-j.j c.partition_after-i.result
+step c = let p = c.before.before in met _ _ _ _ _ _ (start p).requires.0.0 (on-path c.before) c.loop-j.invariant.here c.partition_after-i.ensures
 
 abbrev here : tie.After-begins-a invariant-loop decreases-loop → tie.After-partition_after-i invariant-loop decreases-loop
 here c = c.before.before.before
@@ -66,13 +66,11 @@ small c = omega (arith, stops c, (start (head c)).requires.1.0)
 
 add-either-2 : tie.Need-overflow_add-start invariant-loop decreases-loop
 add-either-2 c =
-    let s = c in
-    omega (arith, s.requires.0.4, stop_le s.args.lens.now s.args.from s.requires.0.0, s.requires.0.2)
+    omega (arith, c.requires.0.4, stop_le c.args.lens.now c.args.from c.requires.0.0, c.requires.0.2)
 
 loop-holds : tie.Need-loop-j-init invariant-loop decreases-loop
 loop-holds c =
-    let s = c in
-    searching_start _ _ _ _ _ _ _ _ s.requires.0.0 s.requires.0.4 c.either-edge.ensures
+    searching_start _ _ _ _ _ _ _ _ c.requires.0.0 c.requires.0.4 c.either-edge.ensures
 
 partition-after-requires : tie.Need-partition_after-i-requires invariant-loop decreases-loop
 partition-after-requires c κs =
@@ -105,61 +103,54 @@ days c =
 
 near-all-requires : tie.Need-near_all-s-requires invariant-loop decreases-loop
 near-all-requires c κs =
-    let b = c in
-    let p = (start (head b.before.before.before.before)).requires.1 in
-    (simp (length-take, length-drop) (omega arith), even b.before.before.before.before)
+    let b = c.before.before.before.before in
+    let p = (start (head b)).requires.1 in
+    (simp (length-take, length-drop) (omega arith), even b)
 
 returns : tie.Need-returns-then-not-s invariant-loop decreases-loop
 returns c =
-    let r = c in
-    let b = r in
-    let p = head b.before.before.before.before.before.before.before.before in
-    c.refused.ensures ∙ searching_bad p.loop-j.invariant (step (here b.before.before.before.before.before.before.before.before)) (begun b.before.before.before.before.before.before.before.before) (room p) r.near_all-s.ensures (not-true _ c.if-not-s.true)
+    let b = c.before.before.before.before.before.before.before.before in
+    let p = head b in
+    c.refused.ensures ∙ searching_bad p.loop-j.invariant (step (here b)) (begun b) (room p) c.near_all-s.ensures (not-true _ c.if-not-s.true)
 
 blocks-of-requires : tie.Need-blocks_of-m-requires invariant-loop decreases-loop
 blocks-of-requires c κs =
-    let b = c in
-    ((start (head b.before.before.before.before.before.before.before.before.before.before)).requires.0.3, omega (arith, small b.before.before.before.before.before.before.before.before.before.before))
+    let b = c.before.before.before.before.before.before.before.before.before.before in
+    ((start (head b)).requires.0.3, omega (arith, small b))
 
 add-blocks : tie.Need-overflow_add-blocks invariant-loop decreases-loop
 add-blocks c =
-    let b = c in
-    let i = here b.before.before.before.before.before.before.before.before.before.before.before in
-    let p = head b.before.before.before.before.before.before.before.before.before.before.before in
+    let b = c.before.before.before.before.before.before.before.before.before.before.before in
+    let i = here b in
+    let p = head b in
     let a = (start p).args in
     let h = (start p).requires in
     let most = blocks_most a.block (get_or a.lens.now i.partition_after-i.result 0) h.0.3 in
-    omega (arith, p.loop-j.invariant.few, on-path i.before, steps_most a.up a.lens.now a.from h.0.0, h.0.1, small b.before.before.before.before.before.before.before.before.before.before.before, c.blocks_of-m.ensures)
+    omega (arith, p.loop-j.invariant.few, on-path i.before, steps_most a.up a.lens.now a.from h.0.0, h.0.1, small b, c.blocks_of-m.ensures)
 
 returns-2 : tie.Need-returns-then-s-gt0 invariant-loop decreases-loop
 returns-2 c =
-    let k = c in
-    let r = k in
-    let b = r in
-    let p = head b.before.before.before.before.before.before.before.before.before.before.before.before.before.before in
+    let b = c.before.before.before.before.before.before.before.before.before.before.before.before.before.before in
+    let p = head b in
     c.found.ensures
-    ∙ searching_hit p.loop-j.invariant (step (here b.before.before.before.before.before.before.before.before.before.before.before.before.before.before)) (begun b.before.before.before.before.before.before.before.before.before.before.before.before.before.before) (room p) r.near_all-s.ensures (days k.before.before.before.before) k.blocks_of-m.ensures
-    (not-false _ k.if-not-s.false) (omega (arith, c.if-s-gt0.true))
+    ∙ searching_hit p.loop-j.invariant (step (here b)) (begun b) (room p) c.near_all-s.ensures (days c.before.before.before.before) c.blocks_of-m.ensures
+    (not-false _ c.if-not-s.false) (omega (arith, c.if-s-gt0.true))
 
 loop-again : tie.Need-loop-j-preserved-then-k-gt0 invariant-loop decreases-loop
 loop-again c =
-    let k = c in
-    let r = k in
-    let b = r in
-    let p = head b.before.before.before.before.before.before.before.before.before.before.before.before.before.before in
-    searching_next p.loop-j.invariant (step (here b.before.before.before.before.before.before.before.before.before.before.before.before.before.before)) (begun b.before.before.before.before.before.before.before.before.before.before.before.before.before.before) (room p) r.near_all-s.ensures (days k.before.before.before.before) k.blocks_of-m.ensures
-    (not-false _ k.if-not-s.false) (omega (arith, c.if-s-gt0.false)) c.either-edge-then-k-gt0.ensures (start p).requires.0.3 (small b.before.before.before.before.before.before.before.before.before.before.before.before.before.before)
+    let b = c.before.before.before.before.before.before.before.before.before.before.before.before.before.before in
+    let p = head b in
+    searching_next p.loop-j.invariant (step (here b)) (begun b) (room p) c.near_all-s.ensures (days c.before.before.before.before) c.blocks_of-m.ensures
+    (not-false _ c.if-not-s.false) (omega (arith, c.if-s-gt0.false)) c.either-edge-then-k-gt0.ensures (start p).requires.0.3 (small b)
 
 loop-again-2 : tie.Need-loop-j-preserved invariant-loop decreases-loop
 loop-again-2 c =
-    let i = c in
-    let p = i in
-    searching_skip p.loop-j.invariant (step i.before.before) (start p.before.before.before.before).requires.0.3 (omega (arith, c.if-k-gt0.false))
+    let p = c.before.before.before.before in
+    searching_skip c.loop-j.invariant (step c.before.before) (start p).requires.0.3 (omega (arith, c.if-k-gt0.false))
 
 returns-3 : tie.Need-returns invariant-loop decreases-loop
 returns-3 c =
-    let p = c in
-    c.found-2.ensures ∙ searching_end p.loop-j.invariant (omega (arith, c.loop-j-test.false, p.either-steps.ensures))
+    c.found-2.ensures ∙ searching_end c.loop-j.invariant (omega (arith, c.loop-j-test.false, c.either-steps.ensures))
 
 pub search_spec : {M : Type 1} → statement M
 search_spec =
@@ -207,7 +198,7 @@ search_spec =
     (λ c. omega (arith, stops c.before.before.before.before.before.before.before))
     (λ c. omega (arith, stops c.before.before.before.before.before.before.before))
     (λ c. omega (arith, stops c.before.before.before.before.before.before.before))
-    (λ c. let b = c in omega (arith, stops b.before.before.before.before.before.before.before, (start (head b.before.before.before.before.before.before.before)).requires.1.1.days))
+    (λ c. let b = c.before.before.before.before.before.before.before in omega (arith, stops b, (start (head b)).requires.1.1.days))
     (λ c κs. search rules)
     (λ c κs. search rules)
     blocks-of-requires

@@ -31,9 +31,9 @@ raise-requires c κs = (inside c.before.before.before, c.if-h-i-lt-MOST_COUNT.tr
 
 returns : tie.Need-returns-then-h-i-lt-MOST_COUNT
 returns c =
-    let t = c in
-    all_raised _ _ _ (room_yes _ _ _ t.if-h-i-lt-MOST_COUNT.true ∙ room_none _) (raise-on _ _ _ _ _ c.raise.ensures (raise_none _))
-    ∙ the-slot t.before.before.before.before.before.before
+    let t = c.before.before.before.before.before.before in
+    all_raised _ _ _ (room_yes _ _ _ c.if-h-i-lt-MOST_COUNT.true ∙ room_none _) (raise-on _ _ _ _ _ c.raise.ensures (raise_none _))
+    ∙ the-slot t
 
 returns-2 : tie.Need-returns
 returns-2 c = not_raised _ _ (room_no _ _ _ c.if-h-i-lt-MOST_COUNT.false) ∙ the-slot c.before.before

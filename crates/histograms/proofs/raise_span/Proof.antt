@@ -11,17 +11,15 @@ use Rattle.histograms.proofs.raise_span.Tie as tie
 
 -- past the four slots
 the-span : (c : tie.After-slot-t)
-    → (let l = c in
-    let g = l.args in
-    Span block_limit g.h.now g.a g.b l.slot-j.result c.slot-k.result c.slot-f.result c.slot-t.result)
+    → (let g = c.args in
+    Span block_limit g.h.now g.a g.b c.slot-j.result c.slot-k.result c.slot-f.result c.slot-t.result)
 the-span c =
-    let l = c in
-    let p = l.requires in
+    let p = c.requires in
     record {
       rises = p.0;
       below = p.1;
       long = p.2;
-      first = omega (arith, l.slot-j.ensures);
+      first = omega (arith, c.slot-j.ensures);
       last = omega (arith, c.slot-k.ensures);
       from = omega (arith, c.slot-f.ensures);
       stop = omega (arith, c.slot-t.ensures);
@@ -59,8 +57,8 @@ slice-read-if2 c = (span_inside block_limit (the-span c.before.before.before)).2
 
 returns-2 : tie.Need-returns-then-h-k-ge-MOST_COUNT
 returns-2 c =
-    let e = c in
-    not_raised _ _ (span_room block_limit (the-span e.before.before.before.before) ∙ room_yes _ _ _ e.if-h-j-ge-MOST_COUNT.false ∙ room_no _ _ _ c.if-h-k-ge-MOST_COUNT.true)
+    let e = c.before.before.before.before in
+    not_raised _ _ (span_room block_limit (the-span e) ∙ room_yes _ _ _ c.if-h-j-ge-MOST_COUNT.false ∙ room_no _ _ _ c.if-h-k-ge-MOST_COUNT.true)
 
 mul-within : tie.Need-offset_bounds-h-f
 mul-within c = omega (arith, (span_inside block_limit (the-span c.before.before.before.before)).4)
@@ -76,50 +74,41 @@ part-within-end c = (span_inside block_limit (the-span c.before.before.before.be
 
 returns-3 : tie.Need-returns-then-not-within
 returns-3 c =
-    let o = c in
-    let e = o in
-    let w = the-span e.before.before.before.before.before.before.before in
+    let e = c.before.before.before.before.before.before.before in
+    let w = the-span e in
     not_raised _ _
     (span_room block_limit w
-    ∙ room_yes _ _ _ e.if-h-j-ge-MOST_COUNT.false
-    ∙ room_yes _ _ _ o.if-h-k-ge-MOST_COUNT.false
+    ∙ room_yes _ _ _ c.if-h-j-ge-MOST_COUNT.false
+    ∙ room_yes _ _ _ c.if-h-k-ge-MOST_COUNT.false
     ∙ span-part block_limit w _ _ c.within.ensures (c.if-not-within.true))
 
 raise-requires : tie.Need-raise-requires
 raise-requires c κs =
-    let e = c in
-    ((span_inside block_limit (the-span e.before.before.before.before.before.before.before.before)).0, e.if-h-j-ge-MOST_COUNT.false)
+    let e = c.before.before.before.before.before.before.before.before in
+    ((span_inside block_limit (the-span e)).0, c.if-h-j-ge-MOST_COUNT.false)
 
 raise-requires-2 : tie.Need-raise-requires-2
 raise-requires-2 c κs =
-    let r = c in
-    let o = r in
-    let a = o in
-    let i = span_inside block_limit (the-span a.before.before.before.before.before.before.before.before.before.before.before.before) in
-    later_ready a.args.h.now _ _ _ r.raise.ensures i.1 i.2 o.if-h-k-ge-MOST_COUNT.false
+    let a = c.before.before.before.before.before.before.before.before.before.before.before.before in
+    let i = span_inside block_limit (the-span a) in
+    later_ready c.args.h.now _ _ _ c.raise.ensures i.1 i.2 c.if-h-k-ge-MOST_COUNT.false
 
 raise-each-requires : tie.Need-raise_each-requires
 raise-each-requires c κs =
-    let r = c in
-    let q = r in
-    let h = q in
-    let w = the-span h.before.before.before.before.before.before.before.before.before.before.before.before.before.before.before.before in
-    span_ready block_limit w q.raise.ensures r.raise-2.ensures (span-part block_limit w _ _ h.within.ensures (h.if-not-within.false))
+    let h = c.before.before.before.before.before.before.before.before.before.before.before.before.before.before.before.before in
+    let w = the-span h in
+    span_ready block_limit w c.raise.ensures c.raise-2.ensures (span-part block_limit w _ _ c.within.ensures (c.if-not-within.false))
 
 returns-4 : tie.Need-returns
 returns-4 c =
-    let r = c in
-    let q = r in
-    let h = q in
-    let o = h in
-    let e = o in
-    let w = the-span e.before.before.before.before.before.before.before.before.before.before.before.before.before.before.before.before.before.before.before in
+    let e = c.before.before.before.before.before.before.before.before.before.before.before.before.before.before.before.before.before.before.before in
+    let w = the-span e in
     all_raised _ _ _
     (span_room block_limit w
-    ∙ room_yes _ _ _ e.if-h-j-ge-MOST_COUNT.false
-    ∙ room_yes _ _ _ o.if-h-k-ge-MOST_COUNT.false
-    ∙ span-part block_limit w _ _ h.within.ensures (h.if-not-within.false))
-    (span_raised block_limit w q.raise.ensures r.raise-2.ensures _ c.raise_each.ensures)
+    ∙ room_yes _ _ _ c.if-h-j-ge-MOST_COUNT.false
+    ∙ room_yes _ _ _ c.if-h-k-ge-MOST_COUNT.false
+    ∙ span-part block_limit w _ _ c.within.ensures (c.if-not-within.false))
+    (span_raised block_limit w c.raise.ensures c.raise-2.ensures _ c.raise_each.ensures)
 
 pub raise_span_spec : {M : Type 1} → statement M
 raise_span_spec =

@@ -44,27 +44,23 @@ slice-read-if2 : tie.Need-bounds-h-n
 slice-read-if2 c = (inside c.before.before.before).1
 
 returns-2 : tie.Need-returns-then-h-n-ge-MOST_COUNT
-returns-2 c = let e = c in not_raised _ _ (room_yes _ _ _ e.if-h-m-ge-MOST_COUNT.false ∙ room_no _ _ _ c.if-h-n-ge-MOST_COUNT.true) ∙ the-slots e.before.before.before.before
+returns-2 c = let e = c.before.before.before.before in not_raised _ _ (room_yes _ _ _ c.if-h-m-ge-MOST_COUNT.false ∙ room_no _ _ _ c.if-h-n-ge-MOST_COUNT.true) ∙ the-slots e
 
 raise-requires : tie.Need-raise-requires
-raise-requires c κs = let e = c in (omega (arith, inside e.before.before.before.before.before), e.if-h-m-ge-MOST_COUNT.false)
+raise-requires c κs = let e = c.before.before.before.before.before in (omega (arith, inside e), c.if-h-m-ge-MOST_COUNT.false)
 
 raise-requires-2 : tie.Need-raise-requires-2
 raise-requires-2 c κs =
-    let r = c in
-    let o = r in
-    let a = o in
-    let i = inside a.before.before.before.before.before.before.before.before.before in
-    later_ready a.args.h.now _ _ _ r.raise.ensures i.0 i.1 o.if-h-n-ge-MOST_COUNT.false
+    let a = c.before.before.before.before.before.before.before.before.before in
+    let i = inside a in
+    later_ready c.args.h.now _ _ _ c.raise.ensures i.0 i.1 c.if-h-n-ge-MOST_COUNT.false
 
 returns-3 : tie.Need-returns
 returns-3 c =
-    let r = c in
-    let o = r in
-    let e = o in
-    all_raised _ _ _ (room_yes _ _ _ e.if-h-m-ge-MOST_COUNT.false ∙ room_yes _ _ _ o.if-h-n-ge-MOST_COUNT.false ∙ room_none _)
-    (raise-on _ _ _ _ _ r.raise.ensures (raise-on _ _ _ _ _ c.raise-2.ensures (raise_none _)))
-    ∙ the-slots e.before.before.before.before.before.before.before.before.before.before.before.before
+    let e = c.before.before.before.before.before.before.before.before.before.before.before.before in
+    all_raised _ _ _ (room_yes _ _ _ c.if-h-m-ge-MOST_COUNT.false ∙ room_yes _ _ _ c.if-h-n-ge-MOST_COUNT.false ∙ room_none _)
+    (raise-on _ _ _ _ _ c.raise.ensures (raise-on _ _ _ _ _ c.raise-2.ensures (raise_none _)))
+    ∙ the-slots e
 
 pub raise_two_spec : {M : Type 1} → statement M
 raise_two_spec =

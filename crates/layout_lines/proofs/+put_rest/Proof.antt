@@ -87,8 +87,8 @@ module _ (t : ℕ) where
   -- what is listed past a block without an end, at the last block, and at another that is an end
   passes : (c : lts.Else-i-rules (claims t) (at t) put-rest.Post) → (let x = place (start c.before.before.before.before) in followed x ≡ followed (later x))
   passes c =
-      let g = c in
-      passed_over (place (start g.before.before.before.before)) (short g.before.before.before.before) (more g.before.before.before.before c.if-i-rules.false).0 (c.if-not-fits-i.true)
+      let g = c.before.before.before.before in
+      passed_over (place (start g)) (short g) (more g c.if-i-rules.false).0 (c.if-not-fits-i.true)
 
   flag : (c : Chosen) → (let a = (start (goes_at c)).args in get_or a.fits.now a.i false ≡ true)
   flag c = c.if-not-fits-i.false
@@ -99,102 +99,90 @@ module _ (t : ℕ) where
   goes_on_here : (c : lts.Else-i-rules-2 (claims t) (at t) put-rest.Post)
       → (let x = place (start (goes_at c.before.before.before.before)) in followed x ≡ map (λ (es : List ℕ). x.i ∷ es) (followed (behind x)) ++ followed (later x))
   goes_on_here c =
-      let d = c in
-      let g = goes_at d.before.before.before.before in
-      chosen_or_not (place (start g)) (short g) (more g c.if-i-rules-2.false).0 (flag d.before.before.before.before)
+      let d = c.before.before.before.before in
+      let g = goes_at d in
+      chosen_or_not (place (start g)) (short g) (more g c.if-i-rules-2.false).0 (flag d)
 
   -- the row is as long as it was
   row-long : (c : lts.After-put_rest-e (claims t) (at t) put-rest.Post) → 132 ≤ length c.put_rest-e.new.row
   row-long c =
-      let d = c in
       let same = c.put_rest-e.auto.row in
-      omega (arith, d.choose-next.ensures.carrying.room, same)
+      omega (arith, c.choose-next.ensures.carrying.room, same)
 
   returns : lts.Need-returns-then-not-goes_on (claims t) (at t) put-rest.Post
   returns c = let x = place c.before.before.before.before.before.before in none_put x _ _ _ _ _ (stops x (sym c.goes_on.ensures ∙ c.if-not-goes_on.true))
 
   returns-2 : lts.Need-returns-then-i-rules (claims t) (at t) put-rest.Post
-  returns-2 c = let g = c in let x = place (start g.before.before.before.before) in none_put x _ _ _ _ _ (no_end x (short g.before.before.before.before) c.if-i-rules.true (c.if-not-fits-i.true))
+  returns-2 c = let g = c.before.before.before.before in let x = place (start g) in none_put x _ _ _ _ _ (no_end x (short g) c.if-i-rules.true (c.if-not-fits-i.true))
 
   put-rest-requires : lts.Need-put_rest-requires (claims t) (at t) put-rest.Post
   put-rest-requires c κs =
-      let e = c in
-      let g = e in
-      let m = more g.before.before.before.before.before.before e.if-i-rules.false in
-      (m.1, (holds g.before.before.before.before.before.before, ((choosing_later (choosing g.before.before.before.before.before.before) m.0, carrying g.before.before.before.before.before.before), passed_room (place (start g.before.before.before.before.before.before)) _ _ _ _ (start g.before.before.before.before.before.before).args.text.now (passes e.before.before) (start g.before.before.before.before.before.before).requires.1.1.1)))
+      let g = c.before.before.before.before.before.before in
+      let m = more g c.if-i-rules.false in
+      (m.1, (holds g, ((choosing_later (choosing g) m.0, carrying g), passed_room (place (start g)) _ _ _ _ (start g).args.text.now (passes c.before.before) (start g).requires.1.1.1)))
 
   returns-3 : lts.Need-returns-then-not-fits-i (claims t) (at t) put-rest.Post
   returns-3 c =
-      let r = c in
-      let e = r in
-      passed_put (place (start e.before.before.before.before.before.before.before.before.before.before.before)) _ _ _ _ _ (passes e.before.before.before.before.before.before.before) r.put_rest.ensures
+      let e = c.before.before.before.before.before.before.before in
+      passed_put (place (start e.before.before.before.before)) _ _ _ _ _ (passes e) c.put_rest.ensures
 
   choose-requires : lts.Need-choose-next-requires (claims t) (at t) put-rest.Post
   choose-requires c κs =
-      let g = c in
-      let k = choosing g.before.before.before in
-      (holds_less _ _ _ (holds g.before.before.before) (omega (arith, k.inside)), (k.first, omega (arith, k.few, k.inside), omega (arith, k.few, k.inside, k.first, k.count), carrying g.before.before.before))
+      let g = c.before.before.before in
+      let k = choosing g in
+      (holds_less _ _ _ (holds g) (omega (arith, k.inside)), (k.first, omega (arith, k.few, k.inside), omega (arith, k.few, k.inside, k.first, k.count), carrying g))
 
   put-line-requires : lts.Need-put_line-requires (claims t) (at t) put-rest.Post
   put-line-requires c κs =
-      let e = c in
-      let d = e in
-      let g = goes_at d.before.before.before.before.before in
+      let d = c.before.before.before.before.before in
+      let g = goes_at d in
       let k = choosing g in (
         omega (arith, k.few, k.inside, k.first, k.count),
-        d.choose-next.ensures.carrying,
-        last_room (place (start g)) _ _ _ _ (start g).args.text.now d.choose-next.ensures (row_room g) (ends d.before.before.before.before.before e.if-i-rules-2.true) (front-size g) (start g).requires.1.1.1,
+        c.choose-next.ensures.carrying,
+        last_room (place (start g)) _ _ _ _ (start g).args.text.now c.choose-next.ensures (row_room g) (ends d c.if-i-rules-2.true) (front-size g) (start g).requires.1.1.1,
       )
 
   returns-4 : lts.Need-returns-then-i-rules-2 (claims t) (at t) put-rest.Post
   returns-4 c =
-      let r = c in
-      let e = r in
-      let d = e in
-      let g = goes_at d.before.before.before.before.before.before.before.before in
-      last_put (place (start g)) _ _ _ _ _ d.choose-next.ensures (row_room g) (ends d.before.before.before.before.before.before.before.before e.if-i-rules-2.true) r.put_line.ensures
+      let d = c.before.before.before.before.before.before.before.before in
+      let g = goes_at d in
+      last_put (place (start g)) _ _ _ _ _ c.choose-next.ensures (row_room g) (ends d c.if-i-rules-2.true) c.put_line.ensures
 
   put-rest-requires-2 : lts.Need-put_rest-e-requires (claims t) (at t) put-rest.Post
   put-rest-requires-2 c κs =
-      let e = c in
-      let d = e in
-      let g = goes_at d.before.before.before.before.before.before in
-      let m = more g e.if-i-rules-2.false in (
+      let d = c.before.before.before.before.before.before in
+      let g = goes_at d in
+      let m = more g c.if-i-rules-2.false in (
         m.1,
         (
           holds g,
           (
-            (choosing_behind (choosing g) m.0, d.choose-next.ensures.carrying),
-            here_room (place (start g)) _ _ _ _ (start g).args.text.now d.choose-next.ensures (row_room g) (goes_on_here e.before.before) (start g).requires.1.1.1,
+            (choosing_behind (choosing g) m.0, c.choose-next.ensures.carrying),
+            here_room (place (start g)) _ _ _ _ (start g).args.text.now c.choose-next.ensures (row_room g) (goes_on_here c.before.before) (start g).requires.1.1.1,
           ),
         ),
       )
 
   put-rest-requires-3 : lts.Need-put_rest-requires-2 (claims t) (at t) put-rest.Post
   put-rest-requires-3 c κs =
-      let r = c in
-      let e = r in
-      let d = e in
-      let g = goes_at d.before.before.before.before.before.before.before.before.before.before.before.before.before in
-      let m = more g e.if-i-rules-2.false in (
+      let d = c.before.before.before.before.before.before.before.before.before.before.before.before.before in
+      let g = goes_at d in
+      let m = more g c.if-i-rules-2.false in (
         m.1,
         (
           holds g,
           (
-            (choosing_later (choosing g) m.0, record { room = row-long r.before.before.before.before.before.before; high = (carrying g).high; low = (carrying g).low }),
-            past_room (place (start g)) _ _ _ _ _ d.choose-next.ensures (row_room g) (goes_on_here e.before.before.before.before.before.before.before.before.before) (start g).requires.1.1.1 r.put_rest-e.ensures,
+            (choosing_later (choosing g) m.0, record { room = row-long c.before.before.before.before.before.before; high = (carrying g).high; low = (carrying g).low }),
+            past_room (place (start g)) _ _ _ _ _ c.choose-next.ensures (row_room g) (goes_on_here c.before.before.before.before.before.before.before.before.before) (start g).requires.1.1.1 c.put_rest-e.ensures,
           ),
         ),
       )
 
   returns-5 : lts.Need-returns (claims t) (at t) put-rest.Post
   returns-5 c =
-      let l = c in
-      let r = l in
-      let e = r in
-      let d = e in
-      let g = goes_at d.before.before.before.before.before.before.before.before.before.before.before.before.before.before.before.before.before.before in
-      both_put (place (start g)) _ _ _ _ _ d.choose-next.ensures (row_room g) (goes_on_here e.before.before.before.before.before.before.before.before.before.before.before.before.before.before) (start g).requires.1.1.1 r.put_rest-e.ensures l.put_rest-2.ensures
+      let d = c.before.before.before.before.before.before.before.before.before.before.before.before.before.before.before.before.before.before in
+      let g = goes_at d in
+      both_put (place (start g)) _ _ _ _ _ c.choose-next.ensures (row_room g) (goes_on_here c.before.before.before.before.before.before.before.before.before.before.before.before.before.before) (start g).requires.1.1.1 c.put_rest-e.ensures c.put_rest-2.ensures
 
 pub +put_rest_spec : {M : Type 1} → statement M
 +put_rest_spec = close μ λ t. lts.spec (claims t) (at t) put-rest.Post

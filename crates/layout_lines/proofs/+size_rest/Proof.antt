@@ -71,40 +71,38 @@ module _ (t : ℕ) where
   few-here : (c : lts.After-size_rest-later (claims t) (at t) size-rest.Post)
       → (let h = c.size_rest-here.result in let l = c.size_rest-later.result in (h.layouts + l.layouts ≤ 4096) × (h.bytes + l.bytes ≤ 671744))
   few-here c =
-      let e = c in
-      let g = goes_at e.before.before in
+      let e = c.before.before in
+      let g = goes_at e in
       let x = place (start g) in
-      let m = (more g e.if-i-rules-2.false).0 in
+      let m = (more g c.if-i-rules-2.false).0 in
       let h = few_sized (behind x) (choosing_behind (choosing g) m) c.size_rest-here.ensures in
       let l = few_sized (later x) (choosing_later (choosing g) m) c.size_rest-later.ensures in
       (omega arith, omega arith)
 
   returns : lts.Need-returns-then-not-goes_on (claims t) (at t) size-rest.Post
   returns c =
-      let g = c in
-      let x = place g.before.before.before.before in
-      sized_none c.nothing.ensures.0 c.nothing.ensures.1 (stops x (sym g.goes_on.ensures ∙ c.if-not-goes_on.true))
+      let g = c.before.before.before.before in
+      let x = place g in
+      sized_none c.nothing.ensures.0 c.nothing.ensures.1 (stops x (sym c.goes_on.ensures ∙ c.if-not-goes_on.true))
 
   returns-2 : lts.Need-returns-then-i-rules (claims t) (at t) size-rest.Post
   returns-2 c =
-      let f = c in
-      sized_none c.nothing-then-i-rules.ensures.0 c.nothing-then-i-rules.ensures.1 (no_end (place (start f.before.before.before.before.before)) (short f.before.before.before.before.before) c.if-i-rules.true (f.if-not-fits-i.true))
+      let f = c.before.before.before.before.before in
+      sized_none c.nothing-then-i-rules.ensures.0 c.nothing-then-i-rules.ensures.1 (no_end (place (start f)) (short f) c.if-i-rules.true (c.if-not-fits-i.true))
 
   size-rest-requires : lts.Need-size_rest-requires (claims t) (at t) size-rest.Post
-  size-rest-requires c κs = let g = c in let m = more g.before.before.before.before c.if-i-rules.false in (m.1, choosing_later (choosing g.before.before.before.before) m.0)
+  size-rest-requires c κs = let g = c.before.before.before.before in let m = more g c.if-i-rules.false in (m.1, choosing_later (choosing g) m.0)
 
   returns-3 : lts.Need-returns-then-not-fits-i (claims t) (at t) size-rest.Post
   returns-3 c =
-      let f = c in
-      let g = f in
-      sized_as c.size_rest.ensures (passed_over (place (start g.before.before.before.before.before)) (short g.before.before.before.before.before) (more g.before.before.before.before.before c.if-i-rules.false).0 (f.if-not-fits-i.true))
+      let g = c.before.before.before.before.before in
+      sized_as c.size_rest.ensures (passed_over (place (start g)) (short g) (more g c.if-i-rules.false).0 (c.if-not-fits-i.true))
 
   returns-4 : lts.Need-returns-then-i-rules-2 (claims t) (at t) size-rest.Post
   returns-4 c =
-      let f = c in
-      let g = f in
+      let g = c.before.before.before.before.before in
       sized_one c.one_of.ensures.0 c.one_of.ensures.1
-      (last_end (place (start g.before.before.before.before.before)) (short g.before.before.before.before.before) c.if-i-rules-2.true (more_fit (place (start g.before.before.before.before.before)) (goes g.before.before.before.before.before)) (f.if-not-fits-i.false))
+      (last_end (place (start g)) (short g) c.if-i-rules-2.true (more_fit (place (start g)) (goes g)) (c.if-not-fits-i.false))
 
   size-rest-requires-2 : lts.Need-size_rest-here-requires (claims t) (at t) size-rest.Post
   size-rest-requires-2 c κs = let g = goes_at c in let m = more g c.if-i-rules-2.false in (m.1, choosing_behind (choosing g) m.0)
@@ -114,11 +112,10 @@ module _ (t : ℕ) where
 
   returns-5 : lts.Need-returns (claims t) (at t) size-rest.Post
   returns-5 c =
-      let l = c in
-      let e = l in
-      let g = goes_at e.before.before.before.before.before.before in
-      sized_both (place (start g)).i l.size_rest-here.ensures l.size_rest-later.ensures
-      (chosen_or_not (place (start g)) (short g) (more g e.if-i-rules-2.false).0 (e.if-not-fits-i.false))
+      let e = c.before.before.before.before.before.before in
+      let g = goes_at e in
+      sized_both (place (start g)).i c.size_rest-here.ensures c.size_rest-later.ensures
+      (chosen_or_not (place (start g)) (short g) (more g c.if-i-rules-2.false).0 (c.if-not-fits-i.false))
 
 pub +size_rest_spec : {M : Type 1} → statement M
 +size_rest_spec = close μ λ t. lts.spec (claims t) (at t) size-rest.Post

@@ -6,8 +6,7 @@ use Rattle.layout_lines.proofs.put_all.Tie as tie
 
 put-rest-requires : tie.Need-put_rest-requires
 put-rest-requires c κs =
-    let s = c in
-    (s.requires.0, ((s.requires.1.0, record { room = search rules; high = omega arith; low = omega arith }), omega (arith, s.requires.1.1)))
+    (c.requires.0, ((c.requires.1.0, record { room = search rules; high = omega arith; low = omega arith }), omega (arith, c.requires.1.1)))
 
 pub put_all_spec : {M : Type 1} → statement M
 put_all_spec = tie.close (tie.spec (λ c. search rules) put-rest-requires (λ c. search rules) (λ c. search rules))

@@ -46,9 +46,9 @@ slice-aggregate-put-bytes c = sym (ends-size (start c.before.before.before))
 
 put-bytes-requires : tie.Need-put_bytes-e-requires
 put-bytes-requires c κs =
-    let d = c in
-    let s = start d.before.before.before in
-    ends_room s.args.at s.args.k (sub_ℕ s.args.number (2 ^ 60)) (ends s) s.args.text.now _ _ [] 0 (count-put d.before.before.before).put_number.ensures (cost-put d.before.before.before) (room s)
+    let d = c.before.before.before in
+    let s = start d in
+    ends_room s.args.at s.args.k (sub_ℕ s.args.number (2 ^ 60)) (ends s) s.args.text.now _ _ [] 0 (count-put d).put_number.ensures (cost-put d) (room s)
 
 -- what the line is, once its ends are written
 wrote : (c : tie.After-put_bytes-e) → (let s = start c.before.before.before.before in
@@ -57,14 +57,14 @@ wrote : (c : tie.After-put_bytes-e) → (let s = start c.before.before.before.be
     × Wrote s.args.text.now s.args.at (number_field s.args.k ++ (signed_field (sub_ℕ s.args.number (2 ^ 60)) ++ (ends s ++ line_end ∷ [])))
     (set c.put_bytes-e.new.text c.put_bytes-e.result line_end) (c.put_bytes-e.result + 1))
 wrote c =
-    let d = c in
-    let s = start d.before.before.before.before in
+    let d = c.before.before.before.before in
+    let s = start d in
     let z = sub_ℕ s.args.number (2 ^ 60) in
-    let p = (count-put d.before.before.before.before).put_number.ensures in
+    let p = (count-put d).put_number.ensures in
     let w = c.put_bytes-e.ensures in (
-      byte_room s.args.at s.args.k z (ends s) s.args.text.now _ _ _ _ p (cost-put d.before.before.before.before) (room s) w,
-      line_size s.args.at s.args.k z (ends s) s.args.text.now _ _ _ _ p (cost-put d.before.before.before.before) (room s) w,
-      line_wrote s.args.at s.args.k z (ends s) s.args.text.now _ _ _ _ p (cost-put d.before.before.before.before) (room s) w,
+      byte_room s.args.at s.args.k z (ends s) s.args.text.now _ _ _ _ p (cost-put d) (room s) w,
+      line_size s.args.at s.args.k z (ends s) s.args.text.now _ _ _ _ p (cost-put d) (room s) w,
+      line_wrote s.args.at s.args.k z (ends s) s.args.text.now _ _ _ _ p (cost-put d) (room s) w,
     )
 
 slice-write-text : tie.Need-bounds-text-e

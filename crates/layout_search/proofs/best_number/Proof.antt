@@ -41,14 +41,13 @@ found c h =
 
 least-requires : tie.Need-least-m-requires
 least-requires c κs =
-    let s = c in
-    let a = s.args in
-    let g = s.requires.1 in
-    let p = local_place a.n a.a (omega arith) s.requires.0.few in
+    let a = c.args in
+    let g = c.requires.1 in
+    let p = local_place a.n a.a (omega arith) c.requires.0.few in
     let index = c.local_index-at.ensures in
     let limit = c.end_limit.ensures in
-    let small = all_small a.sums.now a.fits.now a.longest a.n a.k a.a a.table.now a.tails.now s.requires.0 g.0.0 g.0.1 g.1.0 g.1.1 in
-    (omega (arith, p, index, limit, s.requires.0.few, g.1.1.room), rw (index, limit) small)
+    let small = all_small a.sums.now a.fits.now a.longest a.n a.k a.a a.table.now a.tails.now c.requires.0 g.0.0 g.0.1 g.1.0 g.1.1 in
+    (omega (arith, p, index, limit, c.requires.0.few, g.1.1.room), rw (index, limit) small)
 
 returns : tie.Need-returns-then-m-ge-NONE
 returns c =
@@ -79,16 +78,16 @@ add-result : tie.Need-overflow_add-result
 add-result c = omega (arith, c.times-saved.ensures.1, c.if-m-ge-NONE.false)
 
 sub-result : tie.Need-overflow_sub-result
-sub-result c = let e = c in omega (arith, products c, (found e.before.before.before.before.before e.if-m-ge-NONE.false).1)
+sub-result c = let e = c.before.before.before.before.before in omega (arith, products c, (found e c.if-m-ge-NONE.false).1)
 
 sub-result-2 : tie.Need-overflow_sub-result-2
-sub-result-2 c = let e = c in omega (arith, products c, (found e.before.before.before.before.before e.if-m-ge-NONE.false).1)
+sub-result-2 c = let e = c.before.before.before.before.before in omega (arith, products c, (found e c.if-m-ge-NONE.false).1)
 
 returns-2 : tie.Need-returns
 returns-2 c =
-    let e = c in
+    let e = c.before.before.before.before.before in
     let p = products c in
-    rw (p.0, p.1) (found e.before.before.before.before.before e.if-m-ge-NONE.false).0
+    rw (p.0, p.1) (found e c.if-m-ge-NONE.false).0
 
 pub best_number_spec : {M : Type 1} → statement M
 best_number_spec =

@@ -18,8 +18,7 @@ returns c =
 
 returns-2 : tie.Need-returns-then-y-ge-NONE
 returns-2 c =
-    let s = c in
-    offer_no_rest _ _ _ _ _ _ (s.requires.1.1 (s.args.e + 1) (omega arith)) (omega (arith, c.entry-y.ensures)) refl
+    offer_no_rest _ _ _ _ _ _ (c.requires.1.1 (c.args.e + 1) (omega arith)) (omega (arith, c.entry-y.ensures)) refl
 
 price-requires : tie.Need-price-requires
 price-requires c κs =
@@ -29,8 +28,7 @@ price-requires c κs =
 sub-result : tie.Need-overflow_sub-result
 sub-result c =
     let entry = c.entry-y in
-    let s = c in
-    let b = (s.requires.1.1 (s.args.e + 1) (omega arith)).near (omega (arith, entry.ensures)) in
+    let b = (c.requires.1.1 (c.args.e + 1) (omega arith)).near (omega (arith, entry.ensures)) in
     omega (arith, entry.ensures, c.price.ensures)
 
 returns-3 : tie.Need-returns
@@ -38,10 +36,9 @@ returns-3 c =
     let partition-ok = c.partition_ok in
     let if1 = c.if-not-partition_ok in
     let entry = c.entry-y in
-    let s = c in
-    let b = s.requires.1.1 (s.args.e + 1) (omega arith) in
+    let b = c.requires.1.1 (c.args.e + 1) (omega arith) in
     let g = b.near (omega (arith, entry.ensures)) in
-    let p = priced_as _ _ _ _ (s.args.k + 1) _ (omega arith) c.price.ensures in
+    let p = priced_as _ _ _ _ (c.args.k + 1) _ (omega arith) c.price.ensures in
     offered
     (record {
       start = omega arith;
@@ -52,7 +49,7 @@ returns-3 c =
       is = omega (arith, p.is, p.up, p.down, entry.ensures);
       up = p.up;
       down = p.down;
-      blocks = s.requires.0.few;
+      blocks = c.requires.0.few;
     })
 
 pub candidate_spec : {M : Type 1} → statement M

@@ -39,44 +39,38 @@ least c =
 
 entry-requires : tie.Need-entry-m-requires
 entry-requires c κs =
-    let f = c in
-    let few = (limited f).lesser-top.ensures in
-    let n = (at-start f).args.n in
-    let inside = f.fewest-k.ensures.inside in
-    omega (arith, rows_below n f.fewest-k.result n (omega (arith, inside, few)), inside, few, (filled f).fill.auto.table)
+    let few = (limited c).lesser-top.ensures in
+    let n = (at-start c).args.n in
+    let inside = c.fewest-k.ensures.inside in
+    omega (arith, rows_below n c.fewest-k.result n (omega (arith, inside, few)), inside, few, (filled c).fill.auto.table)
 
 returns : tie.Need-returns-then-m-ge-NONE
 returns c =
-    let e = c in
-    let f = e in
-    answered_nothing _ _ _ _ _ (at-start f.before.before.before).args.out.now (least f.before.before.before) _ (omega (arith, e.entry-m.ensures)) c.refused.ensures
+    let f = c.before.before.before in
+    answered_nothing _ _ _ _ _ (at-start f).args.out.now (least f) _ (omega (arith, c.entry-m.ensures)) c.refused.ensures
 
 returns-2 : tie.Need-returns-then-out-k
 returns-2 c =
-    let e = c in
-    let f = e in
-    answered_tight _ _ _ _ _ (at-start f.before.before.before.before).args.out.now (least f.before.before.before.before) _ (omega (arith, e.entry-m.ensures)) (omega arith) c.refused-then-out-k.ensures
+    let f = c.before.before.before.before in
+    answered_tight _ _ _ _ _ (at-start f).args.out.now (least f) _ (omega (arith, c.entry-m.ensures)) (omega arith) c.refused-then-out-k.ensures
 
 write-ends-requires : tie.Need-write_ends-requires
 write-ends-requires c κs =
-    let e = c in
-    let f = e in
-    let s = at-start f.before.before.before.before in
-    let x = f.fewest-k.ensures.inside in (
+    let f = c.before.before.before.before in
+    let s = at-start f in
+    let x = c.fewest-k.ensures.inside in (
       s.requires.0,
       (
-        omega (arith, x, s.requires.1, (limited f.before.before.before.before).lesser-top.ensures, (filled f.before.before.before.before).fill.auto.table),
-        (λ j h. (filled f.before.before.before.before).fill.ensures j (omega (arith, x)), omega (arith, e.entry-m.ensures)),
+        omega (arith, x, s.requires.1, (limited f).lesser-top.ensures, (filled f).fill.auto.table),
+        (λ j h. (filled f).fill.ensures j (omega (arith, x)), omega (arith, c.entry-m.ensures)),
       ),
     )
 
 returns-3 : tie.Need-returns
 returns-3 c =
-    let w = c in
-    let e = w in
-    let f = e in
-    answered_found _ _ _ _ _ (at-start f.before.before.before.before.before.before.before.before).args.out.now (least f.before.before.before.before.before.before.before.before) _ _ _ (omega arith) w.write_ends.ensures
-    (held-cost e.entry-m.result (omega arith) _ c.unbiased-cost.ensures ∙ ap (λ (v : ℕ). sub_ℕ v (2 ^ 60)) e.entry-m.ensures) refl
+    let f = c.before.before.before.before.before.before.before.before in
+    answered_found _ _ _ _ _ (at-start f).args.out.now (least f) _ _ _ (omega arith) c.write_ends.ensures
+    (held-cost c.entry-m.result (omega arith) _ c.unbiased-cost.ensures ∙ ap (λ (v : ℕ). sub_ℕ v (2 ^ 60)) c.entry-m.ensures) refl
 
 pub cheapest_spec : {M : Type 1} → statement M
 cheapest_spec =

@@ -30,9 +30,8 @@ slice-aggregate-fill-row c = omega (arith, c.loop-k.invariant.4)
 
 fill-row-requires : tie.Need-fill_row-requires invariant-loop decreases-loop
 fill-row-requires c κs =
-    let s = c in
     let l = c.loop-k in
-    (s.requires.0, (omega (arith, l.invariant.1, l.invariant.4, s.requires.0.few), (l.invariant.3, l.invariant.2 l.k (omega arith))))
+    (c.requires.0, (omega (arith, l.invariant.1, l.invariant.4, c.requires.0.few), (l.invariant.3, l.invariant.2 l.k (omega arith))))
 
 add-k : tie.Need-overflow_add-k invariant-loop decreases-loop
 add-k c = omega arith

@@ -19,8 +19,7 @@ loop-holds c = (omega arith, refl, λ b e u v w. absurd (omega (arith, u)))
 
 fill-local-row-requires : tie.Need-fill_local_row-requires invariant-loop decreases-loop
 fill-local-row-requires c κs =
-    let s = c in
-    (s.requires.0, omega (arith, c.loop-a.invariant.1))
+    (c.requires.0, omega (arith, c.loop-a.invariant.1))
 
 add_a : tie.Need-overflow_add-a invariant-loop decreases-loop
 add_a c = omega arith

@@ -36,7 +36,7 @@ loop-holds : tie.Need-loop-e-init invariant-loop decreases-loop
 loop-holds c = (omega arith, omega arith, local_start _ _ _ _)
 
 local-price-requires : tie.Need-local_price-x-requires invariant-loop decreases-loop
-local-price-requires c κs = let s = c in (holds_less _ _ _ s.requires.0 (omega arith), omega arith)
+local-price-requires c κs = (holds_less _ _ _ c.requires.0 (omega arith), omega arith)
 
 add-table : tie.Need-overflow_add-table invariant-loop decreases-loop
 add-table c = omega (arith, place c, c.local_index-at.ensures)
@@ -63,9 +63,8 @@ same_length c = c.loop-e.invariant.2.long
 
 returns : tie.Need-returns invariant-loop decreases-loop
 returns c =
-    let s = c in
     let l = c.loop-e in
-    let x : l.e ≡ s.args.n = omega arith in
+    let x : l.e ≡ c.args.n = omega arith in
     rw x at l.invariant.2
 
 pub fill_local_row_spec : {M : Type 1} → statement M

@@ -35,18 +35,17 @@ inside c =
 
 fill-tails-requires : tie.Need-fill_tails-requires invariant-loop decreases-loop
 fill-tails-requires c κs =
-    let s = c in
-    (s.requires.0, (omega (arith, rows_below s.args.n s.args.k s.args.n (omega arith)), s.requires.1.1.1))
+    (c.requires.0, (omega (arith, rows_below c.args.n c.args.k c.args.n (omega arith)), c.requires.1.1.1))
 
 loop-holds : tie.Need-loop-a-init invariant-loop decreases-loop
 loop-holds c = filling_start _ _ _
 
 best-number-requires : tie.Need-best_number-x-requires invariant-loop decreases-loop
 best-number-requires c κs =
-    let l = c in
-    let s = at-start l.before in
-    let kept = l.loop-a.invariant.kept in
-    (s.requires.0, (omega (arith, kept.long), (locals_kept _ _ _ _ _ kept s.requires.1.1.0, (tailed l.before).fill_tails.ensures)))
+    let l = c.before in
+    let s = at-start l in
+    let kept = c.loop-a.invariant.kept in
+    (s.requires.0, (omega (arith, kept.long), (locals_kept _ _ _ _ _ kept s.requires.1.1.0, (tailed l).fill_tails.ensures)))
 
 index-requires : tie.Need-index-at-requires invariant-loop decreases-loop
 index-requires c κs = omega (arith, (at-start c.before.before).requires.0.few)

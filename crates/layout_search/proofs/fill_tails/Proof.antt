@@ -20,7 +20,7 @@ loop-holds : tie.Need-loop-e-init invariant-loop decreases-loop
 loop-holds c = (omega arith, refl, tails_start _ _ _ _ _ (omega arith))
 
 tail-requires : tie.Need-tail-x-requires invariant-loop decreases-loop
-tail-requires c κs = let s = c in (s.requires.0, (omega arith, s.requires.1.1))
+tail-requires c κs = (c.requires.0, (omega arith, c.requires.1.1))
 
 mul-tails : tie.Need-offset_bounds-tails-e invariant-loop decreases-loop
 mul-tails c = omega arith
@@ -48,9 +48,8 @@ same_length c = c.loop-e.invariant.1
 
 returns : tie.Need-returns invariant-loop decreases-loop
 returns c =
-    let s = c in
     let l = c.loop-e in
-    let x : l.e ≡ s.args.n = omega arith in
+    let x : l.e ≡ c.args.n = omega arith in
     rw x at l.invariant.2
 
 pub fill_tails_spec : {M : Type 1} → statement M

@@ -55,25 +55,20 @@ loop-less c = omega arith
 
 loop-again : tie.Need-loop-e-preserved invariant-loop decreases-loop
 loop-again c =
-    let z = c in
-    let y = z in
-    let x = y in
-    let w = x in
-    let v = w.loop-e.invariant in
+    let v = c.loop-e.invariant in
     let right = c.smaller-in-loop-e-2.ensures in
     let left = c.smaller.ensures in
     let last = c.smaller-in-loop-e.ensures in (
       omega arith,
       omega arith,
-      least_four _ _ _ _ _ _ _ _ _ v.0 v.2 w.joined-w.ensures x.joined-x.ensures y.joined-y.ensures z.joined-z.ensures
+      least_four _ _ _ _ _ _ _ _ _ v.0 v.2 c.joined-w.ensures c.joined-x.ensures c.joined-y.ensures c.joined-z.ensures
           (c.smaller-m.ensures ∙ ap (min _) (right ∙ ap₂ min left last)),
     )
 
 least-of-rest-requires : tie.Need-least_of_rest-requires invariant-loop decreases-loop
 least-of-rest-requires c κs =
-    let s = c in
     let v = c.loop-e.invariant in
-    (omega arith, ((omega arith, omega arith, s.requires.1), v.2))
+    (omega arith, ((omega arith, omega arith, c.requires.1), v.2))
 
 pub least_spec : {M : Type 1} → statement M
 least_spec =

@@ -15,13 +15,12 @@ abbrev decreases-loop : tie.decreases-loop-e
 decreases-loop tails table at start from limit m low₀ e₀ low e = limit - e
 
 loop-holds : tie.Need-loop-e-init invariant-loop decreases-loop
-loop-holds c = let s = c in (omega arith, omega arith, s.requires.1.1)
+loop-holds c = (omega arith, omega arith, c.requires.1.1)
 
 joined-requires : tie.Need-joined-requires invariant-loop decreases-loop
 joined-requires c κs =
-    let s = c in
     let e = c.loop-e.e in
-    let small = s.requires.1.0.2 in
+    let small = c.requires.1.0.2 in
     (omega arith, (small.tail e (omega arith) (omega arith), small.price e (omega arith) (omega arith)))
 
 add-e : tie.Need-overflow_add-e invariant-loop decreases-loop

@@ -10,15 +10,10 @@ use Rattle.layout_search.proofs.local_price.Tie as tie
 
 returns : tie.Need-returns
 returns c =
-    let after = c in
-    let weighted = after in
-    let before = weighted in
-    let fixed = before in
-    let s = fixed in
-    let a = s.args in
-    local_price_is a.sums.now (a.e + 1) s.requires.0 a.a a.e s.requires.1 (omega arith) after.times-after.result before.times-before.result _
-    (product_is _ _ _ _ _ after.times-after.ensures.0 after.sum_over-2.ensures.0 refl) (product_is _ _ _ _ _ before.times-before.ensures.0 before.sum_over.ensures.0 refl)
-    after.times-after.ensures.1 before.times-before.ensures.1 (rw (fixed.sum_over-fixed.ensures.0, weighted.sum_over-weighted_before.ensures.0, c.sum_over-weighted_after.ensures.0) refl)
+    let a = c.args in
+    local_price_is a.sums.now (a.e + 1) c.requires.0 a.a a.e c.requires.1 (omega arith) c.times-after.result c.times-before.result _
+    (product_is _ _ _ _ _ c.times-after.ensures.0 c.sum_over-2.ensures.0 refl) (product_is _ _ _ _ _ c.times-before.ensures.0 c.sum_over.ensures.0 refl)
+    c.times-after.ensures.1 c.times-before.ensures.1 (rw (c.sum_over-fixed.ensures.0, c.sum_over-weighted_before.ensures.0, c.sum_over-weighted_after.ensures.0) refl)
 
 pub local_price_spec : {M : Type 1} → statement M
 local_price_spec =

@@ -9,17 +9,14 @@ use Rattle.layout_search.proofs.price.Tie as tie
 
 returns : tie.Need-returns
 returns c =
-    let saved = c in
-    let added = saved in
-    let s = added in
-    let a = s.args in
+    let a = c.args in
     let f = c.local_price.ensures in
-    let u = product_is _ _ _ _ _ added.times-added.ensures.0 added.sum_over.ensures.0 refl in
-    let d = product_is _ _ _ _ _ saved.times-saved.ensures.0 saved.sum_over-2.ensures.0 refl in
+    let u = product_is _ _ _ _ _ c.times-added.ensures.0 c.sum_over.ensures.0 refl in
+    let d = product_is _ _ _ _ _ c.times-saved.ensures.0 c.sum_over-2.ensures.0 refl in
     record {
-      is = omega (arith, f.added a.k, f.saved a.k, f.low, u, d, saved.times-saved.ensures.1);
-      down = saved_most a.sums.now (a.e + 1) s.requires.0 a.a a.e s.requires.1.0 (omega arith) a.k s.requires.1.1;
-      up = span_most a.sums.now (a.e + 1) s.requires.0 a.a a.e s.requires.1.0 (omega arith) a.k s.requires.1.1;
+      is = omega (arith, f.added a.k, f.saved a.k, f.low, u, d, c.times-saved.ensures.1);
+      down = saved_most a.sums.now (a.e + 1) c.requires.0 a.a a.e c.requires.1.0 (omega arith) a.k c.requires.1.1;
+      up = span_most a.sums.now (a.e + 1) c.requires.0 a.a a.e c.requires.1.0 (omega arith) a.k c.requires.1.1;
     }
 
 pub price_spec : {M : Type 1} → statement M

@@ -14,15 +14,13 @@ past c = let a = c.args in sum_as a.sums.now a.q _ (a.e + 1) _ c.sum_at.ensures 
 
 sub-result : tie.Need-overflow_sub-result
 sub-result c =
-    let s = c in
-    let a = s.args in
-    omega (arith, past c, rises a.sums.now (a.e + 1) s.requires.0.rising a.q a.a a.e (omega arith) (omega arith) (omega arith))
+    let a = c.args in
+    omega (arith, past c, rises a.sums.now (a.e + 1) c.requires.0.rising a.q a.a a.e (omega arith) (omega arith) (omega arith))
 
 returns : tie.Need-returns
 returns c =
-    let s = c in
-    let a = s.args in
-    (omega (arith, past c), omega (arith, past c, sum_small a.sums.now (a.e + 1) s.requires.0 a.q (a.e + 1) (omega arith) (omega arith)))
+    let a = c.args in
+    (omega (arith, past c), omega (arith, past c, sum_small a.sums.now (a.e + 1) c.requires.0 a.q (a.e + 1) (omega arith) (omega arith)))
 
 pub sum_over_spec : {M : Type 1} → statement M
 sum_over_spec = tie.close (tie.spec (λ c. search rules) (λ c κs. search rules) (λ c κs. search rules) sub-result returns)

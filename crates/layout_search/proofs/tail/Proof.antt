@@ -34,9 +34,8 @@ returns c =
 
 returns-2 : tie.Need-returns-then-y-ge-NONE
 returns-2 c =
-    let s = c in
-    let a = s.args in
-    tail_no_rest a.sums.now a.fits.now a.longest a.n a.k a.e _ _ (s.requires.1.1 (a.e + 1) (omega arith)) (omega (arith, c.entry-y.ensures)) refl
+    let a = c.args in
+    tail_no_rest a.sums.now a.fits.now a.longest a.n a.k a.e _ _ (c.requires.1.1 (a.e + 1) (omega arith)) (omega (arith, c.entry-y.ensures)) refl
 
 times-requires : tie.Need-times-added-requires
 times-requires c κs =
@@ -56,10 +55,10 @@ sub-result c = omega (arith, rest-high c.before.before.before.before, c.times-sa
 
 returns-3 : tie.Need-returns
 returns-3 c =
-    let e = c in
+    let e = c.before.before.before.before in
     let u = product_is _ _ _ _ _ c.times-added.ensures.0 c.sum_at.ensures refl in
     let d = product_is _ _ _ _ _ c.times-saved.ensures.0 c.sum_at-2.ensures refl in
-    some_tail (rest e.before.before.before.before) (e.if-not-fits-e.false) (rest-best e.before.before.before.before) e.if-y-ge-NONE.false (omega (arith, u, d, rest-high e.before.before.before.before, c.times-saved.ensures.1))
+    some_tail (rest e) (c.if-not-fits-e.false) (rest-best e) c.if-y-ge-NONE.false (omega (arith, u, d, rest-high e, c.times-saved.ensures.1))
 
 pub tail_spec : {M : Type 1} → statement M
 tail_spec =

@@ -30,12 +30,11 @@ sub-best-of-2 c = omega arith
 
 best-of-requires : tie.Need-best_of-best-requires invariant-loop decreases-loop
 best-of-requires c κs =
-    let s = c in
     let l = c.loop-i in (
-      s.requires.0,
+      c.requires.0,
       (
-        omega (arith, rows_below s.args.n (s.args.k - l.i - 1) s.args.n (omega arith)),
-        s.requires.1.1.0 (s.args.k - l.i - 1) (omega arith),
+        omega (arith, rows_below c.args.n (c.args.k - l.i - 1) c.args.n (omega arith)),
+        c.requires.1.1.0 (c.args.k - l.i - 1) (omega arith),
       ),
     )
 
@@ -59,11 +58,10 @@ loop-less c = omega arith
 
 loop-again : tie.Need-loop-i-preserved invariant-loop decreases-loop
 loop-again c =
-    let b = c in
-    let v = b.loop-i.invariant in
-    let given = b.requires in
+    let v = c.loop-i.invariant in
+    let given = c.requires in
     walked_more _ _ _ _ _ _ _ _ v (omega arith) (omega arith)
-    (walked_first _ _ _ _ _ _ _ _ _ v b.loop-i-test.true given.1.1.0 b.best_of-best.ensures)
+    (walked_first _ _ _ _ _ _ _ _ _ v c.loop-i-test.true given.1.1.0 c.best_of-best.ensures)
 
 same_length : tie.Need-shape_of-out invariant-loop decreases-loop
 same_length c = c.loop-i.invariant.long

@@ -26,8 +26,8 @@ sizes c = passed _ c.judge_line-s.ensures c.if-s-ne0.false
 decided : (c : tie.After-sizes_ok) (b : Bool) → c.sizes_ok.result ≡ b
     → text_refusal b ≡ text_refusal (head_ok c.args.text.now)
 decided c b e =
-    let l = c in
-    head_decided _ (prices l.before.before.before.before.before.before.before) (limits l.before.before.before.before.before) (sizes l.before.before.before) _ _
+    let l = c.before.before.before in
+    head_decided _ (prices l.before.before.before.before) (limits l.before.before) (sizes l) _ _
     c.spelled_at-m.ensures c.spelled_at-q.ensures b (sym c.sizes_ok.ensures ∙ e)
 
 returns : tie.Need-returns-then-p-ne0

@@ -64,9 +64,8 @@ counted c = sizes c.before.before
 decided : (c : tie.Else-c-ne0) (b : Bool) → leb (length (text (counted c))) (stops (counted c)) ≡ b → text_refusal b ≡ text_refusal (week_ok (text (counted c)))
 decided c =
     let n = counted c in
-    let l = c in
     week_decided _ (first n.before.before) _ _ n.spelled_at-m.ensures n.spelled_at-q.ensures
-    (passed _ l.judge_lines-d.ensures l.if-d-ne0.false) (passed _ c.judge_calls-c.ensures c.if-c-ne0.false)
+    (passed _ c.judge_lines-d.ensures c.if-d-ne0.false) (passed _ c.judge_calls-c.ensures c.if-c-ne0.false)
 
 goes_on : (c : tie.Else-c-ne0) → stops (counted c) < length (text (counted c)) → 14 ≡ text_refusal (week_ok (text (counted c)))
 goes_on c h = decided c false (lt-leb _ _ h)

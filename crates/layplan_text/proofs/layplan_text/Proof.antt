@@ -85,9 +85,9 @@ answer-requires c κs = of_true _ (week (spelled c.before.before.before.before).
 
 returns-2 : tie.Need-returns
 returns-2 c =
-    let y = c in
-    let m = spelled y.before.before.before.before.before in
-    program_answers _ _ (week m.before) m.spelled_at-m.ensures _ _ _ (growers y.before.before.before.before.before).store.ensures (weights y.before.before.before.before.before).store-2.ensures (yields y.before.before.before.before.before).store-3.ensures _ c.answer.ensures
+    let y = c.before.before.before.before.before in
+    let m = spelled y in
+    program_answers _ _ (week m.before) m.spelled_at-m.ensures _ _ _ (growers y).store.ensures (weights y).store-2.ensures (yields y).store-3.ensures _ c.answer.ensures
 
 pub layplan_text_spec : {M : Type 1} → statement M
 layplan_text_spec =

@@ -51,9 +51,9 @@ planned-requires c κs =
 
 returns-2 : tie.Need-returns
 returns-2 c =
-    let here = c in
-    let p = prices here.before.before.before.before.before.before.before.before in
-    plan_prints block_limit _ _ _ p _ _ here.plan-p.ensures _ here.if-refusal-ne0.false
+    let here = c.before.before.before.before.before.before.before.before in
+    let p = prices here in
+    plan_prints block_limit _ _ _ p _ _ c.plan-p.ensures _ c.if-refusal-ne0.false
     (record { sfits = c.struct_told-1.given.1.1.0.1 }) c.planned.ensures
 
 pub plan_spec : {M : Type 1} → statement M

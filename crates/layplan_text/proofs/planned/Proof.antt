@@ -10,18 +10,15 @@ use Rattle.layplan_text.proofs.planned.Tie as tie
 
 put-ends-requires : tie.Need-put_ends-requires
 put-ends-requires c κs =
-    let s = c in
     let z = length-replicate {A = ℕ} output_size 0 in
-    let b = bill_put _ _ _ s.ranges.cost c.put_signed.ensures in
-    (ends_room s.args.cost s.args.ends.now (replicate output_size 0) _ _ z s.requires.0 c.put_number.ensures b, s.requires.1)
+    let b = bill_put _ _ _ c.ranges.cost c.put_signed.ensures in
+    (ends_room c.args.cost c.args.ends.now (replicate output_size 0) _ _ z c.requires.0 c.put_number.ensures b, c.requires.1)
 
 returns : tie.Need-returns
 returns c =
-    let put' = c in
-    let s = put' in
     let z = length-replicate {A = ℕ} output_size 0 in
-    let b = bill_put _ _ _ s.ranges.cost put'.put_signed.ensures in
-    output_is _ _ _ (plan_put _ _ _ _ _ z s.requires.0 put'.put_number.ensures b _ c.put_ends.ensures) (sym (length_ends_text _ _))
+    let b = bill_put _ _ _ c.ranges.cost c.put_signed.ensures in
+    output_is _ _ _ (plan_put _ _ _ _ _ z c.requires.0 c.put_number.ensures b _ c.put_ends.ensures) (sym (length_ends_text _ _))
 
 pub planned_spec : {M : Type 1} → statement M
 planned_spec =

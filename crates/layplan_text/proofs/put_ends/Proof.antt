@@ -18,8 +18,7 @@ loop-holds c = put_ends_start _ _ _ c.requires.0
 
 add-first : tie.Need-overflow_add-first invariant-loop decreases-loop
 add-first c =
-    let l = c in
-    omega (arith, l.requires.1 l.loop-i.i c.loop-i-test.true)
+    omega (arith, c.requires.1 c.loop-i.i c.loop-i-test.true)
 
 loop-again : tie.Need-loop-i-preserved invariant-loop decreases-loop
 loop-again c = put_ends_next c.loop-i-test.true c.loop-i.invariant c.put_two.ensures

@@ -28,25 +28,25 @@ spelled-at-requires-4 : tie.Need-spelled_at-c-requires
 spelled-at-requires-4 c κs = (five_fields _ _ c.requires.1).third
 
 returns : tie.Need-returns-then-kind-eq-FIND
-returns c = let b = c in found_at block_limit (four b.before.before.before.before.before) _ _ _ b.if-kind-eq-FIND.true c.record_find.ensures
+returns c = let b = c.before.before.before.before.before in found_at block_limit (four b) _ _ _ c.if-kind-eq-FIND.true c.record_find.ensures
 
 returns-2 : tie.Need-returns-then-kind-eq-RANGE
-returns-2 c = let b = c in ranged_at block_limit (four b.before.before.before.before.before.before) _ _ _ b.if-kind-eq-RANGE.true c.record_range.ensures
+returns-2 c = let b = c.before.before.before.before.before.before in ranged_at block_limit (four b) _ _ _ c.if-kind-eq-RANGE.true c.record_range.ensures
 
 returns-3 : tie.Need-returns-then-kind-eq-INSERT
-returns-3 c = let b = c in inserted-at block_limit (four b.before.before.before.before.before.before.before) _ _ _ b.if-kind-eq-INSERT.true c.record_insert.ensures
+returns-3 c = let b = c.before.before.before.before.before.before.before in inserted-at block_limit (four b) _ _ _ c.if-kind-eq-INSERT.true c.record_insert.ensures
 
 returns-4 : tie.Need-returns-then-kind-eq-DELETE
-returns-4 c = let b = c in deleted-at block_limit (four b.before.before.before.before.before.before.before.before) _ _ _ b.if-kind-eq-DELETE.true c.record_delete.ensures
+returns-4 c = let b = c.before.before.before.before.before.before.before.before in deleted-at block_limit (four b) _ _ _ c.if-kind-eq-DELETE.true c.record_delete.ensures
 
 spelled-at-requires-5 : tie.Need-spelled_at-e-requires
 spelled-at-requires-5 c κs = (five_fields _ _ (from c.before.before.before.before).requires.1).fourth
 
 returns-5 : tie.Need-returns
 returns-5 c =
-    let e = c in
-    moved_at block_limit (four e.before.before.before.before.before.before.before.before.before) _ _ _ _ c.spelled_at-e.ensures
-    e.if-kind-eq-FIND.false e.if-kind-eq-RANGE.false e.if-kind-eq-INSERT.false e.if-kind-eq-DELETE.false c.record_move.ensures
+    let e = c.before.before.before.before.before.before.before.before.before in
+    moved_at block_limit (four e) _ _ _ _ c.spelled_at-e.ensures
+    c.if-kind-eq-FIND.false c.if-kind-eq-RANGE.false c.if-kind-eq-INSERT.false c.if-kind-eq-DELETE.false c.record_move.ensures
 
 pub record_at_spec : {M : Type 1} → statement M
 record_at_spec =

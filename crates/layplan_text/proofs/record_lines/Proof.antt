@@ -19,25 +19,19 @@ loop-holds c = records_start _ _ _ _ _ c.requires.2
 
 record-at-requires : tie.Need-record_at-n-requires invariant-loop decreases-loop
 record-at-requires c κs =
-    let l = c in
-    let s = l in
-    (omega (arith, l.loop-i.invariant.at-line, s.requires.0, s.requires.1), next_line c.loop-i-test.true l.loop-i.invariant)
+    (omega (arith, c.loop-i.invariant.at-line, c.requires.0, c.requires.1), next_line c.loop-i-test.true c.loop-i.invariant)
 
 returns : tie.Need-returns-then-n-ne0 invariant-loop decreases-loop
 returns c =
-    let l = c in
-    records_stop l.loop-i-test.true l.loop-i.invariant _ _ c.record_at-n.ensures (λ z. omega (arith, z, c.if-n-ne0.true))
+    records_stop c.loop-i-test.true c.loop-i.invariant _ _ c.record_at-n.ensures (λ z. omega (arith, z, c.if-n-ne0.true))
 
 add-e : tie.Need-overflow_add-e invariant-loop decreases-loop
 add-e c =
-    let l = c in
-    let s = l in
-    omega (arith, l.loop-i.invariant.at-line, s.requires.0, s.requires.1)
+    omega (arith, c.loop-i.invariant.at-line, c.requires.0, c.requires.1)
 
 loop-again : tie.Need-loop-i-preserved invariant-loop decreases-loop
 loop-again c =
-    let l = c in
-    records_next l.loop-i-test.true l.loop-i.invariant _ _ c.record_at-n.ensures (omega (arith, c.if-n-ne0.false)) (search rules)
+    records_next c.loop-i-test.true c.loop-i.invariant _ _ c.record_at-n.ensures (omega (arith, c.if-n-ne0.false)) (search rules)
 
 returns-2 : tie.Need-returns invariant-loop decreases-loop
 returns-2 c = records_end c.loop-i-test.false c.loop-i.invariant

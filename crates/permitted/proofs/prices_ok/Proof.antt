@@ -19,8 +19,8 @@ returns-2 c = sr_fails _ (rr-ok c.before.before) (sym c.price_ok-2.ensures ∙ c
 
 returns-3 : tie.Need-returns
 returns-3 c =
-    let e = c in
-    c.price_ok-3.ensures ∙ rw_left _ (rr-ok e.before.before.before) (sym e.price_ok-2.ensures ∙ e.if-not-price_ok-2.false)
+    let e = c.before.before.before in
+    c.price_ok-3.ensures ∙ rw_left _ (rr-ok e) (sym c.price_ok-2.ensures ∙ c.if-not-price_ok-2.false)
 
 pub prices_ok_spec : {M : Type 1} → statement M
 prices_ok_spec =

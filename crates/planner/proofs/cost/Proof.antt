@@ -44,24 +44,23 @@ add-up-requires c κs = let g = (given c.before.before).0 in (g.counts, (g.price
 
 layout-number-requires : tie.Need-layout_number-m-requires
 layout-number-requires c κs =
-    let n = c in
-    let g = given n.before.before.before.before.before in
-    let s = at-start n.before.before.before.before.before in
+    let g = given c.before.before.before.before.before in
+    let s = at-start c.before.before.before.before.before in
     let l = c.add_up in
     record {
-      n = _;
-      holds = summed_holds _ _ _ _ _ l.ensures.summed g.0.prices g.0.counts (omega (arith, few n.before.before.before.before)) (omega (arith, few n.before.before.before.before, l.ensures.long));
-      covers = rw n.block_count-blocks.ensures (layout_covers_blocks (the-set s) s.args.ends.now g.1);
+      c = _;
+      holds = summed_holds _ _ _ _ _ l.ensures.summed g.0.prices g.0.counts (omega (arith, few c.before.before.before.before)) (omega (arith, few c.before.before.before.before, l.ensures.long));
+      covers = rw c.block_count-blocks.ensures (layout_covers_blocks (the-set s) s.args.ends.now g.1);
     }
 
 returns-2 : tie.Need-returns
 returns-2 c =
-    let n = c in
-    let s = at-start n.before.before.before.before.before.before.before in
+    let n = c.before.before.before.before.before.before.before in
+    let s = at-start n in
     let l = c.add_up in
     let m = c.layout_number-m in
-    cost_answered block_limit s.args.card (the-set s) s.args.ends.now s.args.histograms.now _ _ _ _ (passed n.before.before.before.before.before.before.before) (given n.before.before.before.before.before.before.before).1
-    n.block_count-blocks.ensures l.ensures.summed m.ensures (held-cost _ m.ensures.small _ c.unbiased-cost.ensures)
+    cost_answered block_limit s.args.card (the-set s) s.args.ends.now s.args.histograms.now _ _ _ _ (passed n) (given n).1
+    c.block_count-blocks.ensures l.ensures.summed m.ensures (held-cost _ m.ensures.small _ c.unbiased-cost.ensures)
 
 pub cost_spec : {M : Type 1} → statement M
 cost_spec =

@@ -44,31 +44,27 @@ most-partitions-requires c κs = (given c.before.before).prices
 
 add-up-requires : tie.Need-add_up-requires
 add-up-requires c κs =
-    let n = c in
-    let g = given n.before.before.before.before in
-    (g.counts, (g.prices, omega (arith, few n.before.before.before)))
+    let n = c.before.before.before in
+    let g = given n.before in
+    (g.counts, (g.prices, omega (arith, few n)))
 
 mark-requires : tie.Need-mark-requires
-mark-requires c κs = let n = c in ((given n.before.before.before.before.before.before.before).size, omega (arith, few n.before.before.before.before.before.before))
+mark-requires c κs = let n = c.before.before.before.before.before.before in ((given n.before).size, omega (arith, few n))
 
 searched-requires : tie.Need-searched-requires
 searched-requires c κs =
-    let n = c in
-    let g = given n.before.before.before.before.before.before.before.before.before.before.before.before in
+    let n = c.before.before.before.before.before.before.before.before.before.before.before in
+    let g = given n.before in
     let l = c.add_up.ensures in
-    let f = few n.before.before.before.before.before.before.before.before.before.before.before in
+    let f = few n in
     (summed_holds _ _ _ _ _ l.summed g.prices g.counts (omega (arith, f)) (omega (arith, f, l.long)), omega (arith, f))
 
 returns-2 : tie.Need-returns
 returns-2 c =
-    let mark = c in
-    let added = mark in
-    let most = added in
-    let longest = most in
-    let n = longest in
-    let s = at-start n.before.before.before.before.before.before.before.before.before.before.before.before.before.before.before in
-    answered_plan block_limit s.args.card s.args.limits (the-set s) s.args.histograms.now s.args.ends.now (passed n.before.before.before.before.before.before.before.before.before.before.before.before.before.before.before) _ _ _ _ _ _ _ _
-    n.block_count-n.ensures longest.longest_partition-longest.ensures most.most_partitions-most.ensures (given n.before.before.before.before.before.before.before.before.before.before.before.before.before.before.before).some added.add_up.ensures.summed mark.mark.ensures
+    let n = c.before.before.before.before.before.before.before.before.before.before.before.before.before.before.before in
+    let s = at-start n in
+    answered_plan block_limit s.args.card s.args.limits (the-set s) s.args.histograms.now s.args.ends.now (passed n) _ _ _ _ _ _ _ _
+    c.block_count-n.ensures c.longest_partition-longest.ensures c.most_partitions-most.ensures (given n).some c.add_up.ensures.summed c.mark.ensures
     c.searched.ensures
 
 pub plan_spec : {M : Type 1} → statement M

@@ -9,17 +9,15 @@ use Rattle.planner.proofs.searched.Tie as tie
 
 cheapest-requires : tie.Need-cheapest-requires
 cheapest-requires c κs =
-    let s = c in
-    let n = s.args.n in
+    let n = c.args.n in
     let x : n * n ≤ 32 * 32 = mul-le-mul {n₂ = 32} {m₂ = 32} (omega arith) (omega arith) in
-    (s.requires.0, omega arith)
+    (c.requires.0, omega arith)
 
 cheapest-requires-2 : tie.Need-cheapest-requires-2
 cheapest-requires-2 c κs =
-    let s = c in
-    let n = s.args.n in
+    let n = c.args.n in
     let x : n * n ≤ block_limit * block_limit = mul-le-mul {n₂ = block_limit} {m₂ = block_limit} (omega arith) (omega arith) in
-    (s.requires.0, omega arith)
+    (c.requires.0, omega arith)
 
 pub searched_spec : {M : Type 1} → statement M
 searched_spec =

@@ -11,11 +11,9 @@ use Rattle.recorder.proofs.delivery_refusal.Tie as tie
 
 returns : tie.Need-returns
 returns c =
-    let day = c in
-    let values = day in
-    let a = values.args in
+    let a = c.args in
     let s = set_of a.block a.used a.g.now a.w.now a.y.now a.n.now in
-    c.counted_refusal.ensures ∙ (λ i. first_failed (counted_checks block_limit s a.h.now true (values.in_range-values.ensures i) (day.day_ok-day.ensures i)))
+    c.counted_refusal.ensures ∙ (λ i. first_failed (counted_checks block_limit s a.h.now true (c.in_range-values.ensures i) (c.day_ok-day.ensures i)))
 
 pub delivery_refusal_spec : {M : Type 1} → statement M
 delivery_refusal_spec = tie.close (tie.spec (λ c κs. search rules) (λ c κs. search rules) (λ c κs. search rules) returns)

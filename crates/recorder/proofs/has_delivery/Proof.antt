@@ -32,10 +32,10 @@ slice-aggregate-first-match-4 : tie.Need-slice_bounds-first_match-end-4
 slice-aggregate-first-match-4 c = sym (length-take-le _ _ (days-fit c.before.before.before.before))
 
 first-match-requires : tie.Need-first_match-requires
-first-match-requires c κs = let s = c in even_part _ s.args.used 0 s.requires.1
+first-match-requires c κs = even_part _ c.args.used 0 c.requires.1
 
 returns : tie.Need-returns
-returns c = let s = c in has_law _ _ _ _ s.requires.0 s.requires.1 c.first_match.ensures
+returns c = has_law _ _ _ _ c.requires.0 c.requires.1 c.first_match.ensures
 
 pub has_delivery_spec : {M : Type 1} → statement M
 has_delivery_spec =

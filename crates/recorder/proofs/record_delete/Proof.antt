@@ -16,8 +16,8 @@ the-set s = let a = s.args in set_of a.block a.used a.growers.now a.weights.now 
 
 -- what the checks ahead of 10 decide
 decision : (c : tie.After-delivery_refusal-n)
-    → (let s = c in
-    Decided block_limit (the-set s.before.before.before.before.before.before) s.args.histograms.now (delete s.args.d) c.delivery_refusal-n.result)
+    → (let s = c.before.before.before.before.before.before in
+    Decided block_limit (the-set s) c.args.histograms.now (delete c.args.d) c.delivery_refusal-n.result)
 unfolding ordered offered_ok offered_days_ok
 decision c = decided block_limit _ _ _ _ _ _ _ refl refl refl c.delivery_refusal-n.ensures
 
@@ -29,41 +29,33 @@ block-of-requires c κs = ((decision c.before).passed c.if-n-ne0.false).whole_se
 
 has-delivery-requires : tie.Need-has_delivery-requires
 has-delivery-requires c κs =
-    let e = c in
-    let w = ((decision e.before.before).passed e.if-n-ne0.false).whole_set in
+    let e = c.before.before in
+    let w = ((decision e).passed c.if-n-ne0.false).whole_set in
     (w.sized.used_fits, w.even)
 
 raise-one-requires : tie.Need-raise_one-requires
 raise-one-requires c κs =
-    let b = c in
-    let e = b in
-    let p = (decision e.before.before.before.before.before).passed e.if-n-ne0.false in
-    (omega arith, p.below _ _ (b.block_of-b.ensures _ _ _), p.long)
+    let e = c.before.before.before.before.before in
+    let p = (decision e).passed c.if-n-ne0.false in
+    (omega arith, p.below _ _ (c.block_of-b.ensures _ _ _), p.long)
 
 returns-2 : tie.Need-returns-then-has_delivery
 returns-2 c =
-    let t = c in
-    let h = t in
-    let b = h in
-    let e = b in
-    let k = delete_held block_limit _ _ _ (b.block_of-b.ensures _ _ _) _ h.has_delivery.ensures t.if-has_delivery.true in
-    c.raise_one.ensures ∙ ((decision e.before.before.before.before.before.before.before.before).passed e.if-n-ne0.false).answers _ k
+    let e = c.before.before.before.before.before.before.before.before in
+    let k = delete_held block_limit _ _ _ (c.block_of-b.ensures _ _ _) _ c.has_delivery.ensures c.if-has_delivery.true in
+    c.raise_one.ensures ∙ ((decision e).passed c.if-n-ne0.false).answers _ k
 
 raise-one-requires-2 : tie.Need-raise_one-requires-2
 raise-one-requires-2 c κs =
-    let b = c in
-    let e = b in
-    let p = (decision e.before.before.before.before.before).passed e.if-n-ne0.false in
-    (omega arith, p.below _ _ (b.block_of-b.ensures _ _ _), p.long)
+    let e = c.before.before.before.before.before in
+    let p = (decision e).passed c.if-n-ne0.false in
+    (omega arith, p.below _ _ (c.block_of-b.ensures _ _ _), p.long)
 
 returns-3 : tie.Need-returns
 returns-3 c =
-    let t = c in
-    let h = t in
-    let b = h in
-    let e = b in
-    let k = delete_missing block_limit _ _ _ (b.block_of-b.ensures _ _ _) _ h.has_delivery.ensures t.if-has_delivery.false in
-    c.raise_one-2.ensures ∙ ((decision e.before.before.before.before.before.before.before.before).passed e.if-n-ne0.false).answers _ k
+    let e = c.before.before.before.before.before.before.before.before in
+    let k = delete_missing block_limit _ _ _ (c.block_of-b.ensures _ _ _) _ c.has_delivery.ensures c.if-has_delivery.false in
+    c.raise_one-2.ensures ∙ ((decision e).passed c.if-n-ne0.false).answers _ k
 
 pub record_delete_spec : {M : Type 1} → statement M
 record_delete_spec =

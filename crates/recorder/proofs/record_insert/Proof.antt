@@ -16,8 +16,8 @@ the-set s = let a = s.args in set_of a.block a.used a.growers.now a.weights.now 
 
 -- what the checks ahead of 10 decide
 decision : (c : tie.After-delivery_refusal-n)
-    → (let s = c in
-    Decided block_limit (the-set s.before.before.before.before.before.before) s.args.histograms.now (insert s.args.d) c.delivery_refusal-n.result)
+    → (let s = c.before.before.before.before.before.before in
+    Decided block_limit (the-set s) c.args.histograms.now (insert c.args.d) c.delivery_refusal-n.result)
 unfolding ordered offered_ok offered_days_ok
 decision c = decided block_limit _ _ _ _ _ _ _ refl refl refl c.delivery_refusal-n.ensures
 
@@ -29,15 +29,14 @@ block-of-requires c κs = ((decision c.before).passed c.if-n-ne0.false).whole_se
 
 raise-one-requires : tie.Need-raise_one-requires
 raise-one-requires c κs =
-    let e = c in
-    let p = (decision e.before.before.before).passed e.if-n-ne0.false in
+    let e = c.before.before.before in
+    let p = (decision e).passed c.if-n-ne0.false in
     (omega arith, p.below _ _ (c.block_of-b.ensures _ _ _), p.long)
 
 returns-2 : tie.Need-returns
 returns-2 c =
-    let b = c in
-    let e = b in
-    c.raise_one.ensures ∙ ((decision e.before.before.before.before.before.before).passed e.if-n-ne0.false).answers _ (insert_slots block_limit _ _ _ (b.block_of-b.ensures _ _ _))
+    let e = c.before.before.before.before.before.before in
+    c.raise_one.ensures ∙ ((decision e).passed c.if-n-ne0.false).answers _ (insert_slots block_limit _ _ _ (c.block_of-b.ensures _ _ _))
 
 pub record_insert_spec : {M : Type 1} → statement M
 record_insert_spec =

@@ -18,8 +18,8 @@ the-set s = let a = s.args in set_of a.block a.used a.growers.now a.weights.now 
 
 -- what the checks ahead of 10 decide
 decision : (c : tie.After-counted_refusal-n)
-    → (let s = c in
-    Decided block_limit (the-set s.before.before.before.before.before.before.before) s.args.histograms.now (range_days s.args.lo s.args.hi (span s.args.first s.args.last)) c.counted_refusal-n.result)
+    → (let s = c.before.before.before.before.before.before.before in
+    Decided block_limit (the-set s) c.args.histograms.now (range_days c.args.lo c.args.hi (span c.args.first c.args.last)) c.counted_refusal-n.result)
 unfolding ordered offered_ok offered_days_ok
 decision c = decided block_limit _ _ _ _ _ _ _ refl refl c.span_ok.ensures c.counted_refusal-n.ensures
 
@@ -30,43 +30,34 @@ block-of-requires : tie.Need-block_of-a-requires
 block-of-requires c κs = ((decision c.before).passed c.if-n-ne0.false).whole_set.sized
 
 block-of-requires-2 : tie.Need-block_of-b-requires
-block-of-requires-2 c κs = let e = c in ((decision e.before.before).passed e.if-n-ne0.false).whole_set.sized
+block-of-requires-2 c κs = let e = c.before.before in ((decision e).passed c.if-n-ne0.false).whole_set.sized
 
 raise-one-requires : tie.Need-raise_one-requires
 raise-one-requires c κs =
-    let b = c in
-    let e = b in
-    let p = (decision e.before.before.before.before.before).passed e.if-n-ne0.false in
-    (omega arith, p.below _ _ (b.block_of-a.ensures _ _ _), p.long)
+    let e = c.before.before.before.before.before in
+    let p = (decision e).passed c.if-n-ne0.false in
+    (omega arith, p.below _ _ (c.block_of-a.ensures _ _ _), p.long)
 
 returns-2 : tie.Need-returns-then-a-b
 returns-2 c =
-    let t = c in
-    let o = t in
-    let b = o in
-    let e = b in
-    let k = range_one block_limit _ _ _ _ _ _ (b.block_of-a.ensures _ _ _) (o.block_of-b.ensures _ _ _) (omega (arith, t.if-a-b.true)) in
-    c.raise_one.ensures ∙ ((decision e.before.before.before.before.before.before.before.before).passed e.if-n-ne0.false).answers _ k
+    let e = c.before.before.before.before.before.before.before.before in
+    let k = range_one block_limit _ _ _ _ _ _ (c.block_of-a.ensures _ _ _) (c.block_of-b.ensures _ _ _) (omega (arith, c.if-a-b.true)) in
+    c.raise_one.ensures ∙ ((decision e).passed c.if-n-ne0.false).answers _ k
 
 raise-span-requires : tie.Need-raise_span-requires
 unfolding ordered
 raise-span-requires c κs =
-    let o = c in
-    let b = o in
-    let e = b in
-    let g = e.args in
-    let p = (decision e.before.before.before.before.before).passed e.if-n-ne0.false in
-    let q = o.block_of-b.ensures g.weights.now g.yields.now g.days.now in
+    let e = c.before.before.before.before.before in
+    let g = c.args in
+    let p = (decision e).passed c.if-n-ne0.false in
+    let q = c.block_of-b.ensures g.weights.now g.yields.now g.days.now in
     let rise = p.rising g.lo g.hi (leb→le g.lo g.hi p.in_order) in
-    (omega (arith, c.if-a-b.false, b.block_of-a.ensures g.weights.now g.yields.now g.days.now), p.below g.hi _ q, p.long)
+    (omega (arith, c.if-a-b.false, c.block_of-a.ensures g.weights.now g.yields.now g.days.now), p.below g.hi _ q, p.long)
 
 returns-3 : tie.Need-returns
 returns-3 c =
-    let t = c in
-    let o = t in
-    let b = o in
-    let e = b in
-    let k = range_span block_limit _ _ _ _ _ _ (b.block_of-a.ensures _ _ _) (o.block_of-b.ensures _ _ _) (λ e. omega (arith, e, t.if-a-b.false)) in
+    let e = c in
+    let k = range_span block_limit _ _ _ _ _ _ (c.block_of-a.ensures _ _ _) (c.block_of-b.ensures _ _ _) (λ e. omega (arith, e, c.if-a-b.false)) in
     c.raise_span.ensures ∙ ((decision e.before.before.before.before.before.before.before.before).passed e.if-n-ne0.false).answers _ k
 
 pub record_range_days_spec : {M : Type 1} → statement M

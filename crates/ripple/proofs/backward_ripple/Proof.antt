@@ -5,10 +5,8 @@ use Rattle.ripple.proofs.backward_ripple.Tie as tie
 
 returns : tie.Need-returns
 returns c =
-    let b = c in
-    let a = b in
-    let e = a.carry.ensures in
-    rw (e.0, e.1, e.2, e.3) at b.insert_ripple.ensures
+    let e = c.carry.ensures in
+    rw (e.0, e.1, e.2, e.3) at c.insert_ripple.ensures
 
 pub backward_ripple_spec : {M : Type 1} → statement M
 backward_ripple_spec =

@@ -48,9 +48,8 @@ in-lengths c = search rules
 
 backward-ripple-requires : tie.Need-backward_ripple-requires
 backward-ripple-requires c κs =
-    let s = c in
-    let a = s.args in
-    let p = s.requires in
+    let a = c.args in
+    let p = c.requires in
     let r = ahead a.lens.now a.to a.from a.from_start a.to_start a.slot (length a.g.now) p.0 p.1 p.2 p.3 p.4 p.5 in (
       r.0,
       r.1,
@@ -72,13 +71,11 @@ same-length-4 c = c.n-1.given.1
 
 returns : tie.Need-returns
 returns c =
-    let b = c in
-    let e = b.backward_ripple.ensures in
-    let l = b.backward_ripple.new in
-    let s = b in
-    let a = s.args in
+    let e = c.backward_ripple.ensures in
+    let l = c.backward_ripple.new in
+    let a = c.args in
     let law = back_law {A = ℕ} 0 a.lens.now a.from a.from_start a.slot a.to a.to_start in
-    let p = s.requires in (
+    let p = c.requires in (
       law a.d.grower a.g.now l.g p.0 p.1 p.4 (omega arith) p.2 p.3 e.0,
       law a.d.weight a.w.now l.w p.0 p.1 p.4 (omega arith) p.2 p.3 e.1,
       law a.d.oil_yield a.y.now l.y p.0 p.1 p.4 (omega arith) p.2 p.3 e.2,

@@ -59,26 +59,20 @@ add-q c = omega (arith, spot_room _ _ _ c.loop-j-test.true c.loop-j.invariant.0)
 
 carry-requires-2 : tie.Need-carry-requires-in-loop-j invariant-loop decreases-loop
 carry-requires-2 c κs =
-    let b = c in
-    omega (arith, spot_room _ _ _ b.loop-j-test.true b.loop-j.invariant.0)
+    omega (arith, spot_room _ _ _ c.loop-j-test.true c.loop-j.invariant.0)
 
 add-j : tie.Need-overflow_add-j invariant-loop decreases-loop
 add-j c =
-    let a = c in
-    let t = a in
-    let b = t in
-    let s = b in
-    omega (arith, t.loop-j-test.true, s.ranges, s.well_formed)
+    omega (arith, c.loop-j-test.true, c.ranges, c.well_formed)
 
 loop-less : tie.Need-loop-j-smaller invariant-loop decreases-loop
 loop-less c = omega arith
 
 loop-again : tie.Need-loop-j-preserved invariant-loop decreases-loop
 loop-again c =
-    let b = c in
-    let e = b.carry-in-loop-j.ensures in
-    let i = b.loop-j.invariant in
-    let t = b.loop-j-test.true in
+    let e = c.carry-in-loop-j.ensures in
+    let i = c.loop-j.invariant in
+    let t = c.loop-j-test.true in
     rw (e.0, e.1, e.2, e.3) (
       spot_up _ _ _ t i.0,
       i.1,
@@ -106,14 +100,11 @@ same-length-4 c = omega arith
 
 returns : tie.Need-returns invariant-loop decreases-loop
 returns c =
-    let b = c in
-    let e = b.store.ensures in
-    let t = b.loop-j-test.false in
-    let l = b in
-    let i = l.loop-j.invariant in
-    let a = l in
-    let f = a.carry.ensures in
-    let r = a.requires in (
+    let e = c.store.ensures in
+    let t = c.loop-j-test.false in
+    let i = c.loop-j.invariant in
+    let f = c.carry.ensures in
+    let r = c.requires in (
       e.0 ∙ lowered_end 0 _ _ _ _ _ _ _ _ t r.1 r.2 i.0 f.0 i.3,
       e.1 ∙ lowered_end 0 _ _ _ _ _ _ _ _ t r.1 (omega arith) i.0 f.1 i.4,
       e.2 ∙ lowered_end 0 _ _ _ _ _ _ _ _ t r.1 (omega arith) i.0 f.2 i.5,

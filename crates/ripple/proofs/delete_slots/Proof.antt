@@ -44,8 +44,7 @@ in-lengths c = search rules
 
 delete-ripple-requires : tie.Need-delete_ripple-requires
 delete-ripple-requires c κs =
-    let s = c in
-    let h = start_rest s.args.lens.now s.args.partition in
+    let h = start_rest c.args.lens.now c.args.partition in
     rw (tail_part, first_left) (simp (length-take, length-drop) (omega arith))
 
 same_length : tie.Need-shape_of-g
@@ -62,13 +61,11 @@ same-length-4 c = c.n-1.given.1
 
 returns : tie.Need-returns
 returns c =
-    let b = c in
-    let e = b.delete_ripple.ensures in
-    let l = b.delete_ripple.new in
-    let s = b in
-    let a = s.args in
+    let e = c.delete_ripple.ensures in
+    let l = c.delete_ripple.new in
+    let a = c.args in
     let law = pull_law {A = ℕ} a.lens.now a.partition a.start a.slot in
-    let h = s.requires.1 in (
+    let h = c.requires.1 in (
       law a.d.grower a.g.now l.g h e.0,
       law a.d.weight a.w.now l.w h e.1,
       law a.d.oil_yield a.y.now l.y h e.2,

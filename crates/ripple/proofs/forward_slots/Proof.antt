@@ -28,17 +28,15 @@ slice-aggregate-delete-slots : tie.Need-slice_bounds-delete_slots-end
 slice-aggregate-delete-slots c = sym (length-take-le _ _ (omega arith))
 
 delete-slots-requires : tie.Need-delete_slots-requires
-delete-slots-requires c κs = let s = c in shortened s.before.before.before.before.before.before.before.before.before.before s.args.to (omega arith) (omega arith)
+delete-slots-requires c κs = let s = c.before.before.before.before.before.before.before.before.before.before in shortened s c.args.to (omega arith) (omega arith)
 
 returns : tie.Need-returns-then-from-to
 returns c =
-    let b = c in
-    let e = b.delete_slots.ensures in
-    let s = b in
-    let a = s.args in
+    let e = c.delete_slots.ensures in
+    let a = c.args in
     let law = forward_law {A = ℕ} a.lens.now a.from a.slot a.to in
     let h : a.from < a.to = omega arith in
-    let k = s.requires.1 in (
+    let k = c.requires.1 in (
       e.0 ∙ sym (law a.d.grower a.g.now h k),
       e.1 ∙ sym (law a.d.weight a.w.now h k),
       e.2 ∙ sym (law a.d.oil_yield a.y.now h k),
@@ -49,13 +47,12 @@ slice-aggregate-delete-slots-2 : tie.Need-slice_bounds-delete_slots-end-2
 slice-aggregate-delete-slots-2 c = sym (length-take-le _ _ (omega arith))
 
 delete-slots-requires-2 : tie.Need-delete_slots-requires-2
-delete-slots-requires-2 c κs = let s = c in shortened s.before.before.before.before.before.before.before.before.before.before (s.args.from + 1) (omega arith) (omega arith)
+delete-slots-requires-2 c κs = let s = c.before.before.before.before.before.before.before.before.before.before in shortened s (c.args.from + 1) (omega arith) (omega arith)
 
 returns-2 : tie.Need-returns
 returns-2 c =
-    let b = c in
-    let e = b.delete_slots-2.ensures in
-    let a = b.args in
+    let e = c.delete_slots-2.ensures in
+    let a = c.args in
     let law = within_law {A = ℕ} a.lens.now a.from a.slot in
     let h : a.from < length a.lens.now = omega arith in
     let k : a.to ≡ a.from = omega arith in

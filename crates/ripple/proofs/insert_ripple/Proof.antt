@@ -35,12 +35,10 @@ loop-less c = omega arith
 
 loop-again : tie.Need-loop-j-preserved invariant-loop decreases-loop
 loop-again c =
-    let b = c in
-    let e = b.carry.ensures in
-    let f = b.first_slot-q.ensures in
-    let k = b in
-    let l = k.loop-j in
-    let s = k.requires.3 in
+    let e = c.carry.ensures in
+    let f = c.first_slot-q.ensures in
+    let l = c.loop-j in
+    let s = c.requires.3 in
     let t : 1 < l.j = omega arith in
     rw (e.0, e.1, e.2, e.3, f) (
       spot_down _ _ _ t l.invariant.0,
@@ -68,9 +66,8 @@ same-length-4 c = omega arith
 
 returns : tie.Need-returns invariant-loop decreases-loop
 returns c =
-    let b = c in
-    let e = b.store.ensures in
-    let l = b.loop-j in
+    let e = c.store.ensures in
+    let l = c.loop-j in
     let i = l.invariant in
     let t : l.j ≤ 1 = omega arith in (
       e.0 ∙ lifted_end _ _ _ _ _ _ t (omega arith) i.0 i.2,

@@ -47,8 +47,7 @@ in-lengths c = search rules
 
 insert-ripple-requires : tie.Need-insert_ripple-requires
 insert-ripple-requires c κs =
-    let s = c in
-    let h = start_rest s.args.lens.now s.args.partition in
+    let h = start_rest c.args.lens.now c.args.partition in
     rw tail_part (simp (length-take, length-drop) (omega arith))
 
 same_length : tie.Need-shape_of-g
@@ -65,13 +64,11 @@ same-length-4 c = c.n-1.given.1
 
 returns : tie.Need-returns
 returns c =
-    let b = c in
-    let e = b.insert_ripple.ensures in
-    let l = b.insert_ripple.new in
-    let s = b in
-    let a = s.args in
+    let e = c.insert_ripple.ensures in
+    let l = c.insert_ripple.new in
+    let a = c.args in
     let law = put_law {A = ℕ} a.lens.now a.partition a.start in
-    let h = s.requires.1 in (
+    let h = c.requires.1 in (
       law a.d.grower a.g.now l.g h e.0,
       law a.d.weight a.w.now l.w h e.1,
       law a.d.oil_yield a.y.now l.y h e.2,

@@ -9,12 +9,9 @@ use Rattle.scan.proofs.all_fit.Tie as tie
 
 returns : tie.Need-returns
 returns c =
-    let d = c in
-    let v = d in
-    let s = v in
-    let a = s.args in
+    let a = c.args in
     let ss = slices_at a.g a.w a.y a.n in
-    c.both.ensures ∙ ap₂ (λ (x y : Bool). x && y) (v.values_ok.ensures ∙ sym (values_rows ss s.requires)) (d.days_ok.ensures ∙ sym (days_rows ss s.requires))
+    c.both.ensures ∙ ap₂ (λ (x y : Bool). x && y) (c.values_ok.ensures ∙ sym (values_rows ss c.requires)) (c.days_ok.ensures ∙ sym (days_rows ss c.requires))
 
 pub all_fit_spec : {M : Type 1} → statement M
 all_fit_spec = tie.close (tie.spec (λ c κs. search rules) (λ c κs. search rules) (λ c κs. search rules) returns)

@@ -26,10 +26,10 @@ inside c =
 values : (c : tie.After-values_ok) (b : Bool) → c.values_ok.result ≡ b
     → let a = (start c.before.before.before).args in every in_range (records_in a.lens.now a.from (a.to + 1 - a.from) (rows (slices_at a.g a.w a.y a.n))) ≡ b
 values c b e =
-    let t = c in
-    let s = start t.before.before.before in
+    let t = c.before.before.before in
+    let s = start t in
     let a = s.args in
-    parts_values a.lens.now a.from (a.to + 1 - a.from) a.start s.requires.4 (slices_at a.g a.w a.y a.n) s.requires.6 t.total.result t.total.ensures
+    parts_values a.lens.now a.from (a.to + 1 - a.from) a.start s.requires.4 (slices_at a.g a.w a.y a.n) s.requires.6 c.total.result c.total.ensures
     ∙ sym c.values_ok.ensures ∙ e
 
 returns : tie.Need-returns-then-values_ok

@@ -51,15 +51,15 @@ returns c = c.bad_scan.ensures ∙ rw (not-true c.args.s.good c.if-not-s.true)
 returns-2 : tie.Need-returns-then-not-more
 unfolding scan_more
 returns-2 c =
-    let m = c in
-    c.bad_scan-then-not-more.ensures ∙ rw (not-false (start m.before.before.before).args.s.good m.if-not-s.false, fits m.before.before.before false (not-true _ c.if-not-more.true))
+    let m = c.before.before.before in
+    c.bad_scan-then-not-more.ensures ∙ rw (not-false (start m).args.s.good c.if-not-s.false, fits m false (not-true _ c.if-not-more.true))
 
 plus-requires : tie.Need-plus-totals-requires
 plus-requires c κs =
-    let m = c in
-    let a = (start m.before.before.before.before).args in
-    let small = sum_light a.lo a.hi (span a.first a.last) (records m.before.before.before.before) (omega (arith, size m.before.before.before.before)) in
-    ((start m.before.before.before.before).requires.3.light, subst (λ (x : Sum). LightTotals most_slots x.totals) (sym m.sum_part-more.ensures) small)
+    let m = c.before.before.before.before in
+    let a = (start m).args in
+    let small = sum_light a.lo a.hi (span a.first a.last) (records m) (omega (arith, size m)) in
+    ((start m).requires.3.light, subst (λ (x : Sum). LightTotals most_slots x.totals) (sym c.sum_part-more.ensures) small)
 
 add-blocks : tie.Need-overflow_add-blocks
 add-blocks c =
@@ -69,12 +69,12 @@ add-blocks c =
 returns-3 : tie.Need-returns
 unfolding scan_more
 returns-3 c =
-    let m = c in
-    let a = (start m.before.before.before.before.before.before.before).args in
+    let m = c.before.before.before.before.before.before.before in
+    let a = (start m).args in
     let good = not-false _ c.if-not-more.false in
-    let t = c.plus-totals.ensures ∙ ap (plus_totals a.s.totals) (summed m.before.before.before.before.before.before.before good) in
-    let k = c.blocks_of.ensures ∙ ap (blocks_of a.block) (sym (size m.before.before.before.before.before.before.before)) in
-    good_on bad_scan (not-false a.s.good m.if-not-s.false) (fits m.before.before.before.before.before.before.before true good) (λ i. record { good = true; totals = t i; blocks = a.s.blocks + k i })
+    let t = c.plus-totals.ensures ∙ ap (plus_totals a.s.totals) (summed m good) in
+    let k = c.blocks_of.ensures ∙ ap (blocks_of a.block) (sym (size m)) in
+    good_on bad_scan (not-false a.s.good c.if-not-s.false) (fits m true good) (λ i. record { good = true; totals = t i; blocks = a.s.blocks + k i })
 
 pub scan_more_spec : {M : Type 1} → statement M
 scan_more_spec =

@@ -35,41 +35,41 @@ size c = let a = (start c).args in let e = (start c).requires.1.1 in length-rows
 
 loop-holds : tie.Need-loop-i-init invariant-loop decreases-loop
 loop-holds c =
-    let s = c in
-    let a = s.args in
-    rw c.none-none.ensures (scanning_start a.block a.lens.now a.from a.to a.lo a.hi (span a.first a.last) (rows (lent s.before.before.before.before.before.before)) a.start (omega arith) s.requires.0.4)
+    let s = c.before.before.before.before.before.before in
+    let a = c.args in
+    rw c.none-none.ensures (scanning_start a.block a.lens.now a.from a.to a.lo a.hi (span a.first a.last) (rows (lent s)) a.start (omega arith) c.requires.0.4)
 
 cast-k : tie.Need-overflow_cast-k invariant-loop decreases-loop
 cast-k c = omega (arith, c.shared_slice_known-in-loop-i-1.given c.loop-i.i)
 
 scan-more-requires : tie.Need-scan_more-s-requires invariant-loop decreases-loop
 scan-more-requires c κs =
-    let p = c in
-    let a = (start p.before.before.before.before.before.before.before).args in
-    let l = p.loop-i in
-    let z = size p.before.before.before.before.before.before.before in (
+    let p = c.before.before.before.before.before.before.before in
+    let a = (start p).args in
+    let l = c.loop-i in
+    let z = size p in (
       simp (length-take, length-drop) (omega arith),
-      even_part (slices_at a.g a.w a.y a.n) (l.at + get_or a.lens.now l.i 0 - l.at) l.at (start p.before.before.before.before.before.before.before).requires.1.1,
+      even_part (slices_at a.g a.w a.y a.n) (l.at + get_or a.lens.now l.i 0 - l.at) l.at (start p).requires.1.1,
       omega arith,
-      scanning_light a.block a.lens.now a.from a.to a.lo a.hi (span a.first a.last) (lent (start p.before.before.before.before.before.before.before)) l.at l.i l.s l.invariant (omega arith) (omega arith)
+      scanning_light a.block a.lens.now a.from a.to a.lo a.hi (span a.first a.last) (lent (start p)) l.at l.i l.s l.invariant (omega arith) (omega arith)
           (omega arith),
     )
 
 loop-again : tie.Need-loop-i-preserved-then-k-gt0 invariant-loop decreases-loop
 loop-again c =
-    let p = c in
-    let a = (start p.before.before.before.before.before.before.before.before).args in
-    let l = p.loop-i in
-    let z = size p.before.before.before.before.before.before.before.before in
-    scanning_next a.block a.lens.now a.from a.to a.lo a.hi (span a.first a.last) (lent (start p.before.before.before.before.before.before.before.before)) l.at l.i l.s l.invariant (omega arith) (omega arith) (omega arith) _
+    let p = c.before.before.before.before.before.before.before.before in
+    let a = (start p).args in
+    let l = c.loop-i in
+    let z = size p in
+    scanning_next a.block a.lens.now a.from a.to a.lo a.hi (span a.first a.last) (lent (start p)) l.at l.i l.s l.invariant (omega arith) (omega arith) (omega arith) _
     c.scan_more-s.ensures
 
 loop-again-2 : tie.Need-loop-i-preserved invariant-loop decreases-loop
 loop-again-2 c =
-    let p = c in
-    let a = (start p.before.before.before).args in
-    let l = p.loop-i in
-    scanning_skip a.block a.lens.now a.from a.to a.lo a.hi (span a.first a.last) (lent (start p.before.before.before)) l.at l.i l.s l.invariant (omega arith) (omega arith) (omega arith)
+    let p = c.before.before.before in
+    let a = (start p).args in
+    let l = c.loop-i in
+    scanning_skip a.block a.lens.now a.from a.to a.lo a.hi (span a.first a.last) (lent (start p)) l.at l.i l.s l.invariant (omega arith) (omega arith) (omega arith)
     (omega (arith, c.if-k-gt0.false))
 
 returns : tie.Need-returns invariant-loop decreases-loop

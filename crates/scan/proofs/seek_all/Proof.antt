@@ -23,34 +23,34 @@ start c = c.before.before.before.before.before
 
 seek-more-requires : tie.Need-seek_more-s-requires invariant-loop decreases-loop
 seek-more-requires c κs =
-    let l = c in
-    let a = (start l.before.before.before.before.before).args in
-    let i = l.loop-i.i in
-    (simp (length-take, length-drop) (omega arith), even_part (slices_at a.g a.w a.y a.n) (i + 128 - i) i (start l.before.before.before.before.before).requires.1, omega arith)
+    let l = c.before.before.before.before.before in
+    let a = (start l).args in
+    let i = c.loop-i.i in
+    (simp (length-take, length-drop) (omega arith), even_part (slices_at a.g a.w a.y a.n) (i + 128 - i) i (start l).requires.1, omega arith)
 
 loop-again : tie.Need-loop-i-preserved invariant-loop decreases-loop
 loop-again c =
-    let l = c in
-    let a = (start l.before.before.before.before.before.before).args in
-    let i = l.loop-i.i in
+    let l = c.before.before.before.before.before.before in
+    let a = (start l).args in
+    let i = c.loop-i.i in
     let e : i + 128 - i ≡ 128 = omega arith in
-    seeking_next a.d (slices_at a.g a.w a.y a.n) (start l.before.before.before.before.before.before).requires.1 l.loop-i.s i l.loop-i.invariant 128 _ (omega arith) (rw e at c.seek_more-s.ensures)
+    seeking_next a.d (slices_at a.g a.w a.y a.n) (start l).requires.1 c.loop-i.s i c.loop-i.invariant 128 _ (omega arith) (rw e at c.seek_more-s.ensures)
 
 seek-more-requires-2 : tie.Need-seek_more-requires invariant-loop decreases-loop
 seek-more-requires-2 c κs =
-    let l = c in
-    let a = (start l.before.before.before.before.before).args in
-    let i = l.loop-i.i in
-    (simp (length-take, length-drop) (omega arith), even_part (slices_at a.g a.w a.y a.n) (length a.g.now - i) i (start l.before.before.before.before.before).requires.1, omega arith)
+    let l = c.before.before.before.before.before in
+    let a = (start l).args in
+    let i = c.loop-i.i in
+    (simp (length-take, length-drop) (omega arith), even_part (slices_at a.g a.w a.y a.n) (length a.g.now - i) i (start l).requires.1, omega arith)
 
 returns : tie.Need-returns invariant-loop decreases-loop
 returns c =
-    let l = c in
-    let a = (start l.before.before.before.before.before.before).args in
-    let i = l.loop-i.i in
+    let l = c.before.before.before.before.before.before in
+    let a = (start l).args in
+    let i = c.loop-i.i in
     let n = length a.g.now - i in
-    let k = seeking_next a.d (slices_at a.g a.w a.y a.n) (start l.before.before.before.before.before.before).requires.1 l.loop-i.s i l.loop-i.invariant n _ (omega arith) c.seek_more.ensures in
-    strides_end (seek_all a.d) (slices_at a.g a.w a.y a.n) (start l.before.before.before.before.before.before).requires.1 _ (i + n) k (omega arith)
+    let k = seeking_next a.d (slices_at a.g a.w a.y a.n) (start l).requires.1 c.loop-i.s i c.loop-i.invariant n _ (omega arith) c.seek_more.ensures in
+    strides_end (seek_all a.d) (slices_at a.g a.w a.y a.n) (start l).requires.1 _ (i + n) k (omega arith)
 
 pub seek_all_spec : {M : Type 1} → statement M
 seek_all_spec =

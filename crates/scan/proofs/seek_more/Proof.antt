@@ -28,15 +28,15 @@ returns c = c.bad_sought.ensures ∙ rw (not-true c.args.s.good c.if-not-s.true)
 returns-2 : tie.Need-returns-then-not-all_fit
 unfolding seek_more
 returns-2 c =
-    let f = c in
-    c.bad_sought-then-not-all_fit.ensures ∙ rw (not-false (start f.before.before).args.s.good f.if-not-s.false, fits f.before.before false (c.if-not-all_fit.true))
+    let f = c.before.before in
+    c.bad_sought-then-not-all_fit.ensures ∙ rw (not-false (start f).args.s.good c.if-not-s.false, fits f false (c.if-not-all_fit.true))
 
 returns-3 : tie.Need-returns-then-found-i
 unfolding seek_more
 returns-3 c =
-    let f = c in
-    let a = (start f.before.before).args in
-    good_on bad_sought (not-false a.s.good f.if-not-s.false) (fits f.before.before true (c.if-not-all_fit.false)) (rw (lt-ltb a.s.slot a.i c.if-found-i.true))
+    let f = c.before.before in
+    let a = (start f).args in
+    good_on bad_sought (not-false a.s.good c.if-not-s.false) (fits f true (c.if-not-all_fit.false)) (rw (lt-ltb a.s.slot a.i c.if-found-i.true))
 
 add-slot : tie.Need-overflow_add-slot
 add-slot c =
@@ -48,9 +48,9 @@ add-slot c =
 returns-4 : tie.Need-returns
 unfolding seek_more
 returns-4 c =
-    let f = c in
-    let a = (start f.before.before.before).args in
-    good_on bad_sought (not-false a.s.good f.if-not-s.false) (fits f.before.before.before true (c.if-not-all_fit.false))
+    let f = c.before.before.before in
+    let a = (start f).args in
+    good_on bad_sought (not-false a.s.good c.if-not-s.false) (fits f true (c.if-not-all_fit.false))
     (rw (le-ltb a.s.slot a.i c.if-found-i.false, c.first_in_stride.ensures))
 
 pub seek_more_spec : {M : Type 1} → statement M

@@ -24,40 +24,40 @@ start c = c.before.before.before.before.before.before
 
 sum-more-requires : tie.Need-sum_more-s-requires invariant-loop decreases-loop
 sum-more-requires c κs =
-    let l = c in
-    let a = (start l.before.before.before.before.before).args in
-    let i = l.loop-i.i in (
+    let l = c.before.before.before.before.before in
+    let a = (start l).args in
+    let i = c.loop-i.i in (
       simp (length-take, length-drop) (omega arith),
-      even_part (slices_at a.g a.w a.y a.n) (i + 64 - i) i (start l.before.before.before.before.before).requires.1,
-      summing_light a.lo a.hi every_day (slices_at a.g a.w a.y a.n) (start l.before.before.before.before.before).requires.1 l.loop-i.s i l.loop-i.invariant (start l.before.before.before.before.before).requires.0,
+      even_part (slices_at a.g a.w a.y a.n) (i + 64 - i) i (start l).requires.1,
+      summing_light a.lo a.hi every_day (slices_at a.g a.w a.y a.n) (start l).requires.1 c.loop-i.s i c.loop-i.invariant (start l).requires.0,
     )
 
 loop-again : tie.Need-loop-i-preserved invariant-loop decreases-loop
 loop-again c =
-    let l = c in
-    let a = (start l.before.before.before.before.before.before).args in
-    let i = l.loop-i.i in
+    let l = c.before.before.before.before.before.before in
+    let a = (start l).args in
+    let i = c.loop-i.i in
     let e : i + 64 - i ≡ 64 = omega arith in
-    summing_next a.lo a.hi every_day (slices_at a.g a.w a.y a.n) (start l.before.before.before.before.before.before).requires.1 l.loop-i.s i l.loop-i.invariant 64 _ (omega arith) (rw e at c.sum_more-s.ensures)
+    summing_next a.lo a.hi every_day (slices_at a.g a.w a.y a.n) (start l).requires.1 c.loop-i.s i c.loop-i.invariant 64 _ (omega arith) (rw e at c.sum_more-s.ensures)
 
 sum-more-requires-2 : tie.Need-sum_more-requires invariant-loop decreases-loop
 sum-more-requires-2 c κs =
-    let l = c in
-    let a = (start l.before.before.before.before.before).args in
-    let i = l.loop-i.i in (
+    let l = c.before.before.before.before.before in
+    let a = (start l).args in
+    let i = c.loop-i.i in (
       simp (length-take, length-drop) (omega arith),
-      even_part (slices_at a.g a.w a.y a.n) (length a.g.now - i) i (start l.before.before.before.before.before).requires.1,
-      summing_light a.lo a.hi every_day (slices_at a.g a.w a.y a.n) (start l.before.before.before.before.before).requires.1 l.loop-i.s i l.loop-i.invariant (start l.before.before.before.before.before).requires.0,
+      even_part (slices_at a.g a.w a.y a.n) (length a.g.now - i) i (start l).requires.1,
+      summing_light a.lo a.hi every_day (slices_at a.g a.w a.y a.n) (start l).requires.1 c.loop-i.s i c.loop-i.invariant (start l).requires.0,
     )
 
 returns : tie.Need-returns invariant-loop decreases-loop
 returns c =
-    let l = c in
-    let a = (start l.before.before.before.before.before.before).args in
-    let i = l.loop-i.i in
+    let l = c.before.before.before.before.before.before in
+    let a = (start l).args in
+    let i = c.loop-i.i in
     let n = length a.g.now - i in
-    let k = summing_next a.lo a.hi every_day (slices_at a.g a.w a.y a.n) (start l.before.before.before.before.before.before).requires.1 l.loop-i.s i l.loop-i.invariant n _ (omega arith) c.sum_more.ensures in
-    strides_end (sum_all a.lo a.hi every_day) (slices_at a.g a.w a.y a.n) (start l.before.before.before.before.before.before).requires.1 _ (i + n) k (omega arith)
+    let k = summing_next a.lo a.hi every_day (slices_at a.g a.w a.y a.n) (start l).requires.1 c.loop-i.s i c.loop-i.invariant n _ (omega arith) c.sum_more.ensures in
+    strides_end (sum_all a.lo a.hi every_day) (slices_at a.g a.w a.y a.n) (start l).requires.1 _ (i + n) k (omega arith)
 
 pub sum_all_spec : {M : Type 1} → statement M
 sum_all_spec =

@@ -40,8 +40,8 @@ returns c = c.bad_sum.ensures ∙ rw (not-true c.args.s.good c.if-not-s.true)
 returns-2 : tie.Need-returns-then-not-all_fit
 unfolding sum_more
 returns-2 c =
-    let f = c in
-    c.bad_sum-then-not-all_fit.ensures ∙ rw (not-false (start f.before.before).args.s.good f.if-not-s.false, fits f.before.before false (c.if-not-all_fit.true))
+    let f = c.before.before in
+    c.bad_sum-then-not-all_fit.ensures ∙ rw (not-false (start f).args.s.good c.if-not-s.false, fits f false (c.if-not-all_fit.true))
 
 plus-requires : tie.Need-plus-totals-requires
 plus-requires c κs =
@@ -52,11 +52,11 @@ plus-requires c κs =
 returns-3 : tie.Need-returns
 unfolding sum_more
 returns-3 c =
-    let f = c in
-    let a = (start f.before.before.before.before).args in
+    let f = c.before.before.before.before in
+    let a = (start f).args in
     let good = c.if-not-all_fit.false in
     let t = c.plus-totals.ensures ∙ ap (plus_totals a.s.totals) c.total_stride_days-more.ensures in
-    good_on bad_sum (not-false a.s.good f.if-not-s.false) (fits f.before.before.before.before true good) (ap (λ (x : Totals). record { good = true; totals = x }) t)
+    good_on bad_sum (not-false a.s.good c.if-not-s.false) (fits f true good) (ap (λ (x : Totals). record { good = true; totals = x }) t)
 
 pub sum_more_during_spec : {M : Type 1} → statement M
 sum_more_during_spec =

@@ -11,9 +11,8 @@ use Rattle.scan.proofs.sum_part.Tie as tie
 
 returns : tie.Need-returns-then-is_every_day
 returns c =
-    let d = c in
-    let a = d.args in
-    let e = d.is_every_day.ensures c.if-is_every_day.true in
+    let a = c.args in
+    let e = c.is_every_day.ensures c.if-is_every_day.true in
     c.sum_all.ensures ∙ ap₂ (λ (x y : ℕ). sum_all a.lo a.hi (span x y) (rows (slices_at a.g a.w a.y a.n))) (sym e.0) (sym e.1)
 
 pub sum_part_spec : {M : Type 1} → statement M

@@ -24,16 +24,14 @@ loop-holds c = flag_start _ _
 
 returns : tie.Need-returns-then-not-separates_none invariant-loop decreases-loop
 returns c =
-    let t = c in
-    λ ws ys ns. (flag_bad _ _ _ _ t.loop-i-test.true t.loop-i.invariant (sym (c.separates_none.ensures [] [] []) ∙ c.if-not-separates_none.true)).so_far
+    λ ws ys ns. (flag_bad _ _ _ _ c.loop-i-test.true c.loop-i.invariant (sym (c.separates_none.ensures [] [] []) ∙ c.if-not-separates_none.true)).so_far
 
 loop-less : tie.Need-loop-i-smaller invariant-loop decreases-loop
 loop-less c = omega arith
 
 loop-again : tie.Need-loop-i-preserved invariant-loop decreases-loop
 loop-again c =
-    let t = c in
-    flag_good _ _ _ _ t.loop-i-test.true t.loop-i.invariant (sym (c.separates_none.ensures [] [] []) ∙ c.if-not-separates_none.false)
+    flag_good _ _ _ _ c.loop-i-test.true c.loop-i.invariant (sym (c.separates_none.ensures [] [] []) ∙ c.if-not-separates_none.false)
 
 returns-2 : tie.Need-returns invariant-loop decreases-loop
 returns-2 c = λ ws ys ns. flag_end _ _ _ _ c.loop-i-test.false c.loop-i.invariant

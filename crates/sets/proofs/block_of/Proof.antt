@@ -24,16 +24,14 @@ loop-holds c = record { at = omega arith; is_last = omega (arith, c.block_count-
 
 returns : tie.Need-returns-then-x-k invariant-loop decreases-loop
 returns c =
-    let t = c in
-    λ ws ys ns. seek_found _ _ _ _ _ _ t.loop-i.invariant ws ys ns t.loop-i-test.true (rw (sym (c.last_grower-k.ensures [] [] [])) c.if-x-k.true)
+    λ ws ys ns. seek_found _ _ _ _ _ _ c.loop-i.invariant ws ys ns c.loop-i-test.true (rw (sym (c.last_grower-k.ensures [] [] [])) c.if-x-k.true)
 
 loop-less : tie.Need-loop-i-smaller invariant-loop decreases-loop
 loop-less c = omega arith
 
 loop-again : tie.Need-loop-i-preserved invariant-loop decreases-loop
 loop-again c =
-    let t = c in
-    seek_next _ _ _ _ _ _ t.loop-i.invariant t.loop-i-test.true (rw (sym (c.last_grower-k.ensures [] [] [])) c.if-x-k.false)
+    seek_next _ _ _ _ _ _ c.loop-i.invariant c.loop-i-test.true (rw (sym (c.last_grower-k.ensures [] [] [])) c.if-x-k.false)
 
 returns-2 : tie.Need-returns invariant-loop decreases-loop
 returns-2 c = λ ws ys ns. seek_end _ _ _ _ _ _ c.loop-i.invariant ws ys ns c.loop-i-test.false

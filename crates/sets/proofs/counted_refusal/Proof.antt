@@ -56,7 +56,7 @@ returns-2 : tie.Need-returns-then-not-ordered
 returns-2 c = fails 7 _ _ (c.if-not-ordered.true) ∙ past-set c.before
 
 set-values-ok-requires : tie.Need-set_values_ok-requires
-set-values-ok-requires c κs = let e = c in let w = ((decision e.before.before).passed e.if-r-ne0.false).whole_set in (w.sized.used_fits, w.even)
+set-values-ok-requires c κs = let e = c.before.before in let w = ((decision e).passed c.if-r-ne0.false).whole_set in (w.sized.used_fits, w.even)
 
 returns-3 : tie.Need-returns-then-not-set_values_ok
 returns-3 c = fails 8 _ _ (sym (and_no _ _ (sym (c.set_values_ok.ensures _) ∙ c.if-not-set_values_ok.true))) ∙ past-order c.before.before
@@ -66,8 +66,8 @@ returns-4 c = fails 8 _ _ (values c.before ∙ c.if-not-offered.true) ∙ past-o
 
 set-days-ok-requires : tie.Need-set_days_ok-requires
 set-days-ok-requires c κs =
-    let e = c in
-    let w = ((decision e.before.before.before.before.before).passed e.if-r-ne0.false).whole_set in
+    let e = c.before.before.before.before.before in
+    let w = ((decision e).passed c.if-r-ne0.false).whole_set in
     (w.sized.used_fits, w.even)
 
 returns-5 : tie.Need-returns-then-not-set_days_ok

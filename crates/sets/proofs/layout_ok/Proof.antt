@@ -28,13 +28,13 @@ add-if3 c = omega (arith, c.shared_slice_known-3-1.given (length c.args.ends.now
 
 returns-3 : tie.Need-returns-then-ends-last
 returns-3 c =
-    let e = c in
-    λ ws ys ns. layout_short _ _ e.if-k-lt1.false (rises e.before.before.before) (λ z. c.if-ends-last.true (z ∙ sym c.block_count.ensures))
+    let e = c.before.before.before in
+    λ ws ys ns. layout_short _ _ c.if-k-lt1.false (rises e) (λ z. c.if-ends-last.true (z ∙ sym c.block_count.ensures))
 
 returns-4 : tie.Need-returns
 returns-4 c =
-    let e = c in
-    λ ws ys ns. c.all_separate_none.ensures ws ys ns ∙ layout_parts _ _ e.if-k-lt1.false (rises e.before.before.before.before) (c.if-ends-last.false ∙ c.block_count.ensures)
+    let e = c.before.before.before.before in
+    λ ws ys ns. c.all_separate_none.ensures ws ys ns ∙ layout_parts _ _ c.if-k-lt1.false (rises e) (c.if-ends-last.false ∙ c.block_count.ensures)
 
 pub layout_ok_spec : {M : Type 1} → statement M
 layout_ok_spec =

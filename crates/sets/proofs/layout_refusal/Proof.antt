@@ -51,8 +51,8 @@ returns-2 c = fails 6 _ _ (sym (c.layout_ok.ensures _ _ _) ∙ c.if-not-layout_o
 
 set-values-ok-requires : tie.Need-set_values_ok-requires
 set-values-ok-requires c κs =
-    let e = c in
-    let w = ((decision e.before.before.before).passed e.if-r-ne0.false).whole_set in
+    let e = c.before.before.before in
+    let w = ((decision e).passed c.if-r-ne0.false).whole_set in
     (w.sized.used_fits, w.even)
 
 returns-3 : tie.Need-returns-then-not-set_values_ok
@@ -61,8 +61,8 @@ returns-3 c = fails 8 _ _ (sym (c.set_values_ok.ensures _) ∙ c.if-not-set_valu
 
 set-days-ok-requires : tie.Need-set_days_ok-requires
 set-days-ok-requires c κs =
-    let e = c in
-    let w = ((decision e.before.before.before.before.before).passed e.if-r-ne0.false).whole_set in
+    let e = c.before.before.before.before.before in
+    let w = ((decision e).passed c.if-r-ne0.false).whole_set in
     (w.sized.used_fits, w.even)
 
 returns-4 : tie.Need-returns-then-not-set_days_ok

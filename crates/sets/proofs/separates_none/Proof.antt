@@ -10,8 +10,7 @@ returns c = λ ws ys ns. ends_all (set_of _ _ c.args.g.now ws ys ns) _ _ c.block
 
 returns-2 : tie.Need-returns
 returns-2 c =
-    let s = c in
-    λ ws ys ns. ends_between (set_of _ _ s.args.g.now ws ys ns) _ _ s.block_start-x.ensures c.if-used-x.false
+    λ ws ys ns. ends_between (set_of _ _ c.args.g.now ws ys ns) _ _ c.block_start-x.ensures c.if-used-x.false
 
 pub separates_none_spec : {M : Type 1} → statement M
 separates_none_spec =

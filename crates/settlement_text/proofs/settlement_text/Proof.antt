@@ -13,14 +13,13 @@ was_read c = c.before.before.before.before.before
 
 returns : tie.Need-returns-then-n-ne0
 returns c =
-    let r = c in
-    program_refused _ _ _ r.read-a.ensures _ c.if-n-ne0.true c.refused.ensures
+    program_refused _ _ _ c.read-a.ensures _ c.if-n-ne0.true c.refused.ensures
 
 returns-2 : tie.Need-returns
 returns-2 c =
-    let w = c in
-    let e = accepted w.before.before.before in
-    program_prints _ _ _ (was_read e).read-a.ensures e.if-n-ne0.false _ _ _ _ w.write_sheet-w.ensures
+    let w = c.before.before.before in
+    let e = accepted w in
+    program_prints _ _ _ (was_read e).read-a.ensures e.if-n-ne0.false _ _ _ _ c.write_sheet-w.ensures
 
 pub settlement_text_spec : {M : Type 1} → statement M
 settlement_text_spec =

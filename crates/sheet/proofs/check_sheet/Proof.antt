@@ -94,13 +94,13 @@ size_is c =
     text_size block_limit (lent k) w.lent _ w.used_is (span_of (term k)) _ (length-take-le _ _ (growers-room e))
 
 returns : tie.Need-returns-then-c-ne0
-returns c = let k = c in column_refused block_limit (lent k.before.before.before) (term k.before.before.before) _ _ _ _ k.check_column-c.ensures c.if-c-ne0.true _ c.not_sized.ensures
+returns c = let k = c.before.before.before in column_refused block_limit (lent k) (term k) _ _ _ _ c.check_column-c.ensures c.if-c-ne0.true _ c.not_sized.ensures
 
 returns-2 : tie.Need-returns-then-t-ne0
 returns-2 c =
-    let e = c in
-    let k = checked e.before.before.before in
-    days_refused block_limit (lent k) (term k) _ _ _ _ k.check_column-c.ensures (clean e.before.before.before)
+    let e = c.before.before.before in
+    let k = checked e in
+    days_refused block_limit (lent k) (term k) _ _ _ _ k.check_column-c.ensures (clean e)
     (rw (ne_eqb (term k).refusal 0 (λ z. c.if-t-ne0.true z))) _ c.not_sized-then-t-ne0.ensures
 
 slice-aggregate-days-ok : tie.Need-slice_bounds-days_ok-end
@@ -108,11 +108,11 @@ slice-aggregate-days-ok c = sym (length-take-le _ _ (days_room (named c)))
 
 returns-3 : tie.Need-returns-then-not-days_ok
 returns-3 c =
-    let d = c in
-    let e = named (tested d.before.before) in
+    let d = c.before.before in
+    let e = named (tested d) in
     let k = checked e in
     days_refused block_limit (lent k) (term k) _ _ _ _ k.check_column-c.ensures (clean e)
-    (both _ _ false (given (tested d.before.before)) (days_are d.before.before ∙ c.if-not-days_ok.true)) _ c.not_sized-then-not-days_ok.ensures
+    (both _ _ false (given (tested d)) (days_are d ∙ c.if-not-days_ok.true)) _ c.not_sized-then-not-days_ok.ensures
 
 slice-aggregate-count-during : tie.Need-slice_bounds-count_during-end
 slice-aggregate-count-during c = sym (length-take-le _ _ (days_room (good c)))
@@ -125,18 +125,17 @@ count-during-requires c κs =
 
 returns-4 : tie.Need-returns-then-order_room-k
 returns-4 c =
-    let n = c in
-    let d = counting n.before.before in
+    let n = c.before.before in
+    let d = counting n in
     let k = checked (good d) in
-    order_short block_limit (lent k) (term k) _ _ _ _ k.check_column-c.ensures (clean (good d)) (dated d) (many_is n.before.before) c.if-order_room-k.true _ c.not_sized-then-order_room-k.ensures
+    order_short block_limit (lent k) (term k) _ _ _ _ k.check_column-c.ensures (clean (good d)) (dated d) (many_is n) c.if-order_room-k.true _ c.not_sized-then-order_room-k.ensures
 
 returns-5 : tie.Need-returns-then-work_room-k
 returns-5 c =
-    let o = c in
-    let n = o in
-    let d = counting n.before.before.before in
+    let n = c.before.before.before in
+    let d = counting n in
     let k = checked (good d) in
-    work_short block_limit (lent k) (term k) _ _ _ _ k.check_column-c.ensures (clean (good d)) (dated d) (many_is n.before.before.before) o.if-order_room-k.false c.if-work_room-k.true _
+    work_short block_limit (lent k) (term k) _ _ _ _ k.check_column-c.ensures (clean (good d)) (dated d) (many_is n) c.if-order_room-k.false c.if-work_room-k.true _
     c.not_sized-then-work_room-k.ensures
 
 slice-aggregate-lines-fit : tie.Need-slice_bounds-lines_fit-end
@@ -147,8 +146,8 @@ slice-aggregate-lines-fit-2 c = sym (length-take-le _ _ (days_room (good (counti
 
 lines-fit-requires : tie.Need-lines_fit-requires
 lines-fit-requires c κs =
-    let n = c in
-    let e = good (counting n.before.before) in
+    let n = c.before.before in
+    let e = good (counting n) in
     let k = checked e in
     let x = (lent k).slices in
     let m : ℕ = k.check_column-c.result.used in
@@ -156,27 +155,24 @@ lines-fit-requires c κs =
     let d : length (take m x.days) ≡ m = length-take-le m x.days (days_room e) in (
       omega (arith, g, growers-room e, (known e).lent.most),
       d ∙ sym g,
-      n.count_during-k.ensures ∙ ap (λ (j : ℕ). length (slots_during (span_of (term k)) (take m x.days) j)) (d ∙ sym g),
+      c.count_during-k.ensures ∙ ap (λ (j : ℕ). length (slots_during (span_of (term k)) (take m x.days) j)) (d ∙ sym g),
     )
 
 returns-6 : tie.Need-returns-then-not-lines_fit
 returns-6 c =
-    let f = c in
-    let n = f in
-    let d = counting n.before.before.before.before.before in
+    let n = c.before.before.before.before.before in
+    let d = counting n in
     let k = checked (good d) in
-    text_short block_limit (lent k) (term k) _ _ _ _ k.check_column-c.ensures (clean (good d)) (dated d) (many_is n.before.before.before.before.before) (size_is d)
-    (sym f.lines_fit.ensures ∙ c.if-not-lines_fit.true) _ c.not_sized-then-not-lines_fit.ensures
+    text_short block_limit (lent k) (term k) _ _ _ _ k.check_column-c.ensures (clean (good d)) (dated d) (many_is n) (size_is d)
+    (sym c.lines_fit.ensures ∙ c.if-not-lines_fit.true) _ c.not_sized-then-not-lines_fit.ensures
 
 returns-7 : tie.Need-returns
 returns-7 c =
-    let f = c in
-    let w = f in
-    let n = w in
-    let d = counting n.before.before.before.before in
+    let n = c.before.before.before.before in
+    let d = counting n in
     let k = checked (good d) in
-    all_fits block_limit (lent k) (term k) _ _ _ _ k.check_column-c.ensures (clean (good d)) (dated d) (many_is n.before.before.before.before) (size_is d)
-    (sym f.lines_fit.ensures ∙ c.if-not-lines_fit.false) w.if-order_room-k.false w.if-work_room-k.false (known (good d)).used_is
+    all_fits block_limit (lent k) (term k) _ _ _ _ k.check_column-c.ensures (clean (good d)) (dated d) (many_is n) (size_is d)
+    (sym c.lines_fit.ensures ∙ c.if-not-lines_fit.false) c.if-order_room-k.false c.if-work_room-k.false (known (good d)).used_is
 
 pub check_sheet_spec : {M : Type 1} → statement M
 check_sheet_spec =

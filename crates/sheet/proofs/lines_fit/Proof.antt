@@ -28,14 +28,14 @@ few s = let a = s.args in omega (arith, picked_few (λ (i : ℕ). is_in (span a.
 
 returns : tie.Need-returns-then-k-room
 returns c =
-    let s = c in
-    sym (le-leb (81 * length (each_once (growers_at s.args.growers.now (slots s.before.before.before))) + 61) _ (omega (arith, fewer s.before.before.before, s.requires.2, c.if-k-room.true)))
+    let s = c.before.before.before in
+    sym (le-leb (81 * length (each_once (growers_at c.args.growers.now (slots s))) + 61) _ (omega (arith, fewer s, c.requires.2, c.if-k-room.true)))
 
 mul-result : tie.Need-overflow_mul-result
-mul-result c = let s = c in omega (arith, c.count.ensures, fewer s.before.before.before.before, few s.before.before.before.before)
+mul-result c = let s = c.before.before.before.before in omega (arith, c.count.ensures, fewer s, few s)
 
 add-result : tie.Need-overflow_add-result
-add-result c = let s = c in omega (arith, c.count.ensures, fewer s.before.before.before.before, few s.before.before.before.before)
+add-result c = let s = c.before.before.before.before in omega (arith, c.count.ensures, fewer s, few s)
 
 returns-2 : tie.Need-returns
 returns-2 c = ap (λ (n : ℕ). leb (81 * n + 61) c.args.room) c.count.ensures

@@ -35,7 +35,7 @@ abbrev ready : tie.After-put_sheet-arg-1 → tie.Else-n-ne0
 ready c = good (arranged c).before
 
 returns : tie.Need-returns-then-n-ne0
-returns c = let k = c in sheet_refused block_limit (lent k.before) _ _ _ _ _ k.check_sheet-c.ensures c.if-n-ne0.true
+returns c = let k = c.before in sheet_refused block_limit (lent k) _ _ _ _ _ c.check_sheet-c.ensures c.if-n-ne0.true
 
 slice-aggregate-arrange-during : tie.Need-slice_bounds-arrange_during-end
 slice-aggregate-arrange-during c = sym (length-take-le _ _ (can c).there)
@@ -72,17 +72,15 @@ slice-aggregate-put-sheet-5 c = let w = can (ready c) in sym (length-take-le _ _
 
 put-sheet-requires : tie.Need-put_sheet-e-requires
 put-sheet-requires c κs =
-    let p = c in
-    let w = can (ready p) in
-    let a = (arranged p).arrange_during.ensures.0 in
+    let w = can (ready c) in
+    let a = (arranged c).arrange_during.ensures.0 in
     (w.measured, in_order w a, text_room w a)
 
 returns-2 : tie.Need-returns
 returns-2 c =
-    let s = c in
-    let p = s in
-    let a = (arranged p.before.before.before).arrange_during.ensures in
-    sheet_done (can (ready p.before.before.before)) a.0 s.put_sheet-e.ensures.0 s.put_sheet-e.ensures.1 a.1
+    let p = c.before.before.before in
+    let a = (arranged p).arrange_during.ensures in
+    sheet_done (can (ready p)) a.0 c.put_sheet-e.ensures.0 c.put_sheet-e.ensures.1 a.1
 
 pub write_spec : {M : Type 1} → statement M
 write_spec =

@@ -11,12 +11,10 @@ use Rattle.sheet.proofs.write_term_sheet.Tie as tie
 
 returns : tie.Need-returns
 returns c =
-    let w = c in
-    let t = w in
-    let a = t.args in
+    let a = c.args in
     let x = column_of a.directory.now a.growers.now a.weights.now a.yields.now a.days.now in
-    w.write.ensures
-    ∙ ap (λ (s : TermAnswer). span_call block_limit x s a.text.now a.order.now a.work.now) t.term_of-t.ensures
+    c.write.ensures
+    ∙ ap (λ (s : TermAnswer). span_call block_limit x s a.text.now a.order.now a.work.now) c.term_of-t.ensures
     ∙ term_call_lem block_limit x _ _ _ a.day
 
 pub write_term_sheet_spec : {M : Type 1} → statement M

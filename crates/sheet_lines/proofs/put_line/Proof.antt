@@ -8,8 +8,7 @@ use Rattle.sheet_lines.proofs.put_line.Tie as tie
 
 returns : tie.Need-returns
 returns c =
-    let d = c in
-    more_put _ _ _ _ _ _ _ d.put_wide.ensures c.put_totals.ensures refl (omega arith)
+    more_put _ _ _ _ _ _ _ c.put_wide.ensures c.put_totals.ensures refl (omega arith)
 
 pub put_line_spec : {M : Type 1} → statement M
 put_line_spec =

@@ -38,7 +38,7 @@ slot-few : (c : tie.In-loop-i invariant-loop decreases-loop) → get_or (start c
 slot-few c = omega (arith, slot_there c, (start c).requires.0.few)
 
 loop-holds : tie.Need-loop-i-init invariant-loop decreases-loop
-loop-holds c = let s = c in lines_start s.requires.0 s.requires.1 c.none-totals.ensures s.requires.2
+loop-holds c = lines_start c.requires.0 c.requires.1 c.none-totals.ensures c.requires.2
 
 run-at-requires : tie.Need-run_at-r-requires invariant-loop decreases-loop
 run-at-requires c κs =

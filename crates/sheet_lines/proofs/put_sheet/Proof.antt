@@ -12,9 +12,9 @@ start c = c.before.before.before.before.before.before.before.before.before.befor
 
 returns : tie.Need-returns
 returns c =
-    let d = c in
-    let s = start d.before.before.before.before in
-    let l = d.put_lines-l.ensures in
+    let d = c.before.before.before.before in
+    let s = start d in
+    let l = c.put_lines-l.ensures in
     let a = s.args in
     let x = slices_at a.g a.w a.y a.n in
     let o = a.order.now in

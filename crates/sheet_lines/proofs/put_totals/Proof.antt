@@ -14,17 +14,17 @@ start c = c.before.before.before.before.before.before
 
 same_length : tie.Need-shape_of-text
 same_length c =
-    let d = c in
-    let f = second d.before.before.before in
+    let d = c.before.before.before in
+    let f = second d in
     let s = start f in
-    totals_size _ s.args.t _ _ _ _ f.put_wide.ensures d.put_wide-2.ensures c.put_wide-3.ensures s.requires
+    totals_size _ s.args.t _ _ _ _ f.put_wide.ensures c.put_wide-2.ensures c.put_wide-3.ensures s.requires
 
 returns : tie.Need-returns
 returns c =
-    let d = c in
-    let f = second d.before.before.before in
+    let d = c.before.before.before in
+    let f = second d in
     let s = start f in
-    totals_put _ s.args.t _ _ _ _ f.put_wide.ensures d.put_wide-2.ensures c.put_wide-3.ensures s.requires
+    totals_put _ s.args.t _ _ _ _ f.put_wide.ensures c.put_wide-2.ensures c.put_wide-3.ensures s.requires
 
 pub put_totals_spec : {M : Type 1} → statement M
 put_totals_spec =

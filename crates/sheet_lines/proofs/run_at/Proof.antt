@@ -49,7 +49,7 @@ mul-grower-2 : tie.Need-offset_bounds-g-order invariant-loop decreases-loop
 mul-grower-2 c = omega (arith, c.shared_slice_known-1.given c.args.from)
 
 shared-slice-read-grower-2 : tie.Need-bounds-g-order invariant-loop decreases-loop
-shared-slice-read-grower-2 c = let s = c in slot_in s.args.g.now s.args.order.now s.args.from s.requires.2 s.requires.3
+shared-slice-read-grower-2 c = slot_in c.args.g.now c.args.order.now c.args.from c.requires.2 c.requires.3
 
 loop-holds : tie.Need-loop-i-init invariant-loop decreases-loop
 loop-holds c = run_start _ _ _ c.requires.3
@@ -64,7 +64,7 @@ returns : tie.Need-returns-then-g-s invariant-loop decreases-loop
 returns c = run_stops c.loop-i.invariant c.loop-i-test.true c.if-g-s.true
 
 shared-slice-read-a : tie.Need-bounds-w-s invariant-loop decreases-loop
-shared-slice-read-a c = let t = c in omega (arith, slot_there t.before.before.before.before, (start t.before.before.before.before).requires.0.even.weights)
+shared-slice-read-a c = let t = c.before.before.before.before in omega (arith, slot_there t, (start t).requires.0.even.weights)
 
 cast-a : tie.Need-overflow_cast-a invariant-loop decreases-loop
 cast-a c = omega (arith, c.shared_slice_known-in-loop-i-3-1.given (slot c.before.before.before.before))

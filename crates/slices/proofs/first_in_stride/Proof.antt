@@ -8,9 +8,8 @@ use Rattle.slices.proofs.first_in_stride.Tie as tie
 
 returns : tie.Need-returns-then-count_equal-lt1
 returns c =
-    let b = c.before.before.before.before.before.before in
-    let g = b.args in
-    let p = b.requires in
+    let g = c.args in
+    let p = c.requires in
     grower_missing g.d (slices_at g.g g.w g.y g.n) p.1 (omega (arith, c.before.count_equal.ensures, c.if-count_equal-lt1.true))
 
 pub first_in_stride_spec : {M : Type 1} → statement M

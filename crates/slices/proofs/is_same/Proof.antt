@@ -14,24 +14,18 @@ returns c = let s = c.before.before.before in other_grower s.args.d (here s) s.a
 
 returns-2 : tie.Need-returns-then-d-w
 returns-2 c =
-    let b = c.before.before.before in
-    let s = b.before.before.before in
-    other_weight s.args.d (here s) s.args.i b.if-d-g.false c.if-d-w.true
+    let b = c.before.before.before.before.before.before in
+    other_weight b.args.d (here b) b.args.i c.if-d-g.false c.if-d-w.true
 
 returns-3 : tie.Need-returns-then-d-y
 returns-3 c =
-    let b₂ = c.before.before.before in
-    let b₁ = b₂.before.before.before in
-    let s = b₁.before.before.before in
-    other_yield s.args.d (here s) s.args.i b₁.if-d-g.false b₂.if-d-w.false c.if-d-y.true
+    let b₂ = c.before.before.before.before.before.before.before.before.before in
+    other_yield b₂.args.d (here b₂) b₂.args.i c.if-d-g.false c.if-d-w.false c.if-d-y.true
 
 returns-4 : tie.Need-returns
 returns-4 c =
-    let b₃ = c.before.before in
-    let b₂ = b₃.before.before.before in
-    let b₁ = b₂.before.before.before in
-    let s = b₁.before.before.before in
-    day_decides s.args.d (here s) s.args.i b₁.if-d-g.false b₂.if-d-w.false b₃.if-d-y.false
+    let b₃ = c.before.before.before.before.before.before.before.before.before.before.before in
+    day_decides b₃.args.d (here b₃) b₃.args.i c.if-d-g.false c.if-d-w.false c.if-d-y.false
 
 pub is_same_spec : {M : Type 1} → statement M
 is_same_spec =

@@ -20,29 +20,29 @@ start l = l.before.before.before.before
 
 loop-again : tie.Need-loop-i-preserved-then-t-last invariant-loop decreases-loop
 loop-again c =
-    let o = c.before.before in
-    let t = o.before.before.before in
+    let o = c.before.before.before.before.before in
+    let t = o in
     let s = start t.before in
     let a = s.args in
-    kept_yes a.first a.last a.w.now a.n.now _ _ _ _ t.before.loop-i.invariant t.loop-i-test.true s.requires.0 s.requires.1 _ o.weight_on.ensures
+    kept_yes a.first a.last a.w.now a.n.now _ _ _ _ t.before.loop-i.invariant t.loop-i-test.true s.requires.0 s.requires.1 _ c.weight_on.ensures
     (is_inside _ _ _ c.before.if-first-t.true c.if-t-last.true)
 
 loop-again-2 : tie.Need-loop-i-preserved-else-t-last invariant-loop decreases-loop
 loop-again-2 c =
-    let o = c.before.before in
-    let t = o.before.before.before in
+    let o = c.before.before.before.before.before in
+    let t = o in
     let s = start t.before in
     let a = s.args in
-    kept_no a.first a.last a.w.now a.n.now _ _ _ _ t.before.loop-i.invariant t.loop-i-test.true s.requires.0 s.requires.1 _ o.weight_on.ensures
+    kept_no a.first a.last a.w.now a.n.now _ _ _ _ t.before.loop-i.invariant t.loop-i-test.true s.requires.0 s.requires.1 _ c.weight_on.ensures
     (is_above _ _ _ c.before.if-first-t.true c.if-t-last.false)
 
 loop-again-3 : tie.Need-loop-i-preserved invariant-loop decreases-loop
 loop-again-3 c =
-    let o = c.before in
-    let t = o.before.before.before in
+    let o = c.before.before.before.before in
+    let t = o in
     let s = start t.before in
     let a = s.args in
-    kept_no a.first a.last a.w.now a.n.now _ _ _ _ t.before.loop-i.invariant t.loop-i-test.true s.requires.0 s.requires.1 _ o.weight_on.ensures
+    kept_no a.first a.last a.w.now a.n.now _ _ _ _ t.before.loop-i.invariant t.loop-i-test.true s.requires.0 s.requires.1 _ c.weight_on.ensures
     (is_below _ _ _ c.if-first-t.false)
 
 returns : tie.Need-returns invariant-loop decreases-loop

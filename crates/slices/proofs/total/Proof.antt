@@ -28,8 +28,7 @@ add-sum c = omega (arith, c.shared_slice_known-1.given c.before.before.loop-i.i)
 
 loop-again : tie.Need-loop-i-preserved invariant-loop decreases-loop
 loop-again c =
-    let b = c.before.before in
-    (omega arith, omega (arith, sum-take_next c.before.before.before.args.s.now b.loop-i.i (omega arith)), omega (arith, c.shared_slice_known-1.given b.loop-i.i))
+    (omega arith, omega (arith, sum-take_next c.before.before.before.args.s.now c.loop-i.i (omega arith)), omega (arith, c.shared_slice_known-1.given c.loop-i.i))
 
 returns : tie.Need-returns invariant-loop decreases-loop
 returns c = c.before.loop-i.invariant.1 ∙ ap sum_of (take_all c.before.loop-i.i c.before.before.args.s.now (omega arith))

@@ -30,15 +30,11 @@ mul-c c = omega (arith, (modest _ c.before.before.before.loop-i.i c.before.befor
 
 add-weight : tie.Need-overflow_add-weight invariant-loop decreases-loop
 add-weight c =
-    let b₁ = c.before.before.before in
-    let b₂ = b₁.before in
-    omega (arith, b₂.requires.few, b₁.loop-i.invariant.light, b₁.loop-i.invariant.at, (modest _ b₁.loop-i.i b₂.requires).weight)
+    omega (arith, c.requires.few, c.loop-i.invariant.light, c.loop-i.invariant.at, (modest _ c.loop-i.i c.requires).weight)
 
 add-oil : tie.Need-overflow_add-oil invariant-loop decreases-loop
 add-oil c =
-    let b₁ = c.before.before.before in
-    let b₂ = b₁.before in
-    omega (arith, b₂.requires.few, b₁.loop-i.invariant.little, b₁.loop-i.invariant.at, (modest _ b₁.loop-i.i b₂.requires).oil)
+    omega (arith, c.requires.few, c.loop-i.invariant.little, c.loop-i.invariant.at, (modest _ c.loop-i.i c.requires).oil)
 
 loop-again : tie.Need-loop-i-preserved invariant-loop decreases-loop
 loop-again c = running_take any _ c.before.before.before.before.requires _ _ _ _ c.before.before.loop-i-test.true c.before.before.before.loop-i.invariant refl

@@ -9,16 +9,14 @@ use Rattle.slices.proofs.total_stride.Tie as tie
 
 returns : tie.Need-returns-then-k-lt1
 returns c =
-    let b = c.before.before.before.before.before.before.before in
-    let g = b.args in
-    let m = b.requires in
+    let g = c.args in
+    let m = c.requires in
     c.none.ensures ∙ none_between g.lo g.hi (slices_at g.g g.w g.y g.n) m (omega (arith, c.before.before.count-k.ensures, c.before.if-k-lt1.true))
 
 returns-2 : tie.Need-returns-then-k-g
 returns-2 c =
-    let b = c.before.before.before.before.before.before.before.before in
-    let g = b.args in
-    let m = b.requires in
+    let g = c.args in
+    let m = c.requires in
     c.total_all.ensures ∙ all_between g.lo g.hi (slices_at g.g g.w g.y g.n) m (omega (arith, c.before.before.before.count-k.ensures, c.before.if-k-g.true))
 
 pub total_stride_spec : {M : Type 1} → statement M

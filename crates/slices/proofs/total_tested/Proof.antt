@@ -29,36 +29,23 @@ mul-c c = omega (arith, (modest _ c.before.before.before.before.loop-i.i c.befor
 
 add-weight : tie.Need-overflow_add-weight invariant-loop decreases-loop
 add-weight c =
-    let b₁ = c.before.before.before.before.before.before in
-    let b₂ = b₁.before in
-    omega (arith, b₂.requires.few, b₁.loop-i.invariant.light, b₁.loop-i.invariant.at, (modest _ b₁.loop-i.i b₂.requires).weight)
+    omega (arith, c.requires.few, c.loop-i.invariant.light, c.loop-i.invariant.at, (modest _ c.loop-i.i c.requires).weight)
 
 add-oil : tie.Need-overflow_add-oil invariant-loop decreases-loop
 add-oil c =
-    let b₁ = c.before.before.before.before.before.before in
-    let b₂ = b₁.before in
-    omega (arith, b₂.requires.few, b₁.loop-i.invariant.little, b₁.loop-i.invariant.at, (modest _ b₁.loop-i.i b₂.requires).oil)
+    omega (arith, c.requires.few, c.loop-i.invariant.little, c.loop-i.invariant.at, (modest _ c.loop-i.i c.requires).oil)
 
 loop-again : tie.Need-loop-i-preserved-then-x-hi invariant-loop decreases-loop
 loop-again c =
-    let b₁ = c.before.before.before.before.before in
-    let b₂ = b₁.before in
-    let b₃ = b₂.before in
-    running_take _ _ b₃.requires _ _ _ _ b₁.loop-i-test.true b₂.loop-i.invariant (is_inside _ _ _ c.before.if-lo-x.true c.if-x-hi.true)
+    running_take _ _ c.requires _ _ _ _ c.loop-i-test.true c.loop-i.invariant (is_inside _ _ _ c.before.if-lo-x.true c.if-x-hi.true)
 
 loop-again-2 : tie.Need-loop-i-preserved-else-x-hi invariant-loop decreases-loop
 loop-again-2 c =
-    let b₁ = c.before.before.before.before.before in
-    let b₂ = b₁.before in
-    let b₃ = b₂.before in
-    running_pass _ _ b₃.requires _ _ _ _ b₁.loop-i-test.true b₂.loop-i.invariant (is_above _ _ _ c.before.if-lo-x.true c.if-x-hi.false)
+    running_pass _ _ c.requires _ _ _ _ c.loop-i-test.true c.loop-i.invariant (is_above _ _ _ c.before.if-lo-x.true c.if-x-hi.false)
 
 loop-again-3 : tie.Need-loop-i-preserved invariant-loop decreases-loop
 loop-again-3 c =
-    let b₁ = c.before.before.before.before in
-    let b₂ = b₁.before in
-    let b₃ = b₂.before in
-    running_pass _ _ b₃.requires _ _ _ _ b₁.loop-i-test.true b₂.loop-i.invariant (is_below _ _ _ c.if-lo-x.false)
+    running_pass _ _ c.requires _ _ _ _ c.loop-i-test.true c.loop-i.invariant (is_below _ _ _ c.if-lo-x.false)
 
 returns : tie.Need-returns invariant-loop decreases-loop
 returns c =

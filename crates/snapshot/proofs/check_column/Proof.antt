@@ -58,8 +58,8 @@ in_range_lem c = let e = shaped (good c).before in values_there block_limit (col
 
 returns : tie.Need-returns-then-refusal-ne0
 returns c =
-    let s = c in
-    check_lent block_limit (lent s.before.before.before.before.before.before.before.before) _ _ (shape_refusal block_limit (lent_checks block_limit (lent s.before.before.before.before.before.before.before.before)) _ 0 _ c.lent-shape.ensures) c.if-refusal-ne0.true c.not_checked.ensures
+    let s = c.before.before.before.before.before.before.before.before in
+    check_lent block_limit (lent s) _ _ (shape_refusal block_limit (lent_checks block_limit (lent s)) _ 0 _ c.lent-shape.ensures) c.if-refusal-ne0.true c.not_checked.ensures
 
 lengths-requires : tie.Need-lengths-requires
 lengths-requires c κs = numbered block_limit (col c) (held c)
@@ -69,8 +69,8 @@ fences-requires c κs = numbered block_limit (col c.before) (held c.before)
 
 sound-ok-requires : tie.Need-sound_ok-requires
 sound-ok-requires c κs =
-    let e = c in
-    let p = parts_lent block_limit (col e.before.before) (held e.before.before) c.lengths.ensures c.fences.ensures in
+    let e = c.before.before in
+    let p = parts_lent block_limit (col e) (held e) c.lengths.ensures c.fences.ensures in
     (p.even, p.rises, p.room)
 
 returns-2 : tie.Need-returns-then-not-sound_ok
@@ -86,9 +86,9 @@ slice-aggregate-values-ok-2 c = let e = shaped c.before in sym (length-take-le _
 
 returns-3 : tie.Need-returns-then-not-values_ok
 returns-3 c =
-    let v = c in
-    let e = shaped (good v.before.before).before in
-    check_values block_limit (col e) (carry e).passed (sound_there (good v.before.before)) _ (in_range_lem v.before.before ∙ c.if-not-values_ok.true) c.not_checked-then-not-values_ok.ensures
+    let v = c.before.before in
+    let e = shaped (good v).before in
+    check_values block_limit (col e) (carry e).passed (sound_there (good v)) _ (in_range_lem v ∙ c.if-not-values_ok.true) c.not_checked-then-not-values_ok.ensures
 
 returns-4 : tie.Need-returns
 returns-4 c =

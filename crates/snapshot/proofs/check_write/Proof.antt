@@ -42,8 +42,8 @@ fits c =
 
 returns : tie.Need-returns-then-c-ne0
 returns c =
-    let k = c in
-    room_refused block_limit (lent k.before.before) _ k.check_column-c.ensures c.if-c-ne0.true _ _ ∙ checked_room_lem block_limit (lent k.before.before) _
+    let k = c.before.before in
+    room_refused block_limit (lent k) _ c.check_column-c.ensures c.if-c-ne0.true _ _ ∙ checked_room_lem block_limit (lent k) _
 
 slice-aggregate-undated : tie.Need-slice_bounds-undated-end
 slice-aggregate-undated c =
@@ -63,24 +63,22 @@ count-requires c κs = (held (good c)).lent.shape.size
 -- the text's length, counted
 returns-3 : tie.Need-returns-then-room-count
 returns-3 c =
-    let n = c in
-    let d = n in
-    let e = good d.before.before.before in
+    let d = c.before.before.before in
+    let e = good d in
     let k = checked e in
     let w = held e in
-    room_short block_limit (lent k) _ k.check_column-c.ensures e.if-c-ne0.false (undated d.before.before.before.before ∙ d.if-not-undated.false)
-    (text_long block_limit (lent k) _ w.lent (omega (arith, w.used_is, n.count.ensures, c.if-room-count.true))) _ c.not_checked-then-room-count.ensures
+    room_short block_limit (lent k) _ k.check_column-c.ensures e.if-c-ne0.false (undated d.before ∙ c.if-not-undated.false)
+    (text_long block_limit (lent k) _ w.lent (omega (arith, w.used_is, c.count.ensures, c.if-room-count.true))) _ c.not_checked-then-room-count.ensures
     ∙ checked_room_lem block_limit (lent k) _
 
 returns-4 : tie.Need-returns
 returns-4 c =
-    let n = c in
-    let d = n in
-    let e = good d.before.before in
+    let d = c.before.before in
+    let e = good d in
     let k = checked e in
     let w = held e in
-    room_enough block_limit (lent k) _ k.check_column-c.ensures e.if-c-ne0.false (undated d.before.before.before ∙ d.if-not-undated.false)
-    (text_fits block_limit (lent k) _ w.lent (omega (arith, w.used_is, n.count.ensures, c.if-room-count.false)))
+    room_enough block_limit (lent k) _ k.check_column-c.ensures e.if-c-ne0.false (undated d.before ∙ c.if-not-undated.false)
+    (text_fits block_limit (lent k) _ w.lent (omega (arith, w.used_is, c.count.ensures, c.if-room-count.false)))
     ∙ checked_room_lem block_limit (lent k) _
 
 pub check_write_spec : {M : Type 1} → statement M

@@ -58,11 +58,11 @@ returns-4 c =
 
 returns-5 : tie.Need-returns-then-not-header_ok
 returns-5 c =
-    let here = c in
+    let here = c.before.before.before.before.before in
     head_range block_limit _ _ _ _ _
-    (sym (took_end (three here.before.before.before.before.before) (omega arith)) ∙ sym here.ends.ensures
-    ∙ here.if-not-ends.false)
-    (three here.before.before.before.before.before).values (sym c.header_ok.ensures ∙ c.if-not-header_ok.true) c.no_head-then-not-header_ok.ensures
+    (sym (took_end (three here) (omega arith)) ∙ sym c.ends.ensures
+    ∙ c.if-not-ends.false)
+    (three here).values (sym c.header_ok.ensures ∙ c.if-not-header_ok.true) c.no_head-then-not-header_ok.ensures
 
 returns-6 : tie.Need-returns
 returns-6 c =

@@ -35,38 +35,36 @@ returns-2 c = answer_few block_limit _ _ _ _ (head c.before.before.before) c.if-
 
 returns-3 : tie.Need-returns-then-text-start
 returns-3 c =
-    let e = c in
-    answer_size block_limit _ _ _ _ (head (accepted e.before.before.before)) (accepted e.before.before.before).if-h-ne0.false e.if-c-m.false (λ z. omega (arith, z)) c.not_judged-then-text-start.ensures
+    let e = c.before.before.before in
+    answer_size block_limit _ _ _ _ (head (accepted e)) (accepted e).if-h-ne0.false c.if-c-m.false (λ z. omega (arith, z)) c.not_judged-then-text-start.ensures
 
 list-parts-requires : tie.Need-list_parts-l-requires
 list-parts-requires c κs = count c.before.before.before.before
 
 returns-4 : tie.Need-returns-then-l-ne0
 returns-4 c =
-    let e = c in
-    answer-lines block_limit _ _ _ _ (head (accepted e.before.before.before.before.before.before)) (accepted e.before.before.before.before.before.before).if-h-ne0.false e.if-c-m.false _ c.list_parts-l.ensures c.if-l-ne0.true c.not_judged-then-l-ne0.ensures
+    let e = c.before.before.before.before.before.before in
+    answer-lines block_limit _ _ _ _ (head (accepted e)) (accepted e).if-h-ne0.false c.if-c-m.false _ c.list_parts-l.ensures c.if-l-ne0.true c.not_judged-then-l-ne0.ensures
 
 judge-numbers-requires : tie.Need-judge_numbers-n-requires
 judge-numbers-requires c κs =
-    let l = c in
-    let e = accepted (sized l.before.before) in
-    (numbers_listed block_limit _ _ (head e) e.if-h-ne0.false _ l.list_parts-l.ensures l.if-l-ne0.false, omega arith)
+    let l = c.before.before in
+    let e = accepted (sized l) in
+    (numbers_listed block_limit _ _ (head e) e.if-h-ne0.false _ c.list_parts-l.ensures c.if-l-ne0.false, omega arith)
 
 returns-5 : tie.Need-returns-then-n-ne0
 returns-5 c =
-    let j = c in
-    let l = j in
-    let e = sized l.before.before.before.before.before in
-    answer_numbers block_limit _ _ _ _ (head (accepted e)) (accepted e).if-h-ne0.false e.if-c-m.false _ l.list_parts-l.ensures l.if-l-ne0.false (omega arith) _
-    j.judge_numbers-n.ensures c.if-n-ne0.true c.not_judged-then-n-ne0.ensures
+    let l = c.before.before.before.before.before in
+    let e = sized l in
+    answer_numbers block_limit _ _ _ _ (head (accepted e)) (accepted e).if-h-ne0.false e.if-c-m.false _ c.list_parts-l.ensures c.if-l-ne0.false (omega arith) _
+    c.judge_numbers-n.ensures c.if-n-ne0.true c.not_judged-then-n-ne0.ensures
 
 returns-6 : tie.Need-returns
 returns-6 c =
-    let j = c in
-    let l = j in
-    let e = sized l.before.before.before.before in
-    answer_yes block_limit _ _ _ _ (head (accepted e)) (accepted e).if-h-ne0.false e.if-c-m.false _ l.list_parts-l.ensures l.if-l-ne0.false (omega arith) _
-    j.judge_numbers-n.ensures c.if-n-ne0.false refl
+    let l = c.before.before.before.before in
+    let e = sized l in
+    answer_yes block_limit _ _ _ _ (head (accepted e)) (accepted e).if-h-ne0.false e.if-c-m.false _ c.list_parts-l.ensures c.if-l-ne0.false (omega arith) _
+    c.judge_numbers-n.ensures c.if-n-ne0.false refl
 
 pub judge_spec : {M : Type 1} → statement M
 judge_spec =

@@ -27,29 +27,24 @@ low-of-requires c κs = let q = c.requires in (omega (arith, q.0), q.1)
 
 judge-deliveries-requires : tie.Need-judge_deliveries-r-requires invariant-loop decreases-loop
 judge-deliveries-requires c κs =
-    let top = c in
-    omega (arith, part_room top.loop-p.invariant top.loop-p-test.true, top.requires.2)
+    omega (arith, part_room c.loop-p.invariant c.loop-p-test.true, c.requires.2)
 
 returns : tie.Need-returns-then-r-ne0 invariant-loop decreases-loop
 returns c =
-    let top = c in
     refused_by _ _ c.judge_deliveries-r.ensures c.if-r-ne0.true
-    (parts_stop top.loop-p.invariant top.loop-p-test.true c.low_of.ensures c.high_of.ensures)
+    (parts_stop c.loop-p.invariant c.loop-p-test.true c.low_of.ensures c.high_of.ensures)
 
 mul-e : tie.Need-overflow_mul-e invariant-loop decreases-loop
 mul-e c =
-    let top = c in
-    omega (arith, part_room top.loop-p.invariant top.loop-p-test.true, top.requires.2)
+    omega (arith, part_room c.loop-p.invariant c.loop-p-test.true, c.requires.2)
 
 add-e : tie.Need-overflow_add-e invariant-loop decreases-loop
 add-e c =
-    let top = c in
-    omega (arith, part_room top.loop-p.invariant top.loop-p-test.true, top.requires.2)
+    omega (arith, part_room c.loop-p.invariant c.loop-p-test.true, c.requires.2)
 
 loop-again : tie.Need-loop-p-preserved invariant-loop decreases-loop
 loop-again c =
-    let top = c in
-    parts_next top.loop-p.invariant top.loop-p-test.true
+    parts_next c.loop-p.invariant c.loop-p-test.true
     c.low_of.ensures c.high_of.ensures (passed _ c.judge_deliveries-r.ensures c.if-r-ne0.false)
 
 returns-2 : tie.Need-returns invariant-loop decreases-loop

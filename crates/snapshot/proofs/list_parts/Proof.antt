@@ -44,17 +44,17 @@ returns c =
 
 returns-2 : tie.Need-returns-in_default-g invariant-loop decreases-loop
 returns-2 c =
-    let f = c in
-    list_stop (from f.before.before.before).loop-i.invariant f.loop-i-test.true _
-    (took_stop (one f.before.before.before) (omega arith) c.number_at-g.ensures c.in_default-g.is)
+    let f = c.before.before.before in
+    list_stop (from f).loop-i.invariant c.loop-i-test.true _
+    (took_stop (one f) (omega arith) c.number_at-g.ensures c.in_default-g.is)
     c.not_listed-in_default-g.ensures
 
 returns-3 : tie.Need-returns-then-not-ends invariant-loop decreases-loop
 returns-3 c =
-    let g = c in
-    let f = first g.before.before.before in
+    let g = c.before.before.before in
+    let f = first g in
     list_stop (from f).loop-i.invariant f.loop-i-test.true _
-    (sym (c.if-not-ends.true) ∙ c.ends.ensures ∙ took_end (two g.before.before.before) (omega arith)) c.not_listed-then-not-ends.ensures
+    (sym (c.if-not-ends.true) ∙ c.ends.ensures ∙ took_end (two g) (omega arith)) c.not_listed-then-not-ends.ensures
 
 -- the invariant, past the line's end
 abbrev so_far : tie.Else-not-ends invariant-loop decreases-loop → tie.At-loop-i invariant-loop decreases-loop
@@ -71,10 +71,10 @@ add_at c = let w = (so_far c.before.before.before).loop-i.invariant in omega (ar
 
 loop-again : tie.Need-loop-i-preserved invariant-loop decreases-loop
 loop-again c =
-    let e = c in
-    let w = two e.before.before.before.before.before in
-    list_next (so_far e.before.before.before).loop-i.invariant (first e.before.before.before.before.before).loop-i-test.true _ _ _
-    (sym (took_end w (omega arith)) ∙ sym e.ends.ensures ∙ e.if-not-ends.false) w.values c.put.ensures
+    let e = c.before.before.before in
+    let w = two e.before.before in
+    list_next (so_far e).loop-i.invariant (first e.before.before).loop-i-test.true _ _ _
+    (sym (took_end w (omega arith)) ∙ sym c.ends.ensures ∙ c.if-not-ends.false) w.values c.put.ensures
 
 returns-4 : tie.Need-returns invariant-loop decreases-loop
 returns-4 c = list_end c.loop-i.invariant c.loop-i-test.false _ refl

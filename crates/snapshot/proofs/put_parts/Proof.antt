@@ -21,8 +21,7 @@ put-two-requires c κs = part_room c.loop-i.invariant c.loop-i-test.true
 
 loop-again : tie.Need-loop-i-preserved invariant-loop decreases-loop
 loop-again c =
-    let top = c in
-    parts_next top.loop-i.invariant top.loop-i-test.true _
+    parts_next c.loop-i.invariant c.loop-i-test.true _
     c.put_two.ensures
 
 returns : tie.Need-returns invariant-loop decreases-loop

@@ -22,8 +22,7 @@ put-three-requires c κs = row_room c.loop-i.invariant c.loop-i-test.true
 
 loop-again : tie.Need-loop-i-preserved invariant-loop decreases-loop
 loop-again c =
-    let top = c in
-    rows_next top.loop-i.invariant top.loop-i-test.true _
+    rows_next c.loop-i.invariant c.loop-i-test.true _
     c.put_three.ensures
 
 returns : tie.Need-returns invariant-loop decreases-loop

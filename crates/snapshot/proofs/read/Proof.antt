@@ -100,12 +100,12 @@ slice-aggregate-clear c = sym (length-take-le _ _ (days_room (first (second (thi
 
 returns-3 : tie.Need-returns
 returns-3 c =
-    let n = c in
-    let y = fourth n.before.before.before in
+    let n = c.before.before.before in
+    let y = fourth n in
     let w = third y in
     let g = second w in
     let e = first g in
-    read_done block_limit _ _ (even e) _ (judged e) e.if-n-ne0.false _ _ _ _ g.store.ensures w.store-2.ensures y.store-3.ensures n.clear.ensures (days_room e)
+    read_done block_limit _ _ (even e) _ (judged e) e.if-n-ne0.false _ _ _ _ g.store.ensures w.store-2.ensures y.store-3.ensures c.clear.ensures (days_room e)
 
 pub read_spec : {M : Type 1} → statement M
 read_spec =

@@ -33,16 +33,14 @@ low-of-requires c κs = let q = c.requires in (omega (arith, q.0), q.1)
 
 returns : tie.Need-returns-then-not-between invariant-loop decreases-loop
 returns c =
-    let top = c in
-    let h = top.loop-p-test.true in
-    let w = top.loop-p.invariant in
+    let h = c.loop-p-test.true in
+    let w = c.loop-p.invariant in
     sound_stop h w (tested h w _ c.low_of.ensures c.high_of.ensures c.between.ensures ∙ c.if-not-between.true)
 
 loop-again : tie.Need-loop-p-preserved invariant-loop decreases-loop
 loop-again c =
-    let top = c in
-    let h = top.loop-p-test.true in
-    let w = top.loop-p.invariant in
+    let h = c.loop-p-test.true in
+    let w = c.loop-p.invariant in
     sound_next h w (tested h w _ c.low_of.ensures c.high_of.ensures c.between.ensures ∙ c.if-not-between.false)
 
 returns-2 : tie.Need-returns invariant-loop decreases-loop

@@ -69,8 +69,8 @@ checked c = (counted (parted c)).before
 
 returns : tie.Need-returns-then-n-ne0
 returns c =
-    let s = c in
-    write_refused block_limit (lent s.before.before.before.before.before.before.before.before) s.args.text.now _ c.check_write-c.ensures c.if-n-ne0.true
+    let s = c.before.before.before.before.before.before.before.before in
+    write_refused block_limit (lent s) c.args.text.now _ c.check_write-c.ensures c.if-n-ne0.true
 
 count-requires : tie.Need-count-k-requires
 count-requires c κs = (can c).lent.shape.size
@@ -132,12 +132,12 @@ add-t34 c = let s = sizes (counted (parted (listed c.before.before.before.before
 
 returns-2 : tie.Need-returns
 returns-2 c =
-    let p = c in
-    let f = listed p.before.before.before.before in
+    let p = c.before.before.before.before in
+    let f = listed p in
     let b = parted f in
     let e = checked f in
     write_done block_limit (col e) (from e).args.text.now _ e.check_write-c.ensures (can e) _ _ _ _ _ _ _ _ b.block.ensures (counted b).count-k.ensures (omega arith)
-    f.lengths.ensures f.fences.ensures f.put_three.ensures p.put_parts.ensures c.put_rows.ensures
+    f.lengths.ensures f.fences.ensures f.put_three.ensures c.put_parts.ensures c.put_rows.ensures
 
 pub write_spec : {M : Type 1} → statement M
 write_spec =

@@ -24,8 +24,7 @@ add-rw c = omega (arith, (fit c.before.before.before.before.before.before).write
 
 returns-2 : tie.Need-returns
 returns-2 c =
-    let e = c in
-    add_done _ _ (sym e.all_fit.ensures ∙ e.if-not-all_fit.false)
+    add_done _ _ (sym c.all_fit.ensures ∙ c.if-not-all_fit.false)
 
 pub plus_spec : {M : Type 1} → statement M
 plus_spec = tie.close (tie.spec (λ c κs. search rules) returns add-rr add-sr add-rw returns-2)
