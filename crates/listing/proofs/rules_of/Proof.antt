@@ -4,7 +4,7 @@ use Rattle.listing.proofs.rules_of.Statement.{statement}
 use Rattle.listing.proofs.rules_of.Tie as tie
 
 returns : tie.Need-returns
-returns c = rw (c.before.longest-partition.ensures, c.most-partitions.ensures)
+returns c = rw (c.longest_partition-longest.ensures, c.most_partitions-most.ensures)
 
-pub rules-of-spec : {M : Type 1} → statement M
-rules-of-spec = tie.close (tie.spec (λ c κs. search rules) (λ c κs. search rules) returns)
+pub rules_of_spec : {M : Type 1} → statement M
+rules_of_spec = tie.close (tie.spec (λ c κs. search rules) (λ c κs. search rules) returns)

@@ -48,7 +48,7 @@ layout-number-requires c κs =
     let s = at-start c.before.before.before.before.before in
     let l = c.add_up in
     record {
-      c = _;
+      n = _;
       holds = summed_holds _ _ _ _ _ l.ensures.summed g.0.prices g.0.counts (omega (arith, few c.before.before.before.before)) (omega (arith, few c.before.before.before.before, l.ensures.long));
       covers = rw c.block_count-blocks.ensures (layout_covers_blocks (the-set s) s.args.ends.now g.1);
     }
