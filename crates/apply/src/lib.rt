@@ -1,4 +1,6 @@
 // Applying a layout to an unpartitioned set (01: laying): the directory, and no record moved.
+#![tactic(auto)]
+
 ghost use Rattle.std.specs.Prelude.{◌≡◌, ℕ, List, [], length, T};
 ghost use Rattle.model.specs.Bounds.{block_limit};
 ghost use Rattle.model.specs.Layouts.{layout_ok};

@@ -4,7 +4,7 @@ use mathlib.Core.Path.{◌≡◌, refl, ◌∙◌, subst}
 use mathlib.Core.List.{List, [], ◌∷◌, ◌++◌, map}
 use native.Mathlib.Omega.{arith}
 use lib.ListN.{length, get_or, length-append}
-use lib.IntN.{ℤ, pos, sub_ℕ, ◌*ℤ◌}
+use lib.IntN.{pos, sub_ℕ, ◌*ℤ◌}
 use Rattle.model.specs.declared.PriceCard.{PriceCard}
 use Rattle.model.specs.Place.{place}
 use Rattle.model.specs.Histograms.{Histogram, histograms, at, count}

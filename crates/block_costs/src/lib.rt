@@ -1,4 +1,6 @@
 // The cost of a block's counts by five terms, from prices and histograms, and the running sums of the terms.
+#![tactic(auto)]
+
 ghost use Rattle.std.specs.Prelude.{◌≡◌, ◌+◌, ◌*◌, ◌^◌, ◌≤◌, ◌<◌, length, get_or};
 ghost use Rattle.model.specs.Bounds.{block_limit, most_count, most_price};
 ghost use Rattle.layout_search.specs.RunningSums.{sums_per_place};

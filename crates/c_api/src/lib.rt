@@ -1,4 +1,6 @@
 // The C interface (include/meltusk.h): wrappers on numbers and slices over the proved calls, each with its own equation.
+#![tactic(auto)]
+
 ghost use Rattle.std.specs.Prelude.{◌≡◌};
 ghost use Rattle.model.specs.Bounds.{block_limit};
 ghost use Rattle.model.specs.Prices.{prices, limits};

@@ -1,5 +1,7 @@
 // The checks (01: questions) of one number, one delivery or one slice that several calls put.
 // Each answers what its definition says, so that a caller has one test for each.
+#![tactic(auto)]
+
 ghost use Rattle.std.specs.Prelude.{◌≡◌};
 ghost use Rattle.model.specs.Calendar.{span};
 ghost use Rattle.model.specs.Deliveries.{in_range, day_ok};

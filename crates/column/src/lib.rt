@@ -1,6 +1,8 @@
 // The laid column (01): find, range, also over days (02: Slip 7), insert, delete, move, the next and the previous grower (02: Slip 3) and the
 // partition call, over the lent slices and the lent directory.
 // No call trusts what it is lent: each puts its checks first, and a refused call writes to no slice.
+#![tactic(auto)]
+
 ghost use Rattle.std.specs.Prelude.{◌≡◌, ◌+◌, ◌-◌, ◌≤◌, ◌<◌, length, get_or, T};
 ghost use Rattle.model.specs.Bounds.{block_limit, most_slots};
 ghost use Rattle.model.specs.Lists.{sum_of};

@@ -1,6 +1,8 @@
 // The weighbridge file (02: Slip 1): imported into the slices, its columns found by name, and exported from them.
 // Importing judges the whole text before it stores a row, exporting knows the text's length before it writes a byte, so that a refused
 // call writes to no slice.
+#![tactic(auto)]
+
 ghost use Rattle.std.specs.Prelude.{◌≡◌, false, ◌&&◌, ◌≤◌, ◌<◌, length};
 ghost use Rattle.model.specs.Lists.{same_list};
 ghost use Rattle.model.specs.Checks.{first_failed};

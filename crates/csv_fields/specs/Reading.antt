@@ -1,5 +1,5 @@
 -- What reading a field at a byte answers.
-use Rattle.std.specs.Prelude.{◌≡◌, ℕ, suc, ◌+◌, ◌-◌, ◌<◌, ◌≤◌, Bool, true, false, cond, ◌||◌, List, [], ◌∷◌, length, drop, ◌==◌, slice_index, slice_range}
+use Rattle.std.specs.Prelude.{◌≡◌, ℕ, suc, ◌+◌, ◌<◌, ◌≤◌, Bool, true, false, cond, ◌||◌, List, [], ◌∷◌, length, drop, ◌==◌, slice_index, slice_range}
 use Rattle.std.proofs.Math.Option.{Option, none, some}
 use Rattle.model.specs.Bounds.{most_number}
 use Rattle.model.specs.Lists.{every, is_some}

@@ -1,4 +1,6 @@
 // Fields of comma-separated text by RFC 4180 (02: Slip 1) at a byte of a text, and the numbers that they spell.
+#![tactic(auto)]
+
 ghost use Rattle.std.specs.Prelude.{◌≡◌, ◌+◌, ◌-◌, ◌<◌, ◌≤◌, true, false, length};
 ghost use Rattle.model.specs.Bounds.{most_number};
 ghost use Rattle.model.specs.Weighbridge.{number_in};

@@ -1,4 +1,6 @@
 // Lines of a weighbridge file (02: Slip 1): the header line and a line for each delivery, and how long they are.
+#![tactic(auto)]
+
 ghost use Rattle.std.specs.Prelude.{◌≡◌, ◌+◌, ◌≤◌, [], ◌∷◌, ◌++◌, length};
 ghost use Rattle.model.specs.Bounds.{most_slots};
 ghost use Rattle.model.specs.Deliveries.{delivery, rows, Even};

@@ -1,4 +1,6 @@
 // Rows of a weighbridge file (02: Slip 1) at a byte of its text: judged, and stored.
+#![tactic(auto)]
+
 ghost use Rattle.std.specs.Prelude.{◌≡◌, ◌≤◌, length};
 ghost use Rattle.csv_rows.specs.Rows.{PickedIs, PicksIs, StepIs, is_wanted, RecordIs, RowIs, in_order, ShortRecordIs};
 ghost use Rattle.csv_rows.specs.Rows.{JudgedIs, Storable, Stored, RoomFor, ReadRows, LeastIs};

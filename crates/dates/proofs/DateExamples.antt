@@ -5,7 +5,7 @@ use mathlib.Core.Path.{◌≡◌, refl, ap, ◌∙◌}
 use mathlib.Core.Bool.{true, false}
 use Rattle.model.specs.Lists.{sum_of, up_from}
 use Rattle.model.proofs.Tests.{of_true}
-use Rattle.model.specs.Calendar.{span, date, is_leap, month_lengths, month_days, days_before_month, year_days, days_before_year, is_date, day_number}
+use Rattle.model.specs.Calendar.{date, is_leap, month_lengths, month_days, days_before_month, year_days, days_before_year, is_date, day_number}
 use Rattle.model.specs.SettlementTerms.{term, term_at, term_of}
 use Rattle.dates.specs.DateCalls.{date_given, day_call, date_call, term_call}
 use Rattle.dates.specs.DateExamples.{Numbered, Missing, DateExamples}

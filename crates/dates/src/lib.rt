@@ -1,4 +1,6 @@
 // Dates, day numbers and settlement terms (02: Slip 7), by value and in constant time: no loop and no table.
+#![tactic(auto)]
+
 ghost use Rattle.std.specs.Prelude.{◌≡◌, ◌+◌, ◌≤◌, ◌<◌};
 ghost use Rattle.model.specs.Bounds.{most_day};
 ghost use Rattle.model.specs.Calendar.{first_year, is_leap, month_days, days_before_month, days_before_year};

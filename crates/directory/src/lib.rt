@@ -1,4 +1,6 @@
 // The directory of a column (01: 130 numbers: B, K, the lengths, the fences): this crate alone knows where they stand.
+#![tactic(auto)]
+
 ghost use Rattle.std.specs.Prelude.{◌≡◌, ◌≤◌, ◌<◌, length, get_or, T};
 ghost use Rattle.model.specs.Bounds.{block_limit, most_slots};
 ghost use Rattle.model.specs.Place.{place};

@@ -1,4 +1,6 @@
 // Numbers in a text (01: book and program): fields of 11 columns read and written.
+#![tactic(auto)]
+
 ghost use Rattle.std.specs.Prelude.{◌≡◌, false, ◌&&◌, ◌+◌, ◌-◌, ◌≤◌, ◌<◌, length, get_or, nat_abs, T, ltb, eqb};
 ghost use Rattle.model.specs.Fields.{justified, number_field, signed_field};
 ghost use Rattle.model.specs.Sheet.{wide_field};

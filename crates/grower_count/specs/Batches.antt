@@ -1,5 +1,5 @@
 -- A batch of slots: filled, cut down to one slot for each grower, and what it holds when slots have been in it.
-use Rattle.std.specs.Prelude.{ℕ, ◌+◌, ◌≤◌, ◌≡◌, Bool, not, ◌&&◌, List, ◌++◌, map, length, get_or, take, T, leb, ltb, eqb}
+use Rattle.std.specs.Prelude.{ℕ, ◌+◌, ◌≤◌, ◌≡◌, Bool, not, ◌&&◌, List, ◌++◌, length, get_or, take, T, leb, ltb, eqb}
 use Rattle.model.specs.Lists.{up_from, keep}
 use Rattle.model.specs.Calendar.{span, is_in}
 use Rattle.model.specs.Sheet.{each_once}

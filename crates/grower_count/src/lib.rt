@@ -2,6 +2,8 @@
 // in, so that a sheet that does not fit is refused before anything is written. A batch of slots is sorted and cut down to one slot for each
 // grower, and filled up again, until all slots have been in it. Where there are more growers than MOST, they are counted MOST at a time, the
 // smallest first.
+#![tactic(auto)]
+
 ghost use Rattle.std.specs.Prelude.{◌≡◌, ◌≤◌, ◌<◌, min, length, T};
 ghost use Rattle.model.specs.Bounds.{most_slots};
 ghost use Rattle.model.specs.Lists.{never_falls};

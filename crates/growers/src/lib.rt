@@ -1,5 +1,7 @@
 // The next grower with deliveries (02: Slip 3): partitions one after the other, upward or downward. Each search is handed only its
 // partition's part of each slice. A flag names the direction; of two numbers the smaller comes first on the way up, the larger on the way down.
+#![tactic(auto)]
+
 ghost use Rattle.std.specs.Prelude.{◌≡◌, true, false, cond, ◌+◌, ◌-◌, ◌≤◌, ◌<◌, length};
 ghost use Rattle.model.specs.Bounds.{block_limit, most_slots, most_number};
 ghost use Rattle.model.specs.Lent.{slices_at, slices_in};

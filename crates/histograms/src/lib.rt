@@ -1,4 +1,6 @@
 // The ten histograms in one slice (01: 640 numbers): check 9, where a count stands, and raising counts with check 10.
+#![tactic(auto)]
+
 ghost use Rattle.std.specs.Prelude.{◌≡◌, ◌+◌, ◌-◌, ◌*◌, ◌≤◌, ◌<◌, [], ◌∷◌, length, get_or, set, T};
 ghost use Rattle.model.specs.Bounds.{block_limit, most_count};
 ghost use Rattle.model.specs.Lists.{up_from};

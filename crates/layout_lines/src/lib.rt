@@ -1,5 +1,7 @@
 // The lines of a listing (02: Slip 13): every layout of a few blocks that the flags and the limits let stand, by the choice of the first end and then the
 // rest. A partition's part of the cost, and the fields of its end, are made once for all layouts that begin alike.
+#![tactic(auto)]
+
 ghost use Rattle.std.specs.Prelude.{◌≡◌, ◌&&◌, ◌+◌, ◌-◌, ◌*◌, ◌^◌, ◌≤◌, ◌<◌, [], ◌∷◌, ◌++◌, length, take, leb, ltb};
 ghost use Rattle.model.specs.Fields.{number_field, signed_field, line_end};
 ghost use Rattle.std.proofs.Math.IntN.{sub_ℕ};

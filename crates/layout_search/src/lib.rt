@@ -1,4 +1,6 @@
 // The search for the least layout over running sums of the blocks, by a table of the best in so many partitions. What it answers is in specs/.
+#![tactic(auto)]
+
 ghost use Rattle.std.specs.Prelude.{◌≡◌, false, ◌+◌, ◌-◌, ◌*◌, ◌^◌, ◌≤◌, ◌<◌, min, length, get_or, pos};
 ghost use Rattle.std.proofs.Math.IntN.{sub_ℕ};
 ghost use Rattle.layout_search.specs.Task.{search_limit};

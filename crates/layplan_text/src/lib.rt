@@ -1,5 +1,7 @@
 // The program layplan as a function (01: book and program): from its whole input to its whole output, as bytes.
 // The whole text is judged first; then the calls are recorded straight from it, so that no list of calls is kept.
+#![tactic(auto)]
+
 ghost use Rattle.std.specs.Prelude.{◌≡◌, ℕ, ◌+◌, ◌*◌, ◌≤◌, [], ◌∷◌, length, replicate, T};
 ghost use Rattle.model.specs.Bounds.{block_limit, most_calls};
 ghost use Rattle.model.specs.Lists.{is_some};

@@ -1,4 +1,6 @@
 // Lines of numbers in a text (01: book and program): judged, taken column by column, and written.
+#![tactic(auto)]
+
 ghost use Rattle.std.specs.Prelude.{◌≡◌, ◌+◌, ◌*◌, ◌≤◌, ◌<◌, [], ◌∷◌, ◌++◌, length, drop, T};
 ghost use Rattle.model.specs.Bounds.{most_slots};
 ghost use Rattle.model.specs.Lists.{is_some};

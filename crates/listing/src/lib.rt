@@ -1,4 +1,6 @@
 // Every permitted layout of a small set, with its cost (02: Slip 13). Whether the lines fit is known before anything is written.
+#![tactic(auto)]
+
 ghost use Rattle.std.specs.Prelude.{◌≡◌};
 ghost use Rattle.model.specs.Bounds.{block_limit};
 ghost use Rattle.model.specs.Lent.{set_in};

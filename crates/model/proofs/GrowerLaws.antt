@@ -1,5 +1,5 @@
 -- The nearest grower: he is the first at or past g; records further on do not change him, nor does their order. Assumes nothing.
-use Prim.Native.Nat.{ℕ, ◌+◌, ◌<◌, min, max}
+use Prim.Native.Nat.{ℕ, ◌<◌, min, max}
 use mathlib.Core.Path.{◌≡◌, refl, sym, ap, ap₂, ◌∙◌, subst}
 use mathlib.Core.Logic.{◌⊎◌, inl, inr}
 use mathlib.Core.Bool.{Bool, true, false, cond}

@@ -1,4 +1,6 @@
 // The terms of the store: what a call is given and what it answers. What they mean is in specs/.
+#![tactic(auto)]
+
 ghost use Rattle.std.specs.Prelude.{◌≡◌};
 ghost use Rattle.model.specs.Bounds.{most_slots};
 ghost use Rattle.model.specs.Deliveries.{no_totals, LightTotals, plus_totals};

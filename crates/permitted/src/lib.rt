@@ -1,5 +1,7 @@
 // What the planner and the listing of every layout share (01: permitted layouts): their checks of what they are given, how many blocks a partition may
 // have and how many partitions there may be under the limits, and where an end may stand.
+#![tactic(auto)]
+
 ghost use Rattle.std.specs.Prelude.{◌≡◌, ◌&&◌, ◌≤◌, length};
 ghost use Rattle.model.specs.Checks.{first_failed};
 ghost use Rattle.model.specs.Prices.{price_ok, prices_ok, limits_ok};

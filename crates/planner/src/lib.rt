@@ -1,4 +1,6 @@
 // The cost of a given layout and the search for the cheapest permitted one (01: the bill; permitted layouts).
+#![tactic(auto)]
+
 ghost use Rattle.std.specs.Prelude.{◌≡◌, ◌≤◌, ◌<◌, length};
 ghost use Rattle.model.specs.Checks.{first_failed};
 ghost use Rattle.model.specs.Questions.{cost_checks};

@@ -1,4 +1,6 @@
 // The recorder (01, 002 section 4.2): what each call raises in the histograms. A refused call leaves them as they are.
+#![tactic(auto)]
+
 ghost use Rattle.std.specs.Prelude.{◌≡◌, true, ◌≤◌, length};
 ghost use Rattle.model.specs.Bounds.{block_limit};
 ghost use Rattle.model.specs.Calendar.{span};

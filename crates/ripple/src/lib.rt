@@ -1,4 +1,6 @@
 // The moves of a call on the slices (01: the ripple). A record moves whole, and every store is inside the part that is lent.
+#![tactic(auto)]
+
 ghost use Rattle.std.specs.Prelude.{◌≡◌, ◌+◌, ◌-◌, ◌≤◌, ◌<◌, length, get_or, set};
 ghost use Rattle.model.specs.Lent.{slices_at_mut};
 ghost use Rattle.model.specs.Deliveries.{Even};

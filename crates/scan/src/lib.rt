@@ -1,4 +1,6 @@
 // Scans of a column's partitions (01): each is handed only its partition's part of each slice.
+#![tactic(auto)]
+
 ghost use Rattle.std.specs.Prelude.{◌≡◌, ◌+◌, ◌-◌, ◌≤◌, ◌<◌, length, true, cond, ◌&&◌};
 ghost use Rattle.model.specs.Bounds.{most_slots, most_day};
 ghost use Rattle.model.specs.Calendar.{span};

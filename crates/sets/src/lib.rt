@@ -1,4 +1,6 @@
 // The unpartitioned set (01: the unlaid set), its blocks and the layouts of these: the checks that several calls put.
+#![tactic(auto)]
+
 ghost use Rattle.std.specs.Prelude.{◌≡◌, ◌&&◌, ℕ, ◌+◌, ◌*◌, ◌≤◌, ◌<◌, List, length, leb};
 ghost use Rattle.model.specs.Bounds.{block_limit, most_slots, most_block_length};
 ghost use Rattle.model.specs.Lists.{ceil_div, every};

@@ -1,4 +1,6 @@
 // The program settlement as a function (02: Slip 4): from its whole input to its whole output, as bytes.
+#![tactic(auto)]
+
 ghost use Rattle.std.specs.Prelude.{◌≡◌};
 ghost use Rattle.model.specs.Program.{refusal_text};
 ghost use Rattle.model.specs.SheetCalls.{settlement};

@@ -1,5 +1,7 @@
 // The settlement sheet (02: Slip 4) of a column, or of the term that holds a day (02: Slip 7): its growers, a line each, as a text. Whether it
 // fits is known before anything is written, also to the slices that are sorted in, so that a refused call writes to no slice.
+#![tactic(auto)]
+
 ghost use Rattle.std.specs.Prelude.{◌≡◌, ◌+◌, ◌*◌, ◌≤◌, length, leb};
 ghost use Rattle.model.specs.Bounds.{block_limit, most_slots};
 ghost use Rattle.model.specs.Calendar.{span};

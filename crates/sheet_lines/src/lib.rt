@@ -1,4 +1,6 @@
 // The lines of a settlement sheet (02: Slip 4), written from slots in order: one run of slots, one line.
+#![tactic(auto)]
+
 ghost use Rattle.std.specs.Prelude.{◌≡◌, ◌+◌, ◌*◌, ◌≤◌, ◌<◌, length, T};
 ghost use mathlib.Core.List.{map, flatten};
 ghost use Rattle.model.specs.Lent.{slices_at, slices_in};

@@ -1,4 +1,6 @@
 // Loops over slices of numbers that several crates share. Each flag loop has one test and no early return, so that it is vectorised.
+#![tactic(auto)]
+
 ghost use Rattle.std.specs.Prelude.{◌≡◌, cond, ◌&&◌, ◌+◌, ◌≤◌, ◌<◌, length, replicate, T};
 ghost use Rattle.model.specs.Bounds.{block_limit, most_slots};
 ghost use Rattle.model.specs.Lists.{sum_of, keep, rising, never_falls};

@@ -1,5 +1,7 @@
 // The snapshot (01: the book): a column written as a text, and a text read as a column.
 // Reading judges the whole text before it stores a number, so that a refused text writes to no slice.
+#![tactic(auto)]
+
 ghost use Rattle.std.specs.Prelude.{◌≡◌, ◌+◌, ◌*◌, ◌≤◌, ◌<◌, map, length, T, ◌&&◌};
 ghost use Rattle.model.specs.Bounds.{block_limit};
 ghost use Rattle.model.specs.Lists.{sum_of, rising};

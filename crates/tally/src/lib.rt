@@ -1,4 +1,6 @@
 // The tally (01): a thin call adds one report's counts to a tally that is lent to it and raised in place.
+#![tactic(auto)]
+
 ghost use Rattle.std.specs.Prelude.{◌≡◌, ◌&&◌, ◌+◌, leb};
 ghost use Rattle.model.specs.Bounds.{most_tally};
 ghost use Rattle.model.specs.Tallies.{add_call};

@@ -1,4 +1,6 @@
 // Theorems over the definitions of the model. The statements are in specs/, their proofs in proofs/.
+#![tactic(auto)]
+
 ghost use Rattle.theorems.specs.Ledger.{LedgerAgreesFrom, LedgerAgrees};
 ghost use Rattle.theorems.specs.NextGrower.{NextGrowerAgrees, NextGrowerAfterCalls};
 ghost use Rattle.theorems.specs.Sheet.{SheetAgrees, SheetAfterCalls, TermSheetAgrees, TermSheetAfterCalls};

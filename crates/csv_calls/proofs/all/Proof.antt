@@ -1,5 +1,4 @@
 -- `csv::all` meets its contract: a test that fails decides. Assumes nothing.
-use borrow.Author.Tests.{not-true, not-false}
 use Rattle.csv_calls.proofs.all.Statement.{statement}
 use Rattle.csv_calls.proofs.all.Tie as tie
 

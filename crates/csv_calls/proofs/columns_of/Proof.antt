@@ -1,7 +1,6 @@
 -- `csv::columns_of` meets its contract: each return is an answer of `HeaderLaws`, over what was found of the three names. Assumes nothing.
 use mathlib.Core.Path.{refl, sym, ◌∙◌}
 use borrow.Author.Rules.{rules}
-use borrow.Author.Tests.{not-true, not-false}
 use Rattle.csv_fields.specs.Reading.{holds_quote}
 use Rattle.csv_calls.proofs.HeaderLaws.{Looked, looked, header_absent, header_twice, header_good}
 use Rattle.csv_calls.proofs.columns_of.Statement.{statement}

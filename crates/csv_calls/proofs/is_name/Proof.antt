@@ -1,6 +1,5 @@
 -- `csv::is_name` meets its contract: a field with a doubled quote holds one, and any other is the bytes between its places. Assumes nothing.
 use borrow.Author.Rules.{rules}
-use borrow.Author.Tests.{not-true, not-false}
 use Rattle.csv_calls.proofs.NameLaws.{doubled_no_name, plain_name}
 use Rattle.csv_calls.proofs.is_name.Statement.{statement}
 use Rattle.csv_calls.proofs.is_name.Tie as tie

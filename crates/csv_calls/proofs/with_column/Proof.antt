@@ -1,6 +1,6 @@
 -- `csv::with_column` meets its contract: each return is one case of `with_column`. Assumes nothing.
 use borrow.Author.Rules.{rules}
-use borrow.Author.Tests.{not-true, not-false, ne_eqb}
+use borrow.Author.Tests.{ne_eqb}
 use Rattle.csv_calls.proofs.with_column.Statement.{statement}
 use Rattle.csv_calls.proofs.with_column.Tie as tie
 

@@ -3,7 +3,6 @@ use mathlib.Core.Path.{sym, ◌∙◌}
 use mathlib.Core.Bool.{true}
 use native.Mathlib.Omega.{arith}
 use borrow.Author.Rules.{rules}
-use borrow.Author.Tests.{not-false}
 use Rattle.csv_fields.specs.declared.Number.TheVariants.{Value}
 use Rattle.csv_fields.specs.Reading.{CellAt}
 use Rattle.csv_fields.proofs.CellLaws.{short_cell_is}

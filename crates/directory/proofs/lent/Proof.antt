@@ -2,7 +2,6 @@
 use mathlib.Core.Path.{◌≡◌, refl, sym, ◌∙◌}
 use mathlib.Core.Bool.{true}
 use borrow.Author.Rules.{rules}
-use borrow.Author.Tests.{not-true, not-false}
 use Rattle.model.specs.Bounds.{block_limit}
 use Rattle.model.specs.Directory.{directory_block_ok}
 use Rattle.checks.proofs.Answers.{fails, passes}

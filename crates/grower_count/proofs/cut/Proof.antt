@@ -1,7 +1,6 @@
 -- `grower_count::cut` meets its contract. The loop's invariant (`Cutting`): the slots kept have the growers of the slots read, each once, and what is not
 -- read is as it was. Assumes nothing.
 use Prim.Native.Nat.{◌-◌, ◌<◌}
-use mathlib.Core.Logic.{⊎_elim}
 use native.Mathlib.Omega.{arith}
 use borrow.Author.Rules.{rules}
 use lib.ListN.{length, get_or}
@@ -51,8 +50,8 @@ loop-again : tie.Need-loop-i-preserved invariant-loop decreases-loop
 loop-again c =
     let p = c.requires in
     elim c.if-g-last.branch [
-      then-g-last w ↦ cutting_new _ c.loop-i.invariant c.loop-i-test.true _ p.0 p.1 w.if-g-last.true w.n-is
-    | else-g-last w ↦ cutting_old _ c.loop-i.invariant c.loop-i-test.true _ w.if-g-last.false w.n-is
+      | then-g-last w ↦ cutting_new _ c.loop-i.invariant c.loop-i-test.true _ p.0 p.1 w.if-g-last.true w.n-is
+      | else-g-last w ↦ cutting_old _ c.loop-i.invariant c.loop-i-test.true _ w.if-g-last.false w.n-is
     ]
 
 returns-2 : tie.Need-returns invariant-loop decreases-loop

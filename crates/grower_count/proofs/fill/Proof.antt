@@ -2,7 +2,6 @@
 -- than passed, so that a batch that has become full has taken a slot. What is remembered of slots seen does not matter: `is_new` tests it. Assumes nothing.
 use Prim.Native.Nat.{◌+◌, ◌-◌, ◌≤◌}
 use mathlib.Core.Path.{◌≡◌, sym, ap, ◌∙◌}
-use mathlib.Core.Logic.{⊎_elim}
 use native.Mathlib.Omega.{arith}
 use borrow.Author.Rules.{rules}
 use lib.ListN.{length, length-set}
@@ -31,13 +30,13 @@ loop-again c =
     let v = c.loop-i.invariant in
     let new = c.is_new.ensures in
     elim c.if-is_new.branch [
-      then-is_new w ↦ (
+      | then-is_new w ↦ (
         filling_new _ _ _ v.0 h (omega (arith, v.0.room, v.0.same_length)) _ _ (sym new ∙ w.if-is_new.true) w.batch-is w.n-is,
         omega arith,
         omega (arith, w.n-is),
         ap length w.seen-is ∙ length-set c.loop-i.seen c.place_of-p.result c.loop-i.i ∙ v.3,
       )
-    | else-is_new w ↦ (
+      | else-is_new w ↦ (
         filling_old _ _ _ v.0 h (omega (arith, v.0.room, v.0.same_length)) _ _ (sym new ∙ w.if-is_new.false) w.batch-is w.n-is,
         omega arith,
         omega (arith, w.n-is),

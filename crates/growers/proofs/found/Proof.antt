@@ -1,7 +1,6 @@
 -- `growers::found`: 19 where a day was out of range; else its counts are those of `scan::reads_of`. Assumes nothing.
 use mathlib.Core.Path.{ap, ◌∙◌}
 use borrow.Author.Rules.{rules}
-use borrow.Author.Tests.{not-true, not-false}
 use Rattle.model.specs.GrowerCalls.{grower_answer}
 use Rattle.growers.proofs.found.Statement.{statement}
 use Rattle.growers.proofs.found.Tie as tie

@@ -2,7 +2,6 @@
 -- they leave as it was. Assumes nothing.
 use mathlib.Core.Path.{◌∙◌}
 use native.Mathlib.Omega.{arith}
-use borrow.Author.Tests.{not-true, not-false}
 use borrow.Author.Rules.{rules}
 use Rattle.model.specs.Bounds.{block_limit}
 use Rattle.histograms.proofs.Slots.{room_no, room_yes, not_raised, all_raised, later_ready, Span, span_inside, span-part, span_room, span_ready, span_raised}

@@ -6,7 +6,6 @@ use mathlib.Core.Bool.{true, false}
 use mathlib.Core.List.{List, [], ◌∷◌, ◌++◌, map}
 use native.Mathlib.Omega.{arith}
 use borrow.Author.Rules.{rules}
-use borrow.Author.Tests.{not-true, not-false}
 use lib.ListN.{length, take, get_or}
 use lib.Seq.{length-take-le}
 use borrow.Fn.Kinds.{In}
@@ -187,28 +186,28 @@ module _ (t : ℕ) where
 pub +put_rest_spec : {M : Type 1} → statement M
 +put_rest_spec = close μ λ t. lts.spec (claims t) (at t) put-rest.Post
     (λ c κs. let k = c.requires.1.1.0.0 in omega (arith, k.few, k.inside, k.first))
-    (returns t )
+    (returns t)
     (λ c. let k = choosing t c.before in omega (arith, k.flags, k.inside))
     (λ c. let k = choosing t c.before.before in omega (arith, k.few, k.inside))
-    (returns-2 t )
+    (returns-2 t)
     (λ c. let k = choosing t c.before.before.before.before in omega (arith, k.few, k.inside))
-    (put-rest-requires t )
+    (put-rest-requires t)
     (λ c. search rules)
     (λ c. search rules)
-    (returns-3 t )
-    (choose-requires t )
+    (returns-3 t)
+    (choose-requires t)
     (λ c. let k = choosing t (goes_at t c.before.before) in omega (arith, k.few, k.inside))
     (λ c. let k = choosing t (goes_at t c.before.before.before.before.before) in omega (arith, k.few, k.inside, k.first, k.count))
-    (put-line-requires t )
+    (put-line-requires t)
     (λ c. search rules)
     (λ c. search rules)
-    (returns-4 t )
+    (returns-4 t)
     (λ c. let k = choosing t (goes_at t c.before.before.before.before) in omega (arith, k.few, k.inside, k.first, k.count))
     (λ c. let k = choosing t (goes_at t c.before.before.before.before) in omega (arith, k.few, k.inside))
     (λ c. let k = choosing t (goes_at t c.before.before.before.before) in omega (arith, k.few, k.inside))
-    (put-rest-requires-2 t )
+    (put-rest-requires-2 t)
     (λ c. let k = choosing t (goes_at t c.before.before.before.before.before.before.before.before.before.before.before) in omega (arith, k.few, k.inside))
-    (put-rest-requires-3 t )
+    (put-rest-requires-3 t)
     (λ c. search rules)
     (λ c. search rules)
-    (returns-5 t )
+    (returns-5 t)

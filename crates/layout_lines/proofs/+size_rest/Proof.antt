@@ -5,7 +5,6 @@ use mathlib.Core.Path.{◌≡◌, sym, ◌∙◌}
 use mathlib.Core.Bool.{true}
 use native.Mathlib.Omega.{arith}
 use borrow.Author.Rules.{rules}
-use borrow.Author.Tests.{not-true, not-false}
 use borrow.Fn.Kinds.{In}
 use borrow.Fn.PlainCycle.{Measures, is, falls, and}
 use Rattle.layout_lines.specs.Rests.{Choosing}
@@ -121,24 +120,24 @@ pub +size_rest_spec : {M : Type 1} → statement M
 +size_rest_spec = close μ λ t. lts.spec (claims t) (at t) size-rest.Post
     (λ c κs. let k = c.requires.1 in omega (arith, k.few, k.inside, k.first))
     (λ c κs. search rules)
-    (returns t )
+    (returns t)
     (λ c. let k = choosing t c.before in omega (arith, k.flags, k.inside))
     (λ c. let k = choosing t c.before.before in omega (arith, k.few, k.inside))
     (λ c κs. search rules)
-    (returns-2 t )
+    (returns-2 t)
     (λ c. let k = choosing t c.before.before.before.before in omega (arith, k.few, k.inside))
-    (size-rest-requires t )
-    (returns-3 t )
+    (size-rest-requires t)
+    (returns-3 t)
     (λ c. let k = choosing t c.before.before in omega (arith, k.few, k.inside))
     (λ c. let k = choosing t c.before.before.before.before in omega (arith, k.few, k.inside, k.first, k.count))
     (λ c κs. let k = choosing t c.before.before.before.before in omega (arith, k.few, k.inside, k.first, k.count))
-    (returns-4 t )
+    (returns-4 t)
     (λ c. let k = choosing t (goes_at t c) in omega (arith, k.few, k.inside, k.first, k.count))
     (λ c. let k = choosing t (goes_at t c) in omega (arith, k.few, k.inside))
     (λ c. let k = choosing t (goes_at t c) in omega (arith, k.few, k.inside))
-    (size-rest-requires-2 t )
+    (size-rest-requires-2 t)
     (λ c. let k = choosing t (goes_at t c.before) in omega (arith, k.few, k.inside))
-    (size-rest-requires-3 t )
+    (size-rest-requires-3 t)
     (λ c. omega (arith, few-here t c.before.before))
     (λ c. omega (arith, few-here t c.before.before.before.before))
-    (returns-5 t )
+    (returns-5 t)

@@ -5,7 +5,6 @@ use mathlib.Core.Bool.{true, false}
 use mathlib.Core.List.{List, [], ◌∷◌, ◌++◌}
 use native.Mathlib.Omega.{arith}
 use borrow.Author.Rules.{rules}
-use borrow.Author.Tests.{not-true, not-false}
 use Rattle.lines.specs.Lines.{line_ok}
 use Rattle.lines.proofs.Reading.{Took, took_start, took_next, took_stop, took_end}
 use Rattle.layplan_text.proofs.CallLaws.{no_line, call_decided}

@@ -2,7 +2,6 @@
 use mathlib.Core.Path.{◌≡◌, sym, ◌∙◌}
 use mathlib.Core.Bool.{Bool, true, false}
 use borrow.Author.Rules.{rules}
-use borrow.Author.Tests.{not-true, not-false}
 use Rattle.model.proofs.Tests.{of_true}
 use Rattle.lines.specs.Lines.{text_refusal, line_ok}
 use Rattle.lines.proofs.Reading.{passed, refused_by}

@@ -3,7 +3,6 @@ use Prim.Native.Nat.{◌-◌}
 use mathlib.Core.Path.{sym, ap, ◌∙◌}
 use native.Mathlib.Omega.{arith}
 use borrow.Author.Rules.{rules}
-use borrow.Author.Tests.{not-true, not-false}
 use Rattle.fields.specs.Reading.{read_of}
 use Rattle.lines.specs.Lines.{text_refusal}
 use Rattle.lines.proofs.Reading.{FieldsLeft, fields_start, fields_stop, fields_next, fields_end}

@@ -1,6 +1,5 @@
 -- `permitted::given_ok` meets its contract: the prices are tested first, and then the limits. Assumes nothing.
 use mathlib.Core.Path.{sym, ◌∙◌}
-use borrow.Author.Tests.{not-true, not-false}
 use Rattle.checks.proofs.Answers.{and_no, and_yes}
 use borrow.Author.Rules.{rules}
 use Rattle.permitted.proofs.given_ok.Statement.{statement}

@@ -1,7 +1,6 @@
 -- `permitted::plan_refusal` meets its contract: past check 1 the others are those of `counted_refusal`, which here asks nothing of an order or an offer. Assumes nothing.
 use mathlib.Core.Path.{sym, ◌∙◌}
 use borrow.Author.Rules.{rules}
-use borrow.Author.Tests.{not-true, not-false}
 use Rattle.checks.proofs.Answers.{fails, passes}
 use Rattle.permitted.proofs.Given.{counted_given}
 use Rattle.permitted.proofs.plan_refusal.Statement.{statement}

@@ -2,7 +2,6 @@
 use mathlib.Core.Path.{◌≡◌, sym, ◌∙◌}
 use mathlib.Core.Bool.{true}
 use Rattle.model.specs.Prices.{price_ok}
-use borrow.Author.Tests.{not-true, not-false}
 use Rattle.permitted.proofs.Given.{rr_fails, sr_fails, rw_left}
 use borrow.Author.Rules.{rules}
 use Rattle.permitted.proofs.prices_ok.Statement.{statement}

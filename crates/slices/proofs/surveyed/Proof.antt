@@ -3,7 +3,6 @@
 use Prim.Native.Nat.{◌+◌, ◌-◌}
 use native.Mathlib.Omega.{arith}
 use borrow.Author.Rules.{rules}
-use mathlib.Core.Logic.{⊎_elim}
 use mathlib.Core.Bool.{true, false}
 use borrow.Author.Tests.{lt-ltb, le-ltb}
 use lib.Dec.{ltb}
@@ -43,8 +42,8 @@ flag c =
     let more = c.before.before.before.before.loop-i-test.true in
     let chained = (at c).loop-i.invariant.chained in
     elim c.if-z-x.branch [
-      then-z-x w ↦ chain_by _ _ _ _ more chained false _ (le-ltb _ _ w.if-z-x.true) w.rising-is
-    | else-z-x w ↦ chain_by _ _ _ _ more chained true _ (lt-ltb _ _ w.if-z-x.false) w.rising-is
+      | then-z-x w ↦ chain_by _ _ _ _ more chained false _ (le-ltb _ _ w.if-z-x.true) w.rising-is
+      | else-z-x w ↦ chain_by _ _ _ _ more chained true _ (lt-ltb _ _ w.if-z-x.false) w.rising-is
     ]
 
 loop-again : tie.Need-loop-i-preserved-then-x-g invariant-loop decreases-loop

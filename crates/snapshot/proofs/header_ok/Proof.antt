@@ -1,7 +1,7 @@
 -- `snapshot::header_ok` meets its contract: each test decides one side of a conjunction. Assumes nothing.
 use mathlib.Core.Path.{sym, ◌∙◌}
 use borrow.Author.Rules.{rules}
-use borrow.Author.Tests.{not-true, not-false, le-leb, lt-leb}
+use borrow.Author.Tests.{le-leb, lt-leb}
 use Rattle.model.specs.Bounds.{most_slots}
 use Rattle.model.specs.Snapshot.{header_ok}
 use Rattle.snapshot.proofs.header_ok.Statement.{statement}

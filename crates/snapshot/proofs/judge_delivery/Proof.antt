@@ -5,7 +5,6 @@ use Prim.Native.Nat.{ℕ}
 use mathlib.Core.List.{List, [], ◌∷◌}
 use native.Mathlib.Omega.{arith}
 use borrow.Author.Rules.{rules}
-use borrow.Author.Tests.{not-true, not-false}
 use Rattle.lines.specs.Lines.{line_ok}
 use Rattle.lines.proofs.Reading.{Took, took_start, took_next, took_stop, took_end}
 use Rattle.snapshot.proofs.Judging.{line_fails, below_low, above_high, out_of_range, delivery_good}

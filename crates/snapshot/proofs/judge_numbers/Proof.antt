@@ -2,7 +2,6 @@
 use mathlib.Core.Path.{◌≡◌, sym, ap, ◌∙◌}
 use native.Mathlib.Omega.{arith}
 use borrow.Author.Rules.{rules}
-use borrow.Author.Tests.{not-true, not-false}
 use Rattle.model.specs.Bounds.{block_limit}
 use Rattle.model.specs.Lists.{sum_of, rising}
 use Rattle.model.specs.Directory.{Directory, directory_of}

@@ -4,7 +4,6 @@ use mathlib.Core.Path.{refl, sym, ◌∙◌}
 use mathlib.Core.List.{List, [], ◌∷◌}
 use native.Mathlib.Omega.{arith}
 use borrow.Author.Rules.{rules}
-use borrow.Author.Tests.{not-true, not-false}
 use Rattle.model.specs.Bounds.{block_limit}
 use Rattle.lines.proofs.Reading.{Took, took_start, took_next, took_stop, took_end}
 use Rattle.snapshot.proofs.Judging.{Listing, list_start, list_stop, list_next, list_end}

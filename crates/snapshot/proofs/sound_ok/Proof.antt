@@ -4,7 +4,6 @@ use borrow.Author.Rules.{rules}
 use Prim.Native.Nat.{◌-◌}
 use mathlib.Core.Path.{◌∙◌}
 use native.Mathlib.Omega.{arith}
-use borrow.Author.Tests.{not-true, not-false}
 use lib.ListN.{length}
 use Rattle.snapshot.proofs.Sounding.{SoundLeft, fit_slice, sound_start, sound_room, tested, sound_stop, sound_next, sound_end}
 use Rattle.snapshot.proofs.sound_ok.Statement.{statement}

@@ -2,7 +2,6 @@
 use mathlib.Core.Path.{sym, ◌∙◌}
 use native.Mathlib.Omega.{arith}
 use borrow.Author.Rules.{rules}
-use borrow.Author.Tests.{not-true, not-false}
 use Rattle.tally.proofs.Adding.{Room, room, add_refused, add_done}
 use Rattle.tally.proofs.plus.Statement.{statement}
 use Rattle.tally.proofs.plus.Tie as tie
