@@ -8,7 +8,8 @@ use Rattle.block_costs.specs.Price.{price_by_sums, blocks_cost}
 use Rattle.block_costs.specs.PriceExamples.{PriceExamples}
 
 pub price_examples : PriceExamples
-unfolding computed sum upto span sum_at adds_of up_by down_by price_by_sums fixed_of per_block_before_of per_block_after_of per_partition_added_of per_partition_saved_of term_of running_sum blocks_cost
+unfolding computed sum upto span sum_at adds_of up_by down_by price_by_sums fixed_of per_block_before_of per_block_after_of per_partition_added_of per_partition_saved_of
+    term_of running_sum blocks_cost
 price_examples = record {
   running = refl;
   one_end = refl;

@@ -70,7 +70,8 @@ module _ (L : ℕ) where
 
     -- accepted
     pub accepted_call : column_refusal L c k ≡ 0
-        → ◌≡◌ {A = Called} (record { answer = record { refusal = 0; totals = call_totals L c k; counts = call_counts (directory_of L c.directory) k }; column = column_after L c k }) (column_call L c k)
+        → ◌≡◌ {A = Called} (record { answer = record { refusal = 0; totals = call_totals L c k; counts = call_counts (directory_of L c.directory) k }; column = column_after L c k })
+        (column_call L c k)
     unfolding column_call
     accepted_call e = rw e
 

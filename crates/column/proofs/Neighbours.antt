@@ -18,7 +18,8 @@ use Rattle.model.specs.Directory.{directory_of}
 use Rattle.model.specs.Column.{Column, slots, lengths_of, fences_of, target}
 use Rattle.model.specs.Accesses.{no_counts, blocks_of, reads_of}
 use Rattle.model.specs.Questions.{lent_checks, grower_checks}
-use Rattle.model.specs.Growers.{Direction, GrowerCount, at_or_past, nearest, nearest_of, growers_of, holds_one, path, up_to_first, scanned_for, scanned_for_ok, scanned_for_days_ok, records_scanned, counts_scanned}
+use Rattle.model.specs.Growers.{Direction, GrowerCount, at_or_past, nearest, nearest_of, growers_of, holds_one, path, up_to_first}
+use Rattle.model.specs.Growers.{scanned_for, scanned_for_ok, scanned_for_days_ok, records_scanned, counts_scanned}
 use Rattle.model.specs.GrowerCalls.{grower_answer, grower_call}
 use Rattle.model.proofs.ListLaws.{every-joined}
 use Rattle.model.proofs.Parts.{lengths_parts}

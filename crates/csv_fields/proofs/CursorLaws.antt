@@ -1,5 +1,6 @@
 -- Reading a field at a cursor, byte by byte. Assumes nothing.
-use Rattle.std.proofs.Common.{◌≡◌, ℕ, suc, ◌+◌, ◌-◌, ◌<◌, ◌≤◌, Bool, true, false, ◌||◌, eqb, List, [], ◌∷◌, ◌++◌, length, get_or, take, drop, sym, refl, ap, ◌∙◌, subst, append-nil, add-one, arith, length-drop, drop_of_length-le, get_or-drop, drop-cons, take-suc, ne_eqb}
+use Rattle.std.proofs.Common.{◌≡◌, ℕ, suc, ◌+◌, ◌-◌, ◌<◌, ◌≤◌, Bool, true, false, ◌||◌, eqb, List, [], ◌∷◌, ◌++◌, length, get_or, take, drop, sym, refl}
+use Rattle.std.proofs.Common.{ap, ◌∙◌, subst, append-nil, add-one, arith, length-drop, drop_of_length-le, get_or-drop, drop-cons, take-suc, ne_eqb}
 use mathlib.Core.Option.{Option, none, some}
 use lib.Seq.{append_snoc}
 use Rattle.model.specs.Lists.{only_if, and_then, is_some}

@@ -1,5 +1,6 @@
 -- Digits from a byte on, and the number that they spell. Assumes nothing.
-use Rattle.std.proofs.Common.{◌≡◌, ℕ, zero, suc, ◌+◌, ◌-◌, ◌*◌, ◌^◌, ◌<◌, ◌≤◌, Bool, true, false, ◌&&◌, leb, List, [], ◌∷◌, ◌++◌, length, get_or, take, drop, sym, refl, ap, ◌∙◌, subst, ap₂, pow-suc, add-one, arith, length-drop, take-append-drop, length-take-le, drop-drop, le-leb}
+use Rattle.std.proofs.Common.{◌≡◌, ℕ, zero, suc, ◌+◌, ◌-◌, ◌*◌, ◌^◌, ◌<◌, ◌≤◌, Bool, true, false, ◌&&◌, leb, List, [], ◌∷◌, ◌++◌, length, get_or, take, drop, sym}
+use Rattle.std.proofs.Common.{refl, ap, ◌∙◌, subst, ap₂, pow-suc, add-one, arith, length-drop, take-append-drop, length-take-le, drop-drop, le-leb}
 use mathlib.Core.Option.{none, some}
 use borrow.Author.Tests.{lt-leb}
 use lib.Seq.{take-length}

@@ -88,5 +88,6 @@ module _ {A : Type 0} where
     pub length_moved : (t i u : ℕ) (x : A) → t < length ns → u < length ns → i < get_or ns t 0 → sum_of ns ≤ length s → length (moved ns t i u x s) ≡ length s
     unfolding moved free
     length_moved t i u x h k l room =
-        slots _ _ _ (move_at_lengths t i u x (parts ns s) (there ns s room t h) (there ns s room u k) (slot ns s room t i l) ∙ ap (λ (ms : List ℕ). one_more u (one_fewer t ms)) (lengths_parts ns s room))
+        slots _ _ _ (move_at_lengths t i u x (parts ns s) (there ns s room t h) (there ns s room u k) (slot ns s room t i l)
+        ∙ ap (λ (ms : List ℕ). one_more u (one_fewer t ms)) (lengths_parts ns s room))
         ∙ simp (length-drop) (omega (arith, sum-one_more u (one_fewer t ns) (rw length-set k), sum-one_fewer t ns h (omega arith)))

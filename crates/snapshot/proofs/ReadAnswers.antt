@@ -105,7 +105,8 @@ module _ (L : ℕ) (t : List ℕ) (c : ℕ) (x : Judged) (hd : Head) (e : hd ≡
     module _ (k : hd.used ≤ c) where
       book_is : judged_of L t c ≡ judged_book L (only_if (lines_right t) (book_at t))
       unfolding judged_of
-      book_is = lift (λ (y : Head). y.used ≤ c → judged_of L t c ≡ judged_book L (only_if (lines_right t) (book_at t))) (λ l. rw (slots_form L t c ok, le-leb (header_at t).used c l, book_form L t, ok)) k
+      book_is = lift (λ (y : Head). y.used ≤ c → judged_of L t c ≡ judged_book L (only_if (lines_right t) (book_at t)))
+          (λ l. rw (slots_form L t c ok, le-leb (header_at t).used c l, book_form L t, ok)) k
 
       not_right : lines_right t ≡ false → x ≡ not_judged L 14 → x ≡ judged_of L t c
       not_right f q = q ∙ sym (book_is ∙ rw f)
@@ -161,7 +162,8 @@ pub record Accepted (L : ℕ) (t : List ℕ) (n : ℕ) (j : Judged) : Type 0 whe
   pub directory : j.directory ≡ directory_numbers L (book_at t).directory
 
 -- judging in one form: line 1, the slots, the rest
-judged_form : (L : ℕ) (t : List ℕ) (n : ℕ) → judged_of L t n ≡ cond (cond (head_ok L t) (leb (header_at t).used n) true) (judged_book L (only_if (head_ok L t && lines_right t) (book_at t))) (not_judged L 12)
+judged_form : (L : ℕ) (t : List ℕ) (n : ℕ)
+    → judged_of L t n ≡ cond (cond (head_ok L t) (leb (header_at t).used n) true) (judged_book L (only_if (head_ok L t && lines_right t) (book_at t))) (not_judged L 12)
 unfolding judged_of slots_for_book
 judged_form L t n = rw (header_form L t, book_form L t) (go (head_ok L t) (only_if (head_ok L t && lines_right t) (book_at t)))
   where

@@ -84,7 +84,8 @@ module _ (t : List ℕ) where
             go (x ∷ l) f = fit_first x l f
 
     all_parts : (p : ℕ) (ns : List ℕ) (at : ℕ) → p + length ns ≤ length fences
-        → fenced fences p ns (rows_at 3 (sum_of ns) at t) ≡ every in_range (map delivery_of (rows_at 3 (sum_of ns) at t)) && every_at (in_place fences) p (parts ns (map (nth 0) (rows_at 3 (sum_of ns) at t)))
+        → fenced fences p ns (rows_at 3 (sum_of ns) at t) ≡ every in_range (map delivery_of (rows_at 3 (sum_of ns) at t))
+        && every_at (in_place fences) p (parts ns (map (nth 0) (rows_at 3 (sum_of ns) at t)))
     unfolding every_at parts sum_of every rows_at
     all_parts p [] at h = refl
     all_parts p (n ∷ ns) at h =
@@ -104,7 +105,8 @@ module _ (t : List ℕ) where
             let tb : drop n rs ≡ b = ap (drop n) e ∙ drop_at a b n k in
             ap₂ (λ (u v : List (List ℕ)). every (row_ok (low_of fences p) (high_of fences p)) u && fenced fences (p + 1) ns v) ta tb
             ∙ ap₂ (λ (u v : Bool). u && v) x y
-            ∙ pairs_swap (every in_range (map delivery_of a)) (every (in_place fences p) (map (nth 0) a)) (every in_range (map delivery_of b)) (every_at (in_place fences) (p + 1) (parts ns (map (nth 0) b)))
+            ∙ pairs_swap (every in_range (map delivery_of a)) (every (in_place fences p) (map (nth 0) a)) (every in_range (map delivery_of b))
+            (every_at (in_place fences) (p + 1) (parts ns (map (nth 0) b)))
             ∙ ap₂
             (λ (u v : List (List ℕ)). every in_range (map delivery_of u) && every in_range (map delivery_of v) &&
             (every (in_place fences p) (map (nth 0) u) && every_at (in_place fences) (p + 1) (parts ns (map (nth 0) v))))

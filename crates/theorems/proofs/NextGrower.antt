@@ -254,7 +254,8 @@ module _ (L : ℕ) (c : Column) (v : Valid L c) where
   same_growers : (bag : List Delivery) → Permᴰ (all_records L c) bag → SameGrowers L c bag
   unfolding grower_call ledger_grower
   same_growers bag p w g =
-      let e : nearest_of w g (growers_of (records_scanned L c (scanned_for L c w g))) ≡ nearest_of w g (growers_of bag) = scanned_nearest w g ∙ bag-nearest w g (mathlib.Core.List.Permᴰ.map grower_of p) in
+      let e : nearest_of w g (growers_of (records_scanned L c (scanned_for L c w g))) ≡ nearest_of w g (growers_of bag) =
+      scanned_nearest w g ∙ bag-nearest w g (mathlib.Core.List.Permᴰ.map grower_of p) in
       rw (accepted w g) (record { refusal = refl; grower = ap (λ (n : GrowerCount). n.grower) e; records = ap (λ (n : GrowerCount). n.records) e })
 
 pub next_grower_agrees : NextGrowerAgrees

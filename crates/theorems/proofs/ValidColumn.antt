@@ -15,7 +15,8 @@ use Rattle.model.specs.Deliveries.{Slices, Even, in_range, day_ok, same, among, 
 use Rattle.model.specs.Blocks.{slices_ok}
 use Rattle.model.specs.Partitions.{parts, part, between, start_of}
 use Rattle.model.specs.Directory.{partition_count, directory_block_ok, directory_ok}
-use Rattle.model.specs.Column.{Column, slots, in_place, sound_growers, lengths_of, fences_of, target, records_of, records_near, all_records, sound, scanned_ok, scanned_days_ok, has_free_slot, has_delivery}
+use Rattle.model.specs.Column.{Column, slots, in_place, sound_growers, lengths_of, fences_of, target, records_of, records_near, all_records}
+use Rattle.model.specs.Column.{sound, scanned_ok, scanned_days_ok, has_free_slot, has_delivery}
 use Rattle.model.specs.Questions.{lent_checks}
 use Rattle.model.proofs.Tests.{and_fst, and_snd, and_mk, pairs_swap, is_true, yes_first, first_passed}
 use Rattle.model.proofs.ListLaws.{sum_cut, sum-take_le, every-part, keep_swap}

@@ -36,7 +36,9 @@ weighted-requires-2 c κs =
 
 returns-5 : tie.Need-returns-then-q-eq-WEIGHTED_AFTER
 unfolding term_of
-returns-5 c = product_is _ _ _ _ _ c.weighted-then-q-eq-WEIGHTED_AFTER.ensures c.per_block_after-then-q-eq-WEIGHTED_AFTER.ensures refl ∙ term_as block_limit _ _ _ _ weighted_after c.if-q-eq-WEIGHTED_AFTER.true
+returns-5 c =
+    product_is _ _ _ _ _ c.weighted-then-q-eq-WEIGHTED_AFTER.ensures c.per_block_after-then-q-eq-WEIGHTED_AFTER.ensures refl
+    ∙ term_as block_limit _ _ _ _ weighted_after c.if-q-eq-WEIGHTED_AFTER.true
 
 returns-6 : tie.Need-returns-then-q-eq-PER_PARTITION_ADDED
 unfolding term_of

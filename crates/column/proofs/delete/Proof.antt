@@ -44,7 +44,8 @@ with-more-requires c κs =
 
 returns-2 : tie.Need-returns
 returns-2 c =
-    let e = c.before.before.before.before.before.before.before.before.before.before.before.before.before.before.before.before.before.before.before in
+    let at_e = c.before.before.before.before.before.before.before.before.before in
+    let e = at_e.before.before.before.before.before.before.before.before.before.before in
     let l = located e in
     delete_done block_limit (lent l) _ _ l.locate-f.ensures (is_found e) _ _ _ _ c.without_totals-2.ensures c.take_out.ensures c.onward-n.ensures c.with_more-counts.ensures
 

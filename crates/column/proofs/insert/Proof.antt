@@ -37,7 +37,8 @@ add-each c = omega (arith, c.onward-each.ensures, has_onward block_limit _ _ (th
 
 returns-2 : tie.Need-returns
 returns-2 c =
-    let e = c.before.before.before.before.before.before.before.before.before.before.before.before.before.before.before.before.before.before in
+    let at_e = c.before.before.before.before.before.before.before.before.before in
+    let e = at_e.before.before.before.before.before.before.before.before.before in
     insert_done block_limit (lent e.before) _ _ c.open-o.ensures (is_open e) _ _ _ c.put.ensures c.onward-each.ensures c.without_totals.ensures
 
 pub insert_spec : {M : Type 1} → statement M

@@ -56,7 +56,8 @@ block-requires c κs =
 
 search-part-requires : tie.Need-search_part-requires
 search-part-requires c κs =
-    let b = c.before.before.before.before.before.before.before.before.before.before.before.before.before.before.before in
+    let at_b = c.before.before.before.before.before.before.before in
+    let b = at_b.before.before.before.before.before.before.before.before in
     let a = c.args in
     let k = near-at c.before.before.before.before.before in
     let s = c.lent-shape.result.start in (
@@ -67,7 +68,8 @@ search-part-requires c κs =
 
 returns-3 : tie.Need-returns
 returns-3 c =
-    let s = c.before.before.before.before.before.before.before.before.before.before.before.before.before.before.before.before in
+    let at_s = c.before.before.before.before.before.before.before.before in
+    let s = at_s.before.before.before.before.before.before.before.before in
     let w = shaped c.before.before.before.before.before.before.before.before.before in
     let k = near-at c.before.before.before.before.before.before in
     let col = the-column s in

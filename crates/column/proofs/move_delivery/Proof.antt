@@ -62,7 +62,8 @@ shift-requires c κs =
 
 returns-2 : tie.Need-returns
 returns-2 c =
-    let e = c.before.before.before.before.before.before.before.before.before.before.before.before.before.before.before.before.before.before.before.before in
+    let at_e = c.before.before.before.before.before.before.before.before.before.before in
+    let e = at_e.before.before.before.before.before.before.before.before.before.before in
     let l = located e in
     move_done block_limit (lent l) _ _ l.locate-f.ensures (is_found e) _ _ _ _ c.without_totals-2.ensures (start l).args.new_grower _ c.partition_of-u.ensures c.shift.ensures
     c.apart-n.ensures c.with_more-counts.ensures

@@ -59,7 +59,8 @@ returns-5 : tie.Need-returns
 returns-5 c =
     let e = c.before.before.before.before.before.before in
     let w = shaped e in
-    opened_yes block_limit _ _ w.passed (in_range_lem c.before.before.before.before) (on-a-day c.before.before) (omega (arith, w.used, c.if-g-shape.false)) _ c.if-refusal-ne0.false w.used w.target w.start
+    opened_yes block_limit _ _ w.passed (in_range_lem c.before.before.before.before) (on-a-day c.before.before) (omega (arith, w.used, c.if-g-shape.false)) _
+    c.if-refusal-ne0.false w.used w.target w.start
 
 pub open_spec : {M : Type 1} → statement M
 open_spec =

@@ -26,7 +26,8 @@ grow-requires c κs = let p = (start c.before.before.before.before.before.before
 
 returns : tie.Need-returns
 returns c =
-    let s = c.before.before.before.before.before.before.before.before.before.before.before.before.before in
+    let at_s = c.before.before.before.before.before.before in
+    let s = at_s.before.before.before.before.before.before.before in
     let k = lent s in
     let o = k.slices in
     let a = (start s).args in

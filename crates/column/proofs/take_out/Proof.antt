@@ -28,7 +28,8 @@ shrink-requires c κs = let p = (start c.before.before.before.before.before.befo
 
 returns : tie.Need-returns
 returns c =
-    let s = c.before.before.before.before.before.before.before.before.before.before.before.before.before in
+    let at_s = c.before.before.before.before.before.before in
+    let s = at_s.before.before.before.before.before.before.before in
     let k = lent s in
     let o = k.slices in
     let a = (start s).args in

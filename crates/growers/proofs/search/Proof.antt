@@ -130,7 +130,8 @@ add-blocks c =
 
 returns-2 : tie.Need-returns-then-s-gt0 invariant-loop decreases-loop
 returns-2 c =
-    let b = c.before.before.before.before.before.before.before.before.before.before.before.before.before.before in
+    let at_b = c.before.before.before.before.before.before.before in
+    let b = at_b.before.before.before.before.before.before.before in
     let p = head b in
     c.found.ensures
     ∙ searching_hit p.loop-j.invariant (step (here b)) (begun b) (room p) c.near_all-s.ensures (days c.before.before.before.before) c.blocks_of-m.ensures
@@ -138,7 +139,8 @@ returns-2 c =
 
 loop-again : tie.Need-loop-j-preserved-then-k-gt0 invariant-loop decreases-loop
 loop-again c =
-    let b = c.before.before.before.before.before.before.before.before.before.before.before.before.before.before in
+    let at_b = c.before.before.before.before.before.before.before in
+    let b = at_b.before.before.before.before.before.before.before in
     let p = head b in
     searching_next p.loop-j.invariant (step (here b)) (begun b) (room p) c.near_all-s.ensures (days c.before.before.before.before) c.blocks_of-m.ensures
     (not-false _ c.if-not-s.false) (omega (arith, c.if-s-gt0.false)) c.either-edge-then-k-gt0.ensures (start p).requires.0.3 (small b)

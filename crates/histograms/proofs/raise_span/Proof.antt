@@ -94,13 +94,15 @@ raise-requires-2 c κs =
 
 raise-each-requires : tie.Need-raise_each-requires
 raise-each-requires c κs =
-    let h = c.before.before.before.before.before.before.before.before.before.before.before.before.before.before.before.before in
+    let at_h = c.before.before.before.before.before.before.before.before in
+    let h = at_h.before.before.before.before.before.before.before.before in
     let w = the-span h in
     span_ready block_limit w c.raise.ensures c.raise-2.ensures (span-part block_limit w _ _ c.within.ensures (c.if-not-within.false))
 
 returns-4 : tie.Need-returns
 returns-4 c =
-    let e = c.before.before.before.before.before.before.before.before.before.before.before.before.before.before.before.before.before.before.before in
+    let at_e = c.before.before.before.before.before.before.before.before.before in
+    let e = at_e.before.before.before.before.before.before.before.before.before.before in
     let w = the-span e in
     all_raised _ _ _
     (span_room block_limit w

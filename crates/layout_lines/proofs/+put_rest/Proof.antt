@@ -164,7 +164,8 @@ module _ (t : ℕ) where
 
   put-rest-requires-3 : lts.Need-put_rest-requires-2 (claims t) (at t) put-rest.Post
   put-rest-requires-3 c κs =
-      let d = c.before.before.before.before.before.before.before.before.before.before.before.before.before in
+      let e = c.before.before.before.before.before.before.before.before.before in
+      let d = e.before.before.before.before in
       let g = goes_at d in
       let m = more g c.if-i-rules-2.false in (
         m.1,
@@ -172,16 +173,18 @@ module _ (t : ℕ) where
           holds g,
           (
             (choosing_later (choosing g) m.0, record { room = row-long c.before.before.before.before.before.before; high = (carrying g).high; low = (carrying g).low }),
-            past_room (place (start g)) _ _ _ _ _ c.choose-next.ensures (row_room g) (goes_on_here c.before.before.before.before.before.before.before.before.before) (start g).requires.1.1.1 c.put_rest-e.ensures,
+            past_room (place (start g)) _ _ _ _ _ c.choose-next.ensures (row_room g) (goes_on_here e) (start g).requires.1.1.1 c.put_rest-e.ensures,
           ),
         ),
       )
 
   returns-5 : lts.Need-returns (claims t) (at t) put-rest.Post
   returns-5 c =
-      let d = c.before.before.before.before.before.before.before.before.before.before.before.before.before.before.before.before.before.before in
+      let r = c.before.before.before.before.before.before.before in
+      let e = r.before.before.before.before.before.before.before in
+      let d = e.before.before.before.before in
       let g = goes_at d in
-      both_put (place (start g)) _ _ _ _ _ c.choose-next.ensures (row_room g) (goes_on_here c.before.before.before.before.before.before.before.before.before.before.before.before.before.before) (start g).requires.1.1.1 c.put_rest-e.ensures c.put_rest-2.ensures
+      both_put (place (start g)) _ _ _ _ _ c.choose-next.ensures (row_room g) (goes_on_here e) (start g).requires.1.1.1 c.put_rest-e.ensures c.put_rest-2.ensures
 
 pub +put_rest_spec : {M : Type 1} → statement M
 +put_rest_spec = close μ λ t. lts.spec (claims t) (at t) put-rest.Post

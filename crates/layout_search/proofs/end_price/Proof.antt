@@ -10,7 +10,8 @@ use Rattle.layout_search.proofs.end_price.Statement.{statement}
 use Rattle.layout_search.proofs.end_price.Tie as tie
 
 -- the two sums, however their place was counted
-sums : (c : tie.After-local_price) → ((c.sum_at-added.result ≡ sum_at c.args.sums.now per_partition_added (c.args.e + 1)) × (c.sum_at-saved.result ≡ sum_at c.args.sums.now per_partition_saved (c.args.e + 1)))
+sums : (c : tie.After-local_price) → ((c.sum_at-added.result ≡ sum_at c.args.sums.now per_partition_added (c.args.e + 1))
+    × (c.sum_at-saved.result ≡ sum_at c.args.sums.now per_partition_saved (c.args.e + 1)))
 sums c = (sum_as _ _ _ _ _ c.sum_at-added.ensures (omega arith), sum_as _ _ _ _ _ c.sum_at-saved.ensures (omega arith))
 
 small : (c : tie.After-local_price) → (c.sum_at-added.result ≤ 2 ^ 49) × (c.sum_at-saved.result ≤ 2 ^ 49)

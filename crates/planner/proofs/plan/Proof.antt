@@ -61,7 +61,8 @@ searched-requires c κs =
 
 returns-2 : tie.Need-returns
 returns-2 c =
-    let n = c.before.before.before.before.before.before.before.before.before.before.before.before.before.before.before in
+    let at_n = c.before.before.before.before.before.before.before in
+    let n = at_n.before.before.before.before.before.before.before.before in
     let s = at-start n in
     answered_plan block_limit s.args.card s.args.limits (the-set s) s.args.histograms.now s.args.ends.now (passed n) _ _ _ _ _ _ _ _
     c.block_count-n.ensures c.longest_partition-longest.ensures c.most_partitions-most.ensures (given n).some c.add_up.ensures.summed c.mark.ensures
