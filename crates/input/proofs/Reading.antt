@@ -2,7 +2,7 @@
 use Rattle.std.proofs.Common.{◌≡◌, ℕ, ◌<◌, ◌≤◌, List, [], ◌++◌, length, take, Option, None, Some, IfSome, sym, ap, ◌∙◌, subst, arith, append-nil, take_all, length-take-le, inl, inr}
 use Rattle.std.proofs.Math.Nat.{eq-or-lt_of_le}
 use Rattle.std.proofs.lemmas.List.{take-append-le}
-use Rattle.std.specs.Io.KnownBytes.{Consumes, IsAtEnd}
+use Rattle.std.specs.Io.KnownBytes.{Consumes, IsAtEnd, Appends}
 use Rattle.input.specs.declared.Input.{Input}
 use Rattle.input.specs.declared.Input.TheVariants.{Bytes}
 use Rattle.input.specs.Within.{Within}
@@ -26,3 +26,11 @@ of_whole f (Some t) (Some rest) array n cut within read =
           ap f (sym same) ∙ cut t
       | inr l ↦ ap f (sym (read.0 ∙ ap (λ (xs : List ℕ). front ++ xs) (read.1 l) ∙ append-nil front))
     ]
+
+-- what was written is f of what was read, and so f of the whole input
+pub written_of_whole : (f : List ℕ → List ℕ) (room : ℕ) (a b old new : Option (List ℕ)) (array written : List ℕ) (n : ℕ) → ((t : List ℕ) → f (take room t) ≡ f t)
+    → length array ≡ room → n ≤ length array → Reads a b array (Bytes n) → written ≡ f (take n array) → Appends old new written → IfSome a (λ t. Appends old new (f t))
+written_of_whole f room None b old new array written n cut long within read same wrote = tt
+written_of_whole f room (Some t) b old new array written n cut long within read same wrote =
+    let whole : f (take n array) ≡ f t = of_whole f (Some t) b array n (λ s. ap (λ (k : ℕ). f (take k s)) long ∙ cut s) within read in
+    subst (Appends old new) (same ∙ whole) wrote

@@ -1,9 +1,10 @@
 // The program settlement (02: Slip 4): a book on standard input, its settlement sheet on standard output.
 //
-// `run` is proved for every reader and writer: where it ends well, what it wrote is the definition's output for all that
-// the reader gave, and where the reader fails it writes nothing. Not proved, since no contract says which bytes a system's
-// read and write move: that the bytes of standard input are those that it gives, and that those written to standard output
-// arrive.
+// `run` takes no index out of range, adds without wrapping and ends, given that each call of its reader and its writer
+// returns. Proved of it for every reader and writer whose bytes are known: where it ends well, it has written the
+// definition's output for all that the reader had left, and where reading fails, it has written nothing. Not proved, since
+// no contract says which bytes a system's read and write move: that what `main` hands on are the bytes of standard input,
+// and that those written to standard output arrive.
 // Where input cannot be read or output cannot be written, a message goes to standard error, nothing more to standard
 // output, and the exit status is still 0.
 #![tactic(auto)]
@@ -47,7 +48,8 @@ fn run<R: Read, W: Write>(reader: &mut R, writer: &mut W) -> Result<(), Failure>
         return Err(Failure::Input);
     };
     let out = settlement_text::settlement_text(&input[..n]);
-    match writer.write_all(&out.bytes[..out.count]) {
+    let bytes = &out.bytes[..];
+    match writer.write_all(&bytes[..out.count]) {
         Ok(()) => Ok(()),
         Err(_) => Err(Failure::Output),
     }
