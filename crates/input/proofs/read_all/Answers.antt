@@ -1,5 +1,5 @@
 -- What one more read gave stands behind what was read before it.
-use Rattle.std.proofs.Common.{◌≡◌, ℕ, ◌+◌, ◌-◌, ◌≤◌, List, ◌++◌, rules, arith, length, take, slice_range, sym, ap, ◌∙◌, subst, le_refl, drop_at, length-take-le}
+use Rattle.std.proofs.Common.{◌≡◌, ℕ, ◌+◌, ◌-◌, ◌≤◌, List, ◌++◌, rules, length, take, sym, ap, ◌∙◌, subst, le_refl, drop_at, length-take-le}
 use Rattle.std.proofs.lemmas.Slice.{take-put_mid_below}
 use Rattle.std.proofs.KnownBytes.{Consumes-trans}
 use Rattle.std.specs.Io.KnownBytes.{Consumes}
@@ -23,5 +23,5 @@ loop-n-preserved g c =
     record {
       same_length = search rules;
       within = search rules;
-      bytes = subst (Consumes _ _) joined (Consumes-trans _ _ _ _ _ w.bytes c.in-Ok.ensures.bytes.0)
+      bytes = subst (Consumes _ _) joined (Consumes-trans _ _ _ _ _ w.bytes c.in-Ok.ensures.bytes.0);
     }

@@ -8,7 +8,7 @@ abbrev pub invariant-loop-n : goal.invariant-loop-n
 invariant-loop-n g l = record {
   same_length : length l.input ≡ length l.initial.input;
   within : l.n ≤ length l.input;
-  bytes : Consumes (g.R.Read.remaining l.fn.reader) (g.R.Read.remaining l.reader) (take l.n l.input)
+  bytes : Consumes (g.R.Read.remaining l.fn.reader) (g.R.Read.remaining l.reader) (take l.n l.input);
 }
 
 abbrev pub decreases-loop-n : goal.decreases-loop-n
