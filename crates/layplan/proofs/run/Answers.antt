@@ -1,5 +1,5 @@
 -- What is written is the whole output, and the output for what was read is that for the whole input.
-use Rattle.std.proofs.Common.{rules, ◌≡◌, ℕ, List, length, take, sym, subst, arith, length-take-le}
+use Rattle.std.proofs.Common.{rules, ◌≡◌, ℕ, List, take, sym, subst, length-take-le}
 use Rattle.std.proofs.Math.Seq.{take-append_seam}
 use Rattle.model.specs.Program.{layplan}
 use Rattle.layplan_text.specs.declared.Output.{Output}
