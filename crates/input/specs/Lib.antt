@@ -1,2 +1,3 @@
--- What reading standard input answers.
+-- What reading an input answers, and what was read.
 pub mod Within
+pub mod Reads

@@ -1,4 +1,4 @@
--- What reading standard input answers.
+-- What reading an input answers.
 use Rattle.std.specs.Prelude.{ℕ, ◌≤◌}
 use Rattle.input.specs.declared.Input.{Input}
 use Rattle.input.specs.declared.Input.TheVariants.{Bytes, Failed}

@@ -1,31 +1,32 @@
-// Standard input, read whole by each program.
+// A program's input, read whole.
+#![tactic(auto)]
+
 ghost use Rattle.std.specs.Prelude.{length};
 ghost use Rattle.input.specs.Within.{Within};
+ghost use Rattle.input.specs.Reads.{Reads};
 
-use libc::STDIN_FILENO;
+use std::io::Read;
 
-// What reading standard input came to: how many bytes, or a read that failed.
+// What reading came to: how many bytes, or a read that failed.
 #[derive(Clone, Copy)]
 pub enum Input {
     Bytes(usize),
     Failed,
 }
 
-// Standard input from its start to its end, or as much as fits.
-pub fn read_all(input: &mut [u8]) -> Input
-    ensures { Within (length input.new) result }
+// What the reader gives from here to its end, or as much as fits. A read that a signal interrupts before it gives a byte
+// is one that failed.
+pub fn read_all<R: Read>(reader: &mut R, input: &mut [u8]) -> Input
+    ensures within { Within (length input.new) result }
+    ensures bytes { Reads (R.remaining reader.old) (R.remaining reader.new) input.new result }
 {
     let mut n = 0;
     while n < input.len() {
-        let got = libc::read(STDIN_FILENO, &mut input[n..]);
-        if got < 0 {
-            return Input::Failed;
+        match reader.read(&mut input[n..]) {
+            Ok(0) => return Input::Bytes(n),
+            Ok(k) => n += k,
+            Err(_) => return Input::Failed,
         }
-        let k = io::count(got, &input[n..]);
-        if k == 0 {
-            return Input::Bytes(n);
-        }
-        n += k;
     }
     Input::Bytes(n)
 }

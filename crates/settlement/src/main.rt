@@ -1,35 +1,63 @@
 // The program settlement (02: Slip 4): a book on standard input, its settlement sheet on standard output.
 //
-// `settlement_text` answers the definition's bytes for every input. This program takes no index out of range, adds without
-// wrapping and ends, given that each call of the C library returns; it hands a front of its array to `settlement_text` and
-// writes the answer's bytes. Not proved, since no contract says which bytes `libc::read` and `libc::write` move: that the
-// bytes handed on are those of standard input, and that those written arrive.
-// A program has no exit status to set: where input cannot be read or output cannot be written, a message goes to standard
-// error, nothing more to standard output, and the status is still 0.
+// `run` takes no index out of range, adds without wrapping and ends, given that each call of its reader and its writer
+// returns. Proved of it for every reader and writer whose bytes are known: where it ends well, it has written the
+// definition's output for all that the reader had left, and where reading fails, it has written nothing. Not proved, since
+// no contract says which bytes a system's read and write move: that what `main` hands on are the bytes of standard input,
+// and that those written to standard output arrive.
+// Where input cannot be read or output cannot be written, a message goes to standard error, nothing more to standard
+// output, and the exit status is still 0.
+#![tactic(auto)]
+
+ghost use Rattle.std.specs.Prelude.{◌≡◌, IfSome, IfErr, OnOk};
+ghost use Rattle.std.specs.Io.KnownBytes.{Appends, Keeps};
+ghost use Rattle.model.specs.SheetCalls.{settlement};
+
 use input::Input;
-use libc::{STDERR_FILENO, STDOUT_FILENO};
+use std::fmt::{self, Display, Formatter};
+use std::io::{Read, Write};
 
 // One byte more than the longest book of 64 partitions and 512 deliveries: a longer one, cut there, has the same output (the
 // law `cut_short` of settlement_text).
 const ROOM: usize = 34 + 23 * 64 + 34 * 512 + 1;
 
-fn main() {
+// Which stream failed.
+#[derive(Clone, Copy)]
+enum Failure {
+    Input,
+    Output,
+}
+
+impl Display for Failure {
+    fn fmt<W: fmt::Write>(&self, f: &mut Formatter<W>) -> fmt::Result {
+        f.write_str(match self {
+            Failure::Input => "standard input cannot be read",
+            Failure::Output => "standard output cannot be written",
+        })
+    }
+}
+
+// The whole input read, and its output written.
+fn run<R: Read, W: Write>(reader: &mut R, writer: &mut W) -> Result<(), Failure>
+    ensures written { OnOk result (IfSome (R.remaining reader.old) (λ text.
+        Appends (W.contents writer.old) (W.contents writer.new) (settlement text))) }
+    ensures unread { IfErr result (λ e. e ≡ Failure.Input → Keeps (W.contents writer.old) (W.contents writer.new)) }
+{
     let mut input = [0u8; ROOM];
-    let r = input::read_all(&mut input);
-    let Input::Bytes(n) = r else {
-        io::write_all(
-            STDERR_FILENO,
-            b"settlement: standard input cannot be read\n",
-        );
-        return;
+    let Input::Bytes(n) = input::read_all(reader, &mut input) else {
+        return Err(Failure::Input);
     };
     let out = settlement_text::settlement_text(&input[..n]);
-    let bytes = out.bytes;
-    let k = out.count;
-    if !io::write_all(STDOUT_FILENO, &bytes[..k]) {
-        io::write_all(
-            STDERR_FILENO,
-            b"settlement: standard output cannot be written\n",
-        );
+    let bytes = &out.bytes[..];
+    match writer.write_all(&bytes[..out.count]) {
+        Ok(()) => Ok(()),
+        Err(_) => Err(Failure::Output),
+    }
+}
+
+fn main(rt: HostRuntime) {
+    if let Err(failure) = run(&mut rt.stdin(), &mut rt.stdout()) {
+        // Where the message cannot be written either, nothing is left to say so on.
+        let _ = eprintln!(rt; "settlement: {failure}");
     }
 }
