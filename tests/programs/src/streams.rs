@@ -6,20 +6,9 @@ use crate::run::{shown, Run, Test};
 use second::random::{case_seed, Random};
 use std::fs::{self, File};
 use std::io::Write;
-use std::os::unix::process::ExitStatusExt;
 use std::path::Path;
 use std::process::{Command, Stdio};
 use std::thread;
-
-/// The signal of a write to a pipe that nobody reads.
-const SIGPIPE: i32 = 13;
-
-/// How a process is to end: status 0 or this signal.
-#[derive(Clone, Copy)]
-enum End {
-    Zero,
-    Signal(i32),
-}
 
 /// What the program says of a stream.
 #[derive(Clone, Copy)]
@@ -29,14 +18,10 @@ enum Message {
     Output,
 }
 
-/// Holds the end, standard output and standard error to what is expected.
-fn hold(run: &Run, ended: &Ended, end: End, output: &[u8], message: Message) -> Result<(), String> {
+/// Holds the status to 0, and standard output and standard error to what is expected.
+fn hold(run: &Run, ended: &Ended, output: &[u8], message: Message) -> Result<(), String> {
     let status = ended.status;
-    let ends = match end {
-        End::Zero => status.code() == Some(0),
-        End::Signal(signal) => status.signal() == Some(signal),
-    };
-    if !ends {
+    if status.code() != Some(0) {
         return Err(format!("{status}"));
     }
     if ended.output != output {
@@ -74,19 +59,19 @@ fn open(path: &str, write: bool) -> Result<File, String> {
 fn directory_in(run: &mut Run) -> Result<(), String> {
     let input = open(".", false)?;
     let ended = finish(start(&mut command(&run.path, input))?, &[])?;
-    hold(run, &ended, End::Zero, b"", Message::Input)
+    hold(run, &ended, b"", Message::Input)
 }
 
 fn write_only_in(run: &mut Run) -> Result<(), String> {
     let input = open("/dev/null", true)?;
     let ended = finish(start(&mut command(&run.path, input))?, &[])?;
-    hold(run, &ended, End::Zero, b"", Message::Input)
+    hold(run, &ended, b"", Message::Input)
 }
 
 fn closed_in(run: &mut Run) -> Result<(), String> {
     let mut shell = by_shell(&run.path, "exec \"$1\" <&-");
     let ended = finish(start(&mut shell)?, &[])?;
-    hold(run, &ended, End::Zero, b"", Message::Input)
+    hold(run, &ended, b"", Message::Input)
 }
 
 /// One byte more than the longest input, and then no end: the process need not
@@ -102,20 +87,20 @@ fn endless_in(run: &mut Run) -> Result<(), String> {
     let ended = finish(child, &[]);
     // The pipe was open until here.
     drop(writer.join());
-    hold(run, &ended?, End::Zero, b"         14\n", Message::None)
+    hold(run, &ended?, b"         14\n", Message::None)
 }
 
 fn closed_out(run: &mut Run) -> Result<(), String> {
     let mut shell = by_shell(&run.path, "exec \"$1\" >&-");
     let ended = finish(start(&mut shell)?, &[run.program.good])?;
-    hold(run, &ended, End::Zero, b"", Message::Output)
+    hold(run, &ended, b"", Message::Output)
 }
 
 fn full_out(run: &mut Run) -> Result<(), String> {
     let mut process = command(&run.path, Stdio::piped());
     process.stdout(open("/dev/full", true)?);
     let ended = finish(start(&mut process)?, &[run.program.good])?;
-    hold(run, &ended, End::Zero, b"", Message::Output)
+    hold(run, &ended, b"", Message::Output)
 }
 
 /// The reader closes before the input is given, so that no output is written
@@ -124,14 +109,14 @@ fn unread_out(run: &mut Run) -> Result<(), String> {
     let mut child = start(&mut command(&run.path, Stdio::piped()))?;
     drop(child.stdout.take());
     let ended = finish(child, &[run.program.good])?;
-    hold(run, &ended, End::Signal(SIGPIPE), b"", Message::None)
+    hold(run, &ended, b"", Message::Output)
 }
 
 fn unread_out_no_signal(run: &mut Run) -> Result<(), String> {
     let mut child = start(&mut by_shell(&run.path, "trap '' PIPE; exec \"$1\""))?;
     drop(child.stdout.take());
     let ended = finish(child, &[run.program.good])?;
-    hold(run, &ended, End::Zero, b"", Message::Output)
+    hold(run, &ended, b"", Message::Output)
 }
 
 /// A file that takes the first block of the output and no more: what fits is
@@ -155,14 +140,14 @@ fn cut_out(run: &mut Run) -> Result<(), String> {
         true => Message::Output,
         false => Message::None,
     };
-    hold(run, &ended?, End::Zero, b"", message)
+    hold(run, &ended?, b"", message)
 }
 
 /// Not even the message can be written.
 fn all_closed(run: &mut Run) -> Result<(), String> {
     let mut shell = by_shell(&run.path, "exec \"$1\" <&- >&- 2>&-");
     let ended = finish(start(&mut shell)?, &[])?;
-    hold(run, &ended, End::Zero, b"", Message::None)
+    hold(run, &ended, b"", Message::None)
 }
 
 pub const TESTS: &[(&str, Test)] = &[
