@@ -6,7 +6,7 @@
  * Prints each step, and exits nonzero if an answer is not the expected one.
  *
  *   cc -std=c11 -Wall -Wextra -Werror -Iinclude examples/host.c \
- *      -Ltarget/staticlib -lc_api -o host
+ *      -Lcrates/c_api/out -lc_api -o host
  */
 #include "meltusk.h"
 

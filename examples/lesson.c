@@ -6,7 +6,7 @@
  * Prints the listings, and exits nonzero if an answer is not the expected one.
  *
  *   cc -std=c11 -Wall -Wextra -Werror -Iinclude examples/lesson.c \
- *      -Ltarget/staticlib -lc_api -o lesson
+ *      -Lcrates/c_api/out -lc_api -o lesson
  */
 #include "meltusk.h"
 

@@ -4,9 +4,9 @@
 //!
 //! The first argument, if any, multiplies the number of random cases; below
 //! 1, the number of texts read and the share of damaged ones are not asked.
-//! From the root of the repository, after `rt staticlib c_api`:
+//! From the root of the repository, after `rt lib` in crates/c_api:
 //!
-//! MELTUSK_LIB=target/staticlib CARGO_TARGET_DIR=target/compare cargo run
+//! MELTUSK_LIB=crates/c_api/out CARGO_TARGET_DIR=target/compare cargo run
 //! --release --offline --manifest-path tests/compare/Cargo.toml
 //!
 //! Under valgrind, a test in which it sees an error fails: a read or write

@@ -4,7 +4,7 @@
 //!
 //! CARGO_TARGET_DIR=target/programs cargo run --release --offline
 //! --manifest-path tests/programs/Cargo.toml --bin compare-layplan
-//! target/bin/layplan
+//! crates/layplan/out/layplan
 //!
 //! `--time PROGRAM SECOND` times it against the second implementation's
 //! process, which is built as `second-layplan` in tests/second.

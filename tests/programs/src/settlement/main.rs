@@ -4,7 +4,7 @@
 //!
 //! CARGO_TARGET_DIR=target/programs cargo run --release --offline
 //! --manifest-path tests/programs/Cargo.toml --bin compare-settlement
-//! target/bin/settlement
+//! crates/settlement/out/settlement
 //!
 //! `--time PROGRAM SECOND` times it against the second implementation's
 //! process, which is built as `second-settlement` in tests/second.
