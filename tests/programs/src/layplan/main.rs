@@ -1,6 +1,6 @@
 //! Compares the program layplan with the second implementation. The first
-//! argument is the program. From the root of the repository, after `rt check
-//! layplan`:
+//! argument is the program. From the root of the repository, after `rt run`
+//! in crates/layplan:
 //!
 //! CARGO_TARGET_DIR=target/programs cargo run --release --offline
 //! --manifest-path tests/programs/Cargo.toml --bin compare-layplan

@@ -1,6 +1,6 @@
 //! Compares the program settlement with the second implementation. The first
-//! argument is the program. From the root of the repository, after `rt check
-//! settlement`:
+//! argument is the program. From the root of the repository, after `rt run`
+//! in crates/settlement:
 //!
 //! CARGO_TARGET_DIR=target/programs cargo run --release --offline
 //! --manifest-path tests/programs/Cargo.toml --bin compare-settlement
