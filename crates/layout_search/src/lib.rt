@@ -339,7 +339,8 @@ fn least_of_rest(
 
 // The least of NONE and the joined numbers start .. limit: four at a time, so that a step waits for one minimum and not for four.
 fn least(tails: &[u64], table: &[u64], at: usize, start: usize, limit: usize) -> u64
-    requires start_le_search_limit { (start ≤ search_limit) × (limit ≤ search_limit) × (at < 2 ^ 32) × (limit ≤ length tails.now) × (at + limit ≤ length table.now) }
+    requires start_le_search_limit { (start ≤ search_limit) × (limit ≤ search_limit) × (at < 2 ^ 32) × (limit ≤ length tails.now)
+        × (at + limit ≤ length table.now) }
     requires small { Small tails.now table.now at start limit }
     ensures { LeastOf (λ e. get_or tails.now e 0 + get_or table.now (at + e) 0) start limit result }
 {

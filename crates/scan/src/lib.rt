@@ -9,7 +9,8 @@ ghost use Rattle.model.specs.Lists.{sum_of, every};
 ghost use Rattle.model.specs.Deliveries.{rows, Even, LightTotals, in_range};
 ghost use Rattle.model.specs.Partitions.{start_of};
 ghost use Rattle.model.specs.Accesses.{blocks_of, reads_of};
-ghost use Rattle.scan.specs.Scans.{all_fit, every_day, bad_sum, sum_more, sum_all, bad_scan, scan_more, records_in, scan_of, Light, bad_sought, seek_more, seek_all};
+ghost use Rattle.scan.specs.Scans.{all_fit, every_day, bad_sum, sum_more, sum_all, bad_scan, scan_more};
+ghost use Rattle.scan.specs.Scans.{records_in, scan_of, Light, bad_sought, seek_more, seek_all};
 
 use model::{Counts, Delivery, MOST_DAY, STRIDE, Totals};
 

@@ -14,15 +14,15 @@ decreases-loop text at i₀ i = 10 - i
 loop-holds : tie.Need-loop-i-init invariant-loop decreases-loop
 loop-holds c = pass_start _ _ c.requires
 
-returns : tie.Need-returns-then-text-at-ne32 invariant-loop decreases-loop
-returns c = pass_stop c.loop-i.invariant c.if-text-at-ne32.true
-
 loop-again : tie.Need-loop-i-preserved invariant-loop decreases-loop
-loop-again c = pass_next c.loop-i-test.true c.loop-i.invariant c.if-text-at-ne32.false
+loop-again c = pass_next c.loop-i-test.true c.loop-i.invariant (omega arith)
 
 returns-2 : tie.Need-returns invariant-loop decreases-loop
 returns-2 c = pass_end c.loop-i-test.false c.loop-i.invariant
 
 pub blanks_spec : {M : Type 1} → statement M
 blanks_spec =
-    tie.close (tie.spec invariant-loop decreases-loop loop-holds (λ c. omega arith) (λ c. omega arith) returns (λ c. omega arith) (λ c. omega arith) loop-again returns-2)
+    tie.close
+    (tie.spec
+    invariant-loop decreases-loop loop-holds (λ c. omega arith) (λ c. omega arith) (λ c. pass_stop c.loop-i.invariant (omega arith))
+    (λ c. omega arith) (λ c. omega arith) loop-again returns-2)

@@ -29,22 +29,19 @@ record-lines-requires c κs =
     let n = sizes c.before in
     (calls_start n s.requires, calls_few n s.requires, calls_good n s.requires)
 
-returns : tie.Need-returns-then-stop-ne0
-returns c =
-    let n = sizes c.before.before.before.before.before in
-    answer_refused _ n _ _ c.record_lines-stop.ensures _ (λ z. omega (arith, z, c.if-stop-ne0.true)) c.refused.ensures
-
 plan-requires : tie.Need-plan-requires
 plan-requires c κs = (good _ (from c.before.before.before.before.before).requires).first
 
 returns-2 : tie.Need-returns
 returns-2 c =
     let n = sizes c.before.before.before.before.before.before in
-    answer-planned _ n _ _ c.record_lines-stop.ensures _ (omega (arith, c.if-stop-ne0.false)) c.plan.ensures
+    answer-planned _ n _ _ c.record_lines-stop.ensures _ (omega arith) c.plan.ensures
 
 pub answer_spec : {M : Type 1} → statement M
 answer_spec =
     tie.close
     (tie.spec
     spelled-at-requires spelled-at-requires-2 spelled-at-requires-3 (λ c. search rules) (λ c. search rules) (λ c. omega arith)
-    (λ c. omega arith) (λ c. search rules) record-lines-requires (λ c κs. search rules) returns (λ c. search rules) plan-requires returns-2)
+    (λ c. omega arith) (λ c. search rules) record-lines-requires (λ c κs. search rules)
+    (λ c. let n = sizes c.before.before.before.before.before in answer_refused _ n _ _ c.record_lines-stop.ensures _ (λ z. omega (arith, z)) c.refused.ensures)
+    (λ c. search rules) plan-requires returns-2)

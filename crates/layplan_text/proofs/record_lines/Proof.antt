@@ -21,17 +21,13 @@ record-at-requires : tie.Need-record_at-n-requires invariant-loop decreases-loop
 record-at-requires c κs =
     (omega (arith, c.loop-i.invariant.at-line, c.requires.0, c.requires.1), next_line c.loop-i-test.true c.loop-i.invariant)
 
-returns : tie.Need-returns-then-n-ne0 invariant-loop decreases-loop
-returns c =
-    records_stop c.loop-i-test.true c.loop-i.invariant _ _ c.record_at-n.ensures (λ z. omega (arith, z, c.if-n-ne0.true))
-
 add-e : tie.Need-overflow_add-e invariant-loop decreases-loop
 add-e c =
     omega (arith, c.loop-i.invariant.at-line, c.requires.0, c.requires.1)
 
 loop-again : tie.Need-loop-i-preserved invariant-loop decreases-loop
 loop-again c =
-    records_next c.loop-i-test.true c.loop-i.invariant _ _ c.record_at-n.ensures (omega (arith, c.if-n-ne0.false)) (search rules)
+    records_next c.loop-i-test.true c.loop-i.invariant _ _ c.record_at-n.ensures (omega arith) (search rules)
 
 returns-2 : tie.Need-returns invariant-loop decreases-loop
 returns-2 c = records_end c.loop-i-test.false c.loop-i.invariant
@@ -40,5 +36,7 @@ pub record_lines_spec : {M : Type 1} → statement M
 record_lines_spec =
     tie.close
     (tie.spec
-    invariant-loop decreases-loop loop-holds record-at-requires (λ c. search rules) returns add-e (λ c. omega arith) (λ c. omega arith) loop-again
+    invariant-loop decreases-loop loop-holds record-at-requires (λ c. search rules)
+    (λ c. records_stop c.loop-i-test.true c.loop-i.invariant _ _ c.record_at-n.ensures (λ z. omega (arith, z)))
+    add-e (λ c. omega arith) (λ c. omega arith) loop-again
     (λ c. search rules) returns-2)
