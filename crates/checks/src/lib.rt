@@ -2,15 +2,18 @@
 // Each answers what its definition says, so that a caller has one test for each.
 #![tactic(auto)]
 
-ghost use Rattle.std.specs.Prelude.{◌≡◌};
+ghost use Rattle.std.specs.Prelude.{◌≡◌, true, false, IfOk, IfErr};
 ghost use Rattle.model.specs.Calendar.{span};
 ghost use Rattle.model.specs.Deliveries.{in_range, day_ok};
-ghost use Rattle.model.specs.Lent.{slices_in};
+ghost use Rattle.model.specs.Lent.{slices_in, slices_given, records_given};
 ghost use Rattle.model.specs.Calls.{span_ok};
 ghost use Rattle.model.specs.Blocks.{block_length_ok, slots_ok, slices_ok};
 ghost use Rattle.checks.specs.Values.{all_values_ok, all_days_ok, all_undated};
 
-use model::{Delivery, MOST_BLOCK_LENGTH, MOST_DAY, MOST_SLOTS, MOST_WEIGHT, MOST_YIELD};
+use model::{
+    Delivery, LentSlices, MOST_BLOCK_LENGTH, MOST_DAY, MOST_SLOTS, MOST_WEIGHT, MOST_YIELD,
+    Records, Refusal,
+};
 
 // Check 2 of a block length.
 pub fn block_length_ok(b: u32) -> bool
@@ -46,6 +49,22 @@ pub fn slices_ok(g: &[u32], w: &[u32], y: &[u32], n: &[u32]) -> bool
         return false;
     }
     slots_ok(g.len())
+}
+
+// The records of slices that pass check 3.
+pub fn records<'a>(slices: LentSlices<'a>) -> Result<Records<'a>, Refusal>
+    ensures accepted { IfOk result (λ r. (slices_ok (slices_given slices.entry) ≡ true) × (records_given r ≡ slices_given slices.entry)) }
+    ensures refused { IfErr result (λ e. (e ≡ Refusal.Slices) × (slices_ok (slices_given slices.entry) ≡ false)) }
+{
+    if !slices_ok(slices.growers, slices.weights, slices.yields, slices.days) {
+        return Err(Refusal::Slices);
+    }
+    Ok(Records {
+        growers: slices.growers,
+        weights: slices.weights,
+        yields: slices.yields,
+        days: slices.days,
+    })
 }
 
 // Check 8 of one delivery.

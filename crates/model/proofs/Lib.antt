@@ -1,4 +1,5 @@
 -- The laws of the definitions, for every crate above, and the marked examples.
+pub mod Refusals
 pub mod Tests
 pub mod ListLaws
 pub mod Places

@@ -2,6 +2,7 @@
 pub mod Bounds
 pub mod Lists
 pub mod Checks
+pub mod Refusals
 pub mod Place
 pub mod Calendar
 pub mod SettlementTerms
@@ -18,6 +19,7 @@ pub mod Moves
 pub mod Directory
 pub mod Column
 pub mod Lent
+pub mod Answers
 pub mod Accesses
 pub mod Growers
 pub mod Fields

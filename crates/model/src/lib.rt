@@ -1,12 +1,20 @@
 // The terms of the store: what a call is given and what it answers. What they mean is in specs/.
 #![tactic(auto)]
 
+mod answers;
+mod lent;
+mod refusal;
+
 ghost use Rattle.std.specs.Prelude.{◌≡◌};
 ghost use Rattle.model.specs.Bounds.{most_slots};
 ghost use Rattle.model.specs.Deliveries.{no_totals, LightTotals, plus_totals};
 ghost use Rattle.model.specs.Accesses.{no_counts};
 ghost use Rattle.model.specs.Prices.{factory};
 ghost use Rattle.model.specs.Tallies.{empty_tally};
+
+pub use answers::{GrowerReport, Listing, PartitionPlace, Plan, Refused, Report};
+pub use lent::{DaySpan, LentSet, LentSlices, Records};
+pub use refusal::{Refusal, number_of};
 
 // 01's numbers; specs/Bounds has them as definitions.
 // The most blocks of a set and partitions of a column (01: 64).
@@ -74,7 +82,7 @@ pub const HISTOGRAMS_SIZE: usize = HISTOGRAM_COUNT * BLOCK_LIMIT;
 
 // One delivery (01: a grower number, a weight in kg, an oil yield in hundredths of a per cent; 02: a day number).
 #[repr(C)]
-#[derive(Clone, Copy)]
+#[derive(Clone, Copy, PartialEq, Eq)]
 pub struct Delivery {
     pub grower: u32,
     pub weight: u32,
