@@ -579,7 +579,7 @@ pub extern "C" fn meltusk_export_csv(
 pub extern "C" fn meltusk_day_of(year: u32, month: u32, day: u32) -> DayAnswer
     ensures { result ≡ day_call year month day }
 {
-    dates::day_of(year, month, day)
+    dates::day_of(year, month, day).into()
 }
 
 // The date of a day number.
@@ -587,7 +587,7 @@ pub extern "C" fn meltusk_day_of(year: u32, month: u32, day: u32) -> DayAnswer
 pub extern "C" fn meltusk_date_of(day: u32) -> DateAnswer
     ensures { result ≡ date_call day }
 {
-    dates::date_of(day)
+    dates::date_of(day).into()
 }
 
 // The term that holds a day.
@@ -595,5 +595,5 @@ pub extern "C" fn meltusk_date_of(day: u32) -> DateAnswer
 pub extern "C" fn meltusk_term_of(day: u32) -> TermAnswer
     ensures { result ≡ term_call day }
 {
-    dates::term_of(day)
+    dates::term_of(day).into()
 }

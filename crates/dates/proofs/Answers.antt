@@ -41,7 +41,7 @@ pub in_year : (n k a : ℕ) (l : Bool) → YearAt n k → l ≡ is_leap (2000 + 
 in_year n k a l y e f = rw e (omega (arith, y))
 
 pub parted : (n k a m b : ℕ) (l : Bool) → YearAt n k → l ≡ is_leap (2000 + k) → a ≡ days_before_year (2000 + k)
-    → MonthAt l (n - a) m → b ≡ days_before_month l m → Parted n (record { year = 2000 + k; leap = l; month = m; day = n - a - b + 1 })
+    → MonthAt l (n - a) m → b ≡ days_before_month l m → Parted n (record { date = record { year = 2000 + k; month = m; day = n - a - b + 1 }; leap = l })
 unfolding day_number
 parted n k a m b l y e f h g =
     let h' : MonthAt (is_leap (2000 + k)) (n - a) m = subst (λ (x : Bool). MonthAt x (n - a) m) e h in
@@ -60,7 +60,7 @@ parted n k a m b l y e f h g =
     }
 
 -- a date that is taken apart exists
-exists : (n : ℕ) (p : Parts) → Parted n p → Real p.year p.month p.day
+exists : (n : ℕ) (p : Parts) → Parted n p → Real p.date.year p.date.month p.date.day
 exists n p q = record { year_least = q.year_least; year_most = q.year_most; month_least = q.month_least; month_most = q.month_most; day_least = q.day_least; day_most = q.day_most }
 
 -- the date of a day number
@@ -68,9 +68,9 @@ pub date_refused : (n : ℕ) → most_day < n → ◌≡◌ {A = DateAnswer} (re
 unfolding date_call
 date_refused n h = rw (lt-leb n most_day h)
 
-pub date-answer : (n : ℕ) (p : Parts) → n ≤ most_day → Parted n p → ◌≡◌ {A = DateAnswer} (record { refusal = 0; year = p.year; month = p.month; day = p.day }) (date_call n)
+pub date-answer : (n : ℕ) (p : Parts) → n ≤ most_day → Parted n p → ◌≡◌ {A = DateAnswer} (record { refusal = 0; year = p.date.year; month = p.date.month; day = p.date.day }) (date_call n)
 unfolding date_call
-date-answer n p h q = rw (le-leb n most_day h) (sym (ap date_given (the_date n p.year p.month p.day (exists n p q) q.number)))
+date-answer n p h q = rw (le-leb n most_day h) (sym (ap date_given (the_date n p.date.year p.date.month p.date.day (exists n p q) q.number)))
 
 -- its term
 pub term_refused : (n : ℕ) → most_day < n → ◌≡◌ {A = TermAnswer} (record { refusal = 19; first = 0; last = 0 }) (term_call n)
@@ -80,26 +80,26 @@ term_refused n h = rw (lt-leb n most_day h)
 abbrev answer : ℕ → ℕ → TermAnswer
 answer a e = record { refusal = 0; first = a; last = e }
 
-pub term_early : (n : ℕ) (p : Parts) → n ≤ most_day → Parted n p → p.day ≤ 15 → ◌≡◌ {A = TermAnswer} (record { refusal = 0; first = n + 1 - p.day; last = n + 15 - p.day }) (term_call n)
+pub term_early : (n : ℕ) (p : Parts) → n ≤ most_day → Parted n p → p.date.day ≤ 15 → ◌≡◌ {A = TermAnswer} (record { refusal = 0; first = n + 1 - p.date.day; last = n + 15 - p.date.day }) (term_call n)
 unfolding term_call term_at
 term_early n p h q w =
     let r = exists n p q in
-    let b = begins p.year p.month p.day r in
-    let o = on_day p.year p.month p.day q.day_least in
-    let t : term_of n ≡ term p.year p.month early
-    = term-at n p.year p.month p.day r q.number ∙ ap (λ (x : Bool). term p.year p.month (cond x early late)) (le-leb p.day 15 w) in
+    let b = begins p.date.year p.date.month p.date.day r in
+    let o = on_day p.date.year p.date.month p.date.day q.day_least in
+    let t : term_of n ≡ term p.date.year p.date.month early
+    = term-at n p.date.year p.date.month p.date.day r q.number ∙ ap (λ (x : Bool). term p.date.year p.date.month (cond x early late)) (le-leb p.date.day 15 w) in
     rw (le-leb n most_day h) (ap₂ answer (omega (arith, b.early_first, o, q.number)) (omega (arith, b.early_last, o, q.number)) ∙ sym (ap term_given t))
 
-pub term_late : (n : ℕ) (p : Parts) (e : ℕ) → n ≤ most_day → Parted n p → 15 < p.day → e ≡ month_days p.leap p.month
-    → ◌≡◌ {A = TermAnswer} (record { refusal = 0; first = n + 16 - p.day; last = n + e - p.day }) (term_call n)
+pub term_late : (n : ℕ) (p : Parts) (e : ℕ) → n ≤ most_day → Parted n p → 15 < p.date.day → e ≡ month_days p.leap p.date.month
+    → ◌≡◌ {A = TermAnswer} (record { refusal = 0; first = n + 16 - p.date.day; last = n + e - p.date.day }) (term_call n)
 unfolding term_call term_at
 term_late n p e h q w f =
     let r = exists n p q in
-    let b = begins p.year p.month p.day r in
-    let o = on_day p.year p.month p.day q.day_least in
-    let f' : e ≡ month_days (is_leap p.year) p.month = subst (λ (x : Bool). e ≡ month_days x p.month) q.leap_year f in
-    let t : term_of n ≡ term p.year p.month late
-    = term-at n p.year p.month p.day r q.number ∙ ap (λ (x : Bool). term p.year p.month (cond x early late)) (lt-leb p.day 15 w) in
+    let b = begins p.date.year p.date.month p.date.day r in
+    let o = on_day p.date.year p.date.month p.date.day q.day_least in
+    let f' : e ≡ month_days (is_leap p.date.year) p.date.month = subst (λ (x : Bool). e ≡ month_days x p.date.month) q.leap_year f in
+    let t : term_of n ≡ term p.date.year p.date.month late
+    = term-at n p.date.year p.date.month p.date.day r q.number ∙ ap (λ (x : Bool). term p.date.year p.date.month (cond x early late)) (lt-leb p.date.day 15 w) in
     rw (le-leb n most_day h) (ap₂ answer (omega (arith, b.late_first, o, q.number)) (omega (arith, b.late_last, o, q.number)) ∙ sym (ap term_given t))
 
 -- the day number of a date

@@ -70,20 +70,20 @@ pub month_counted : (b : Bool) (m : ℕ) → 1 ≤ m → m ≤ 13 → counted b 
 unfolding counts
 month_counted b m l h = eqb→eq _ _ (within (counts b) 1 13 (counts_all b) m l (omega arith))
 
--- the same, as each of the code's three ways counts
+-- the same, as each of the code's two ways counts
 pub counted_first : (b : Bool) (m : ℕ) → 1 ≤ m → m ≤ 2 → (367 * m - 362) / 12 ≡ days_before_month b m
 counted_first b m l h = omega (arith, rw (le-leb m 2 h) at (month_counted b m l (omega arith)))
 
-pub counted_leap : (b : Bool) (m : ℕ) → b ≡ true → 2 < m → m ≤ 13 → (367 * m - 362) / 12 - 1 ≡ days_before_month b m
-counted_leap b m e l h = rw e (rw (lt-leb m 2 l) at (month_counted true m (omega arith) h))
+pub counted_later : (b : Bool) (m : ℕ) → 2 < m → m ≤ 13 → (367 * m - 362) / 12 - cond b 1 2 ≡ days_before_month b m
+counted_later b m l h = rw (lt-leb m 2 l) at (month_counted b m (omega arith) h)
 
-pub counted_other : (b : Bool) (m : ℕ) → b ≡ false → 2 < m → m ≤ 13 → (367 * m - 362) / 12 - 2 ≡ days_before_month b m
-counted_other b m e l h = rw e (rw (lt-leb m 2 l) at (month_counted false m (omega arith) h))
+-- how much later than in a February of 30 days the code takes day n of a year
+abbrev pub shift : Bool → ℕ → ℕ
+shift b n = cond (ltb (n + cond b 1 2) 61) 0 (cond b 1 2)
 
--- the code's month of day n of a year
+-- its month of that day
 abbrev pub month_of : Bool → ℕ → ℕ
-month_of true n = cond (ltb n 60) ((12 * n + 373) / 367) ((12 * n + 385) / 367)
-month_of false n = cond (ltb n 59) ((12 * n + 373) / 367) ((12 * n + 397) / 367)
+month_of b n = (12 * (n + shift b n) + 373) / 367
 
 is_month_at : Bool → ℕ → ℕ → Bool
 is_month_at b n m = leb 1 m && leb m 12 && (leb (days_before_month b m) n && ltb n (days_before_month b (m + 1)))
@@ -130,15 +130,9 @@ year_most false = omega (arith, year_length false)
 pub month_small : (b : Bool) (m : ℕ) → 1 ≤ m → m ≤ 13 → days_before_month b m ≤ 366
 month_small b m l h = omega (arith, months_rise b m 13 l h (omega arith), year_most b)
 
--- the same, as each of the code's four ways finds it
-pub found_leap_early : (b : Bool) (n : ℕ) → b ≡ true → n < 60 → n < days_before_month b 13 → MonthAt b n ((12 * n + 373) / 367)
-found_leap_early b n e l h = subst (MonthAt b n) (let q : month_of b n ≡ (12 * n + 373) / 367 = rw (e, lt-ltb n 60 l) in q) (month_found b n h)
+-- the same, as each of the code's two ways finds it
+pub found_early : (b : Bool) (n : ℕ) → n + cond b 1 2 < 61 → n < days_before_month b 13 → MonthAt b n ((12 * (n + 0) + 373) / 367)
+found_early b n l h = rw (lt-ltb (n + cond b 1 2) 61 l) at (month_found b n h)
 
-pub found_leap_late : (b : Bool) (n : ℕ) → b ≡ true → 60 ≤ n → n < days_before_month b 13 → MonthAt b n ((12 * n + 385) / 367)
-found_leap_late b n e l h = subst (MonthAt b n) (let q : month_of b n ≡ (12 * n + 385) / 367 = rw (e, le-ltb n 60 l) in q) (month_found b n h)
-
-pub found_early : (b : Bool) (n : ℕ) → b ≡ false → n < 59 → n < days_before_month b 13 → MonthAt b n ((12 * n + 373) / 367)
-found_early b n e l h = subst (MonthAt b n) (let q : month_of b n ≡ (12 * n + 373) / 367 = rw (e, lt-ltb n 59 l) in q) (month_found b n h)
-
-pub found_late : (b : Bool) (n : ℕ) → b ≡ false → 59 ≤ n → n < days_before_month b 13 → MonthAt b n ((12 * n + 397) / 367)
-found_late b n e l h = subst (MonthAt b n) (let q : month_of b n ≡ (12 * n + 397) / 367 = rw (e, le-ltb n 59 l) in q) (month_found b n h)
+pub found_late : (b : Bool) (n : ℕ) → 61 ≤ n + cond b 1 2 → n < days_before_month b 13 → MonthAt b n ((12 * (n + cond b 1 2) + 373) / 367)
+found_late b n l h = rw (le-ltb (n + cond b 1 2) 61 l) at (month_found b n h)

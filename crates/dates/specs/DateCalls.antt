@@ -1,6 +1,11 @@
 -- The three conversions as calls. "19: a day above 36,524, a date that does not exist or lies outside 2000 to 2099";
 -- "a refused conversion answers zeros".
-use Rattle.std.specs.Prelude.{ℕ, cond, leb}
+use Rattle.std.specs.Prelude.{ℕ, cond, leb, Result, Ok, Err}
+use Rattle.model.specs.declared.refusal.Refusal.{Refusal}
+use Rattle.model.specs.declared.lent.DaySpan.{DaySpan}
+use Rattle.model.specs.Refusals.{refusal_number}
+use Rattle.model.specs.Lent.{span_given}
+use Rattle.dates.specs.declared.Date.{Date as CodeDate}
 use Rattle.dates.specs.declared.DayAnswer.{DayAnswer}
 use Rattle.dates.specs.declared.DateAnswer.{DateAnswer}
 use Rattle.dates.specs.declared.TermAnswer.{TermAnswer}
@@ -25,3 +30,16 @@ date_call n = cond (leb n most_day) (date_given (date_of n)) (record { refusal =
 
 unfoldable pub term_call : ℕ → TermAnswer
 term_call n = cond (leb n most_day) (term_given (term_of n)) (record { refusal = 19; first = 0; last = 0 })
+
+-- what the code's outcomes come to for C
+abbrev pub day_answer_of : Result ℕ Refusal → DayAnswer
+day_answer_of (Ok n) = day_given n
+day_answer_of (Err r) = record { refusal = refusal_number r; day = 0 }
+
+abbrev pub date_answer_of : Result CodeDate Refusal → DateAnswer
+date_answer_of (Ok t) = date_given (date t.year t.month t.day)
+date_answer_of (Err r) = record { refusal = refusal_number r; year = 0; month = 0; day = 0 }
+
+abbrev pub term_answer_of : Result DaySpan Refusal → TermAnswer
+term_answer_of (Ok s) = term_given (span_given s)
+term_answer_of (Err r) = record { refusal = refusal_number r; first = 0; last = 0 }

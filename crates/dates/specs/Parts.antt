@@ -12,12 +12,12 @@ pub record MonthAt (leap : Bool) (n m : ℕ) : Type 0 where
 
 -- p is a date that exists, and has the number n
 pub record Parted (n : ℕ) (p : Parts) : Type 0 where
-  pub leap_year : p.leap ≡ is_leap p.year
-  pub year_least : first_year ≤ p.year
-  pub year_most : p.year ≤ last_year
-  pub month_least : 1 ≤ p.month
-  pub month_most : p.month ≤ 12
-  pub day_least : 1 ≤ p.day
-  pub day_most : p.day ≤ month_days (is_leap p.year) p.month
-  pub early : p.day ≤ n + 1
-  pub number : day_number (date p.year p.month p.day) ≡ n
+  pub leap_year : p.leap ≡ is_leap p.date.year
+  pub year_least : first_year ≤ p.date.year
+  pub year_most : p.date.year ≤ last_year
+  pub month_least : 1 ≤ p.date.month
+  pub month_most : p.date.month ≤ 12
+  pub day_least : 1 ≤ p.date.day
+  pub day_most : p.date.day ≤ month_days (is_leap p.date.year) p.date.month
+  pub early : p.date.day ≤ n + 1
+  pub number : day_number (date p.date.year p.date.month p.date.day) ≡ n

@@ -192,7 +192,7 @@ pub fn write_term_sheet(
     ensures { record { answer = result; text = text.new; order = order.new; work = work.new }
         ≡ term_sheet_call block_limit (column_in directory growers weights yields days) day text.old order.old work.old }
 {
-    let t = dates::term_of(day);
+    let t = TermAnswer::from(dates::term_of(day));
     write(
         directory, growers, weights, yields, days, t, text, order, work,
     )
