@@ -27,8 +27,8 @@ use Rattle.model.proofs.AccessLaws.{reads_small}
 use Rattle.model.proofs.MovesLengths.{sum-one_fewer}
 use Rattle.model.specs.Lent.{column_of}
 use Rattle.column.specs.declared.Located.{Located}
-use Rattle.directory.specs.declared.Shape.{Shape}
-use Rattle.directory.specs.Shapes.{not_shaped}
+use Rattle.directory.specs.declared.Told.{Told}
+use Rattle.directory.specs.Judgements.{not_shaped}
 use Rattle.column.specs.Answers.{without_totals, located_of, opened_of, Ready, put_of, taken_of, shifted_of}
 use Rattle.directory.specs.Numbers.{HasPartition}
 use Rattle.directory.proofs.LentColumns.{lent_column, has_partition}
@@ -127,11 +127,11 @@ module _ (L : ℕ) where
       unfolding opened_of has_free_slot
       opened_full e f k = rw (insert_refusal true true false e f (le-ltb (sum_of (lengths_of L c)) (length c.slices.growers) k))
 
-      pub opened_yes : in_range d ≡ true → day_ok d ≡ true → sum_of (lengths_of L c) < length c.slices.growers → (s : Shape) → s.refusal ≡ 0 → s.used ≡ sum_of (lengths_of L c)
+      pub opened_yes : in_range d ≡ true → day_ok d ≡ true → sum_of (lengths_of L c) < length c.slices.growers → (s : Told) → s.refusal ≡ 0 → s.used ≡ sum_of (lengths_of L c)
           → s.target ≡ target L c d.grower → s.start ≡ start_of (lengths_of L c) (target L c d.grower) → s ≡ opened_of L c d
       unfolding opened_of has_free_slot
       opened_yes e f k s z eu et ea =
-          let whole : ◌≡◌ {A = Shape} (record { refusal = s.refusal; used = s.used; target = s.target; start = s.start }) (opened_of L c d)
+          let whole : ◌≡◌ {A = Told} (record { refusal = s.refusal; used = s.used; target = s.target; start = s.start }) (opened_of L c d)
           = rw (insert_refusal true true true e f (lt-ltb (sum_of (lengths_of L c)) (length c.slices.growers) k), z, eu, et, ea) in
           whole
 
@@ -156,12 +156,12 @@ module _ (L : ℕ) where
         lent_not : (first_failed (lent_checks L c) ≡ 0 → ⊥) → ⊥
         lent_not h = let r = lent_refusal L c (insert d) (first_failed (lent_checks L c)) refl h in r.1 (sym r.0 ∙ e)
 
-    module _ (o : Shape) (w : o ≡ opened_of L c d) where
+    module _ (o : Told) (w : o ≡ opened_of L c d) where
       opened_refusal : o.refusal ≡ column_refusal L c (insert d)
       unfolding opened_of
       opened_refusal = by_number (column_refusal L c (insert d)) _
-          (λ e. ap (λ (x : Shape). x.refusal) (rw e at w) ∙ sym e)
-          (λ e. ap (λ (x : Shape). x.refusal) (rw (ne_eqb (column_refusal L c (insert d)) 0 e) at w))
+          (λ e. ap (λ (x : Told). x.refusal) (rw e at w) ∙ sym e)
+          (λ e. ap (λ (x : Told). x.refusal) (rw (ne_eqb (column_refusal L c (insert d)) 0 e) at w))
 
       pub insert_refused : (r : Answer) → r ≡ without_totals o.refusal no_counts → (o.refusal ≡ 0 → ⊥) → ◌≡◌ {A = Called} (record { answer = r; column = c }) (column_call L c (insert d))
       insert_refused r i h = rw i (refused_call L c (insert d) o.refusal (sym opened_refusal) h (λ e. never_missing (sym opened_refusal ∙ e)))
@@ -183,9 +183,9 @@ module _ (L : ℕ) where
           record {
             accepted = e;
             lent = l;
-            target_is = ap (λ (v : Shape). v.target) x;
-            start_is = ap (λ (v : Shape). v.start) x;
-            used_is = ap (λ (v : Shape). v.used) x;
+            target_is = ap (λ (v : Told). v.target) x;
+            start_is = ap (λ (v : Told). v.start) x;
+            used_is = ap (λ (v : Told). v.used) x;
             free = by_test (in_range d) _
                 (λ p. by_test (day_ok d) _
                 (λ r. by_test (ltb (sum_of (lengths_of L c)) (length c.slices.growers)) _ (λ q. ltb-true (sum_of (lengths_of L c)) (length c.slices.growers) q)

@@ -13,8 +13,8 @@ use Rattle.model.specs.Directory.{directory_of}
 use Rattle.model.specs.Column.{Column, lengths_of, target}
 use Rattle.model.specs.Accesses.{no_counts, blocks_of, reads_of, scan_near}
 use Rattle.model.specs.ColumnCalls.{column_refusal, slot_of, freed, move_slices}
-use Rattle.directory.specs.declared.Shape.{Shape}
-use Rattle.directory.specs.Shapes.{not_shaped}
+use Rattle.directory.specs.declared.Told.{Told}
+use Rattle.directory.specs.Judgements.{not_shaped}
 use Rattle.directory.specs.Numbers.{HasPartition}
 use Rattle.column.specs.declared.Located.{Located}
 
@@ -56,7 +56,7 @@ module _ (L : ℕ) where
     pub even : Even c.slices
 
   -- where an insert goes, or its refusal
-  unfoldable pub opened_of : Column → Delivery → Shape
+  unfoldable pub opened_of : Column → Delivery → Told
   opened_of c d =
       let n : ℕ = column_refusal L c (insert d) in
       let t : ℕ = target L c d.grower in

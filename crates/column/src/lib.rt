@@ -24,7 +24,7 @@ ghost use Rattle.growers.specs.Searches.{direction_of};
 ghost use Rattle.column.specs.Answers.{without_totals, not_located, searched_of, located_of, opened_of, part_of};
 ghost use Rattle.column.specs.Answers.{Ready, put_of, taken_of, shifted_of};
 
-use directory::Shape;
+use directory::Told;
 use model::{Answer, Counts, Delivery, GrowerAnswer, MOST_DAY, PartitionSlice, Totals};
 
 // An answer that has no totals: an accepted insert, delete or move, and every refusal.
@@ -130,7 +130,7 @@ pub fn range_days(
 ) -> Answer
     ensures { result ≡ (column_call block_limit (column_in directory growers weights yields days) (range_days lo hi (span first last))).answer }
 {
-    let shape = directory::lent(directory, growers, weights, yields, days, lo);
+    let shape = directory::judged_slices(directory, growers, weights, yields, days, lo);
     let n = shape.refusal;
     if n != 0 {
         return refused(n);
@@ -264,7 +264,7 @@ fn search_part(
 fn locate(directory: &[u32], g: &[u32], w: &[u32], y: &[u32], n: &[u32], d: Delivery) -> Located
     ensures { result ≡ located_of block_limit (column_in directory g w y n) d }
 {
-    let shape = directory::lent(directory, g, w, y, n, d.grower);
+    let shape = directory::judged_slices(directory, g, w, y, n, d.grower);
     let refusal = shape.refusal;
     if refusal != 0 {
         return not_located(refusal);
@@ -288,10 +288,10 @@ fn locate(directory: &[u32], g: &[u32], w: &[u32], y: &[u32], n: &[u32], d: Deli
 }
 
 // Checks 2, 3, 6, 8, 19 and 12 of an insert: where it goes, or why it is refused.
-fn open(directory: &[u32], g: &[u32], w: &[u32], y: &[u32], n: &[u32], d: Delivery) -> Shape
+fn open(directory: &[u32], g: &[u32], w: &[u32], y: &[u32], n: &[u32], d: Delivery) -> Told
     ensures { result ≡ opened_of block_limit (column_in directory g w y n) d }
 {
-    let shape = directory::lent(directory, g, w, y, n, d.grower);
+    let shape = directory::judged_slices(directory, g, w, y, n, d.grower);
     let refusal = shape.refusal;
     if refusal != 0 {
         return directory::refused(refusal);
@@ -576,7 +576,7 @@ fn neighbour(
 ) -> GrowerAnswer
     ensures { result ≡ grower_call block_limit (column_in directory g w y n) (direction_of up) grower }
 {
-    let shape = directory::lent(directory, g, w, y, n, grower);
+    let shape = directory::judged_slices(directory, g, w, y, n, grower);
     let refusal = shape.refusal;
     if refusal != 0 {
         return growers::refused(refusal);
@@ -637,7 +637,7 @@ fn no_partition(refusal: u32) -> PartitionSlice
 pub fn partition(directory: &[u32], growers: &[u32], grower: u32) -> PartitionSlice
     ensures { result ≡ partition_call block_limit directory.now growers.now grower }
 {
-    let shape = directory::lent_growers(directory, growers, grower);
+    let shape = directory::judged_growers(directory, growers, grower);
     let n = shape.refusal;
     if n != 0 {
         return no_partition(n);

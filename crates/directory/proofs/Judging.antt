@@ -7,15 +7,12 @@ use native.Mathlib.Omega.{arith}
 use lib.Dec.{T, eqb}
 use lib.ListN.{length, get_or, take, drop, length-drop}
 use lib.Seq.{drop-drop, take_all}
-use Rattle.model.specs.Lists.{sum_of, every}
-use Rattle.model.specs.Place.{place}
-use Rattle.model.specs.Partitions.{start_of}
+use Rattle.model.specs.Lists.{every}
 use Rattle.model.specs.Directory.{directory_of, unused_numbers, directory_ok}
 use Rattle.model.proofs.Tests.{and_fst, and_snd, and_mk, is_true, is_false}
 use Rattle.model.proofs.ListLaws.{drop-take}
 use Rattle.model.proofs.DirectoryLaws.{Shaped, shaped, shaped_passes, every_append}
-use Rattle.directory.specs.declared.Shape.{Shape}
-use Rattle.directory.specs.Shapes.{not_shaped, shape_at, judged_of}
+use Rattle.model.specs.Checks.{ask, first_failed}
 
 every_split : {A : Type 0} (f : A → Bool) (a b : List A) → T (every f (a ++ b)) → T (every f a) × T (every f b)
 unfolding every
@@ -26,16 +23,14 @@ every_split f (x ∷ a) b t =
 
 -- L is the block limit
 module _ (L : ℕ) where
-  -- refused, since the directory cannot pass
-  pub judged_not : (c : ℕ) (ns : List ℕ) (g : ℕ) → (Shaped L c ns → ⊥) → not_shaped 6 ≡ judged_of L c ns g
-  unfolding judged_of
-  judged_not c ns g h = rw (is_false (directory_ok L c ns) (λ t. h (shaped L c ns t)))
+  -- refused, since the directory cannot pass, and accepted, since it does
+  pub judged_not : (c : ℕ) (ns : List ℕ) → (Shaped L c ns → ⊥) → 6 ≡ first_failed (ask 6 (directory_ok L c ns) ∷ [])
+  unfolding first_failed
+  judged_not c ns h = rw (is_false (directory_ok L c ns) (λ t. h (shaped L c ns t)))
 
-  pub judged_yes : (c : ℕ) (ns : List ℕ) (g used target start : ℕ) → Shaped L c ns
-      → used ≡ sum_of (directory_of L ns).lengths → target ≡ place (directory_of L ns).fences g → start ≡ start_of (directory_of L ns).lengths (place (directory_of L ns).fences g)
-      → ◌≡◌ {A = Shape} (record { refusal = 0; used = used; target = target; start = start }) (judged_of L c ns g)
-  unfolding judged_of shape_at
-  judged_yes c ns g used target start s eu et es = rw (is_true (directory_ok L c ns) (shaped_passes L c ns s), eu, et, es)
+  pub judged_yes : (c : ℕ) (ns : List ℕ) → Shaped L c ns → 0 ≡ first_failed (ask 6 (directory_ok L c ns) ∷ [])
+  unfolding first_failed
+  judged_yes c ns s = rw (is_true (directory_ok L c ns) (shaped_passes L c ns s))
 
   -- the parts of the slice that the code lends
   module _ (ns : List ℕ) (size : length ns ≡ (2 + 2 * L)) (few : get_or ns 1 0 ≤ L) where

@@ -4,3 +4,4 @@ pub mod Judging
 pub mod Numbers
 pub mod LentColumns
 pub mod Putting
+pub mod Judgements

@@ -1,3 +1,4 @@
 -- What judging a directory answers, and its numbers.
 pub mod Shapes
 pub mod Numbers
+pub mod Judgements

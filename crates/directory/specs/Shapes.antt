@@ -1,40 +1,14 @@
 -- What judging a directory and its slices answers.
-use Rattle.std.specs.Prelude.{ℕ, cond, List, eqb}
+use Rattle.std.specs.Prelude.{ℕ, ◌≡◌, List}
 use Rattle.model.specs.Lists.{sum_of}
-use Rattle.model.specs.Checks.{Check, first_failed}
 use Rattle.model.specs.Place.{place}
 use Rattle.model.specs.Partitions.{start_of}
-use Rattle.model.specs.Directory.{Directory, directory_of, directory_ok}
-use Rattle.model.specs.Column.{Column}
-use Rattle.model.specs.Questions.{lent_checks, partition_checks}
-use Rattle.directory.specs.declared.Shape.{Shape}
-
--- a refusal
-abbrev pub not_shaped : ℕ → Shape
-not_shaped n = record { refusal = n; used = 0; target = 0; start = 0 }
+use Rattle.model.specs.Directory.{directory_of}
 
 -- L is the block limit
 module _ (L : ℕ) where
-  -- the used slots of a proper directory, a grower's partition and where that starts
-  unfoldable pub shape_at : List ℕ → ℕ → Shape
-  shape_at ns g =
-      let d : Directory = directory_of L ns in
-      let t : ℕ = place d.fences g in
-      record { refusal = 0; used = sum_of d.lengths; target = t; start = start_of d.lengths t }
-
-  -- check 6 of a directory for c slots
-  unfoldable pub judged_of : ℕ → List ℕ → ℕ → Shape
-  judged_of c ns g = cond (directory_ok L c ns) (shape_at ns g) (not_shaped 6)
-
-  -- the answer to a list of checks, and the rest where it is 0
-  unfoldable pub shape_from : List Check → List ℕ → ℕ → Shape
-  shape_from cs ns g =
-      let n : ℕ = first_failed cs in
-      let s : Shape = cond (eqb n 0) (shape_at ns g) (not_shaped n) in
-      record { refusal = n; used = s.used; target = s.target; start = s.start }
-
-  abbrev pub shape_of : Column → ℕ → Shape
-  shape_of c g = shape_from (lent_checks L c) c.directory g
-
-  abbrev pub growers_shape_of : List ℕ → List ℕ → ℕ → Shape
-  growers_shape_of ns gs g = shape_from (partition_checks L ns gs) ns g
+  -- what is read off a directory: its used slots, a grower's partition and where that starts
+  pub record Carried (ns : List ℕ) (g used target start : ℕ) : Type 0 where
+    pub used_is : used ≡ sum_of (directory_of L ns).lengths
+    pub target_is : target ≡ place (directory_of L ns).fences g
+    pub start_is : start ≡ start_of (directory_of L ns).lengths (place (directory_of L ns).fences g)

@@ -1,22 +1,120 @@
 // The directory of a column (01: 130 numbers: B, K, the lengths, the fences): this crate alone knows where they stand.
 #![tactic(auto)]
 
-ghost use Rattle.std.specs.Prelude.{◌≡◌, ◌≤◌, ◌<◌, length, get_or, T};
+ghost use Rattle.std.specs.Prelude.{◌≡◌, ◌≤◌, ◌<◌, length, get_or, T, IfOk, [], ◌∷◌};
 ghost use Rattle.model.specs.Bounds.{block_limit, most_slots};
+ghost use Rattle.model.specs.Refusals.{number_of};
+ghost use Rattle.model.specs.Checks.{ask, first_failed};
+ghost use Rattle.model.specs.Questions.{lent_checks, partition_checks};
 ghost use Rattle.model.specs.Place.{place};
 ghost use Rattle.model.specs.Partitions.{start_of, one_more, one_fewer};
 ghost use Rattle.model.specs.Directory.{directory_size, partition_count, directory_of, directory_block_ok, directory_ok, with_lengths};
 ghost use Rattle.model.specs.Accesses.{onward};
-ghost use Rattle.model.specs.Lent.{column_in};
-ghost use Rattle.directory.specs.Shapes.{not_shaped, judged_of, shape_of, growers_shape_of};
+ghost use Rattle.model.specs.Lent.{slices_given, records_given, column_given, column_in};
+ghost use Rattle.directory.specs.Shapes.{Carried};
+ghost use Rattle.directory.specs.Judgements.{not_shaped, shape_of, growers_shape_of};
 ghost use Rattle.directory.specs.Numbers.{Numbered, HasPartition, blank, with_partition};
 
-use model::{BLOCK, BLOCK_LIMIT, COUNT, DIRECTORY_SIZE, FENCES, LENGTHS};
+use model::{
+    BLOCK, BLOCK_LIMIT, COUNT, DIRECTORY_SIZE, FENCES, LENGTHS, LentSlices, Records, Refusal,
+};
 
-// The refusal number of checks 2, 3 and 6 of a directory and its slices; the slots that its partitions use;
-// and of a grower its partition and where that starts.
+// What a directory that passes check 6 says: the slots that its partitions use, and of a grower his partition and where that starts.
 #[derive(Clone, Copy)]
-pub struct Shape {
+pub struct Place {
+    pub used: usize,
+    pub target: usize,
+    pub start: usize,
+}
+
+// The same of a directory and slices that pass checks 2, 3 and 6, and the records of the slices.
+#[derive(Clone, Copy)]
+pub struct Shape<'a> {
+    pub records: Records<'a>,
+    pub used: usize,
+    pub target: usize,
+    pub start: usize,
+}
+
+// Check 6 of a directory for c slots, in one pass over its numbers; what the pass finds is carried on.
+fn judged(directory: &[u32], c: usize, grower: u32) -> Result<Place, Refusal>
+    ensures refused { number_of result ≡ first_failed (ask 6 (directory_ok block_limit c directory.now) ∷ []) }
+    ensures accepted { IfOk result (λ p. Carried block_limit directory.now grower p.used p.target p.start) }
+{
+    if directory.len() != DIRECTORY_SIZE {
+        return Err(Refusal::Shape);
+    }
+    let k = directory[COUNT] as usize;
+    if k < 1 || BLOCK_LIMIT < k {
+        return Err(Refusal::Shape);
+    }
+    let a = LENGTHS + k;
+    let f = FENCES + k;
+    if !slices::zeros(&directory[a..FENCES], &directory[f..DIRECTORY_SIZE]) {
+        return Err(Refusal::Shape);
+    }
+    let s = slices::surveyed(&directory[LENGTHS..a], &directory[FENCES..f], grower);
+    if !s.rising || c < s.used {
+        return Err(Refusal::Shape);
+    }
+    Ok(Place {
+        used: s.used,
+        target: s.target,
+        start: s.start,
+    })
+}
+
+// Check 2 of a directory's B; a slice of another length holds none.
+fn directory_block_ok(directory: &[u32]) -> bool
+    ensures { result ≡ directory_block_ok block_limit directory.now }
+{
+    directory.len() != DIRECTORY_SIZE || checks::block_length_ok(directory[BLOCK])
+}
+
+// Checks 2, 3 and 6 of a directory and the slices.
+pub fn lent<'a>(
+    directory: &[u32],
+    slices: LentSlices<'a>,
+    grower: u32,
+) -> Result<Shape<'a>, Refusal>
+    ensures refused { number_of result ≡ first_failed (lent_checks block_limit (column_given directory.now slices.entry)) }
+    ensures accepted { IfOk result (λ s. (records_given s.records ≡ slices_given slices.entry)
+        × Carried block_limit directory.now grower s.used s.target s.start) }
+{
+    if !directory_block_ok(directory) {
+        return Err(Refusal::BlockLength);
+    }
+    let records = checks::records(slices)?;
+    let Place {
+        used,
+        target,
+        start,
+    } = judged(directory, records.len(), grower)?;
+    Ok(Shape {
+        records,
+        used,
+        target,
+        start,
+    })
+}
+
+// Checks 2, 3 and 6 of a directory and the growers alone.
+pub fn lent_growers(directory: &[u32], growers: &[u32], grower: u32) -> Result<Place, Refusal>
+    ensures refused { number_of result ≡ first_failed (partition_checks block_limit directory.now growers.now) }
+    ensures accepted { IfOk result (λ p. Carried block_limit directory.now grower p.used p.target p.start) }
+{
+    if !directory_block_ok(directory) {
+        return Err(Refusal::BlockLength);
+    }
+    if !checks::slots_ok(growers.len()) {
+        return Err(Refusal::Slices);
+    }
+    judged(directory, growers.len(), grower)
+}
+
+// A refusal's number, or 0 and the place: what the callers that have no Result yet are told.
+#[derive(Clone, Copy)]
+pub struct Told {
     pub refusal: u32,
     pub used: usize,
     pub target: usize,
@@ -24,10 +122,10 @@ pub struct Shape {
 }
 
 // A refusal.
-pub fn refused(n: u32) -> Shape
+pub fn refused(n: u32) -> Told
     ensures { result ≡ not_shaped n }
 {
-    Shape {
+    Told {
         refusal: n,
         used: 0,
         target: 0,
@@ -35,74 +133,47 @@ pub fn refused(n: u32) -> Shape
     }
 }
 
-// Check 6 of a directory for c slots, in one pass over its numbers; what the pass finds is carried on.
-fn judged(directory: &[u32], c: usize, grower: u32) -> Shape
-    ensures { result ≡ judged_of block_limit c directory.now grower }
-{
-    if directory.len() != DIRECTORY_SIZE {
-        return refused(6);
-    }
-    let k = directory[COUNT] as usize;
-    if k < 1 {
-        return refused(6);
-    }
-    if BLOCK_LIMIT < k {
-        return refused(6);
-    }
-    let a = LENGTHS + k;
-    let f = FENCES + k;
-    if !slices::zeros(&directory[a..FENCES], &directory[f..DIRECTORY_SIZE]) {
-        return refused(6);
-    }
-    let s = slices::surveyed(&directory[LENGTHS..a], &directory[FENCES..f], grower);
-    if !s.rising {
-        return refused(6);
-    }
-    if c < s.used {
-        return refused(6);
-    }
-    Shape {
-        refusal: 0,
-        used: s.used,
-        target: s.target,
-        start: s.start,
-    }
-}
-
-// Check 2 of a directory's B; a slice of another length holds none.
-fn directory_block_ok(directory: &[u32]) -> bool
-    ensures { result ≡ directory_block_ok block_limit directory.now }
-{
-    if directory.len() != DIRECTORY_SIZE {
-        return true;
-    }
-    checks::block_length_ok(directory[BLOCK])
-}
-
-// Checks 2, 3 and 6 of a directory and the slices.
-pub fn lent(directory: &[u32], g: &[u32], w: &[u32], y: &[u32], n: &[u32], grower: u32) -> Shape
+// `lent` with a number.
+pub fn judged_slices(
+    directory: &[u32],
+    g: &[u32],
+    w: &[u32],
+    y: &[u32],
+    n: &[u32],
+    grower: u32,
+) -> Told
     ensures { result ≡ shape_of block_limit (column_in directory g w y n) grower }
 {
-    if !directory_block_ok(directory) {
-        return refused(2);
+    let slices = LentSlices {
+        growers: g,
+        weights: w,
+        yields: y,
+        days: n,
+    };
+    match lent(directory, slices, grower) {
+        Ok(shape) => Told {
+            refusal: 0,
+            used: shape.used,
+            target: shape.target,
+            start: shape.start,
+        },
+        Err(refusal) => refused(refusal.number()),
     }
-    if !checks::slices_ok(g, w, y, n) {
-        return refused(3);
-    }
-    judged(directory, g.len(), grower)
 }
 
-// Checks 2, 3 and 6 of a directory and the growers alone.
-pub fn lent_growers(directory: &[u32], g: &[u32], grower: u32) -> Shape
+// `lent_growers` with a number.
+pub fn judged_growers(directory: &[u32], g: &[u32], grower: u32) -> Told
     ensures { result ≡ growers_shape_of block_limit directory.now g.now grower }
 {
-    if !directory_block_ok(directory) {
-        return refused(2);
+    match lent_growers(directory, g, grower) {
+        Ok(place) => Told {
+            refusal: 0,
+            used: place.used,
+            target: place.target,
+            start: place.start,
+        },
+        Err(refusal) => refused(refusal.number()),
     }
-    if !checks::slots_ok(g.len()) {
-        return refused(3);
-    }
-    judged(directory, g.len(), grower)
 }
 
 // The block length.

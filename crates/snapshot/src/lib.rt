@@ -445,7 +445,7 @@ pub fn not_checked(n: u32) -> Checked
 pub fn check_column(directory: &[u32], g: &[u32], w: &[u32], y: &[u32], n: &[u32]) -> Checked
     ensures { result ≡ checked_column block_limit (column_in directory g w y n) }
 {
-    let shape = directory::lent(directory, g, w, y, n, 0);
+    let shape = directory::judged_slices(directory, g, w, y, n, 0);
     let refusal = shape.refusal;
     if refusal != 0 {
         return not_checked(refusal);

@@ -13,7 +13,7 @@ use Rattle.model.specs.Questions.{lent_checks}
 use Rattle.slices.proofs.Sums.{even_part}
 use Rattle.directory.proofs.LentColumns.{lent_column}
 use Rattle.directory.proofs.Numbers.{block_is}
-use Rattle.directory.proofs.Shapes.{Carried, shape_refusal, carried}
+use Rattle.directory.proofs.Judgements.{Carried, shape_refusal, carried}
 use Rattle.column.proofs.Reading.{Near, near, near_partition}
 use Rattle.column.proofs.Searching.{located_lent, located_range, located_searched, near_part}
 use Rattle.column.proofs.locate.Statement.{statement}
@@ -24,15 +24,15 @@ the-column c = let a = c.args in column_of a.directory.now a.g.now a.w.now a.y.n
 
 -- past checks 2, 3 and 6
 shaped : (c : tie.Else-refusal-ne0) → let s = c.before.before.before.before.before.before.before in
-    Carried block_limit (lent_checks block_limit (the-column s)) c.args.directory.now c.args.d.grower c.lent-shape.result
-shaped c = carried block_limit _ _ _ _ c.lent-shape.ensures c.if-refusal-ne0.false
+    Carried block_limit (lent_checks block_limit (the-column s)) c.args.directory.now c.args.d.grower c.judged_slices-shape.result
+shaped c = carried block_limit _ _ _ _ c.judged_slices-shape.ensures c.if-refusal-ne0.false
 
-refusal : (c : tie.After-lent-shape) → c.lent-shape.result.refusal ≡ first_failed (lent_checks block_limit (the-column c.before.before.before.before.before.before))
-refusal c = shape_refusal block_limit _ _ _ _ c.lent-shape.ensures
+refusal : (c : tie.After-judged_slices-shape) → c.judged_slices-shape.result.refusal ≡ first_failed (lent_checks block_limit (the-column c.before.before.before.before.before.before))
+refusal c = shape_refusal block_limit _ _ _ _ c.judged_slices-shape.ensures
 
 -- the grower's partition lies in the slices
 near-at : (c : tie.After-length_of) → let s = c.before.before.before.before.before.before.before.before.before.before in
-    Near block_limit (the-column s) c.args.d.grower c.lent-shape.result.start c.length_of.result
+    Near block_limit (the-column s) c.args.d.grower c.judged_slices-shape.result.start c.length_of.result
 near-at c = let w = shaped c.before.before.before in near block_limit _ _ w.passed _ _ w.target w.start _ c.length_of.ensures
 
 returns : tie.Need-returns-then-refusal-ne0
@@ -60,7 +60,7 @@ search-part-requires c κs =
     let b = at_b.before.before.before.before.before.before.before.before in
     let a = c.args in
     let k = near-at c.before.before.before.before.before in
-    let s = c.lent-shape.result.start in (
+    let s = c.judged_slices-shape.result.start in (
       simp (length-take, length-drop) (omega (arith, k.most)),
       even_part (slices_at a.g a.w a.y a.n) (s + c.length_of.result - s) s k.even,
       rw (c.block.ensures ∙ block_is block_limit _) (lent_column block_limit (the-column b) (shaped c.before.before.before.before.before.before.before.before).passed).block,

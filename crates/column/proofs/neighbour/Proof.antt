@@ -10,22 +10,22 @@ use Rattle.model.specs.Lent.{column_of}
 use Rattle.model.specs.Questions.{lent_checks}
 use Rattle.directory.proofs.LentColumns.{LentColumn, lent_column, numbered, count_lengths}
 use Rattle.directory.proofs.Numbers.{block_is}
-use Rattle.directory.proofs.Shapes.{Carried, shape_refusal, carried}
+use Rattle.directory.proofs.Judgements.{Carried, shape_refusal, carried}
 use Rattle.growers.specs.Searches.{direction_of}
 use Rattle.column.proofs.Reading.{target_there}
 use Rattle.column.proofs.Neighbours.{grower_no, grower_yes}
 use Rattle.column.proofs.neighbour.Statement.{statement}
 use Rattle.column.proofs.neighbour.Tie as tie
 
-abbrev start : tie.After-lent-shape → tie.Start
+abbrev start : tie.After-judged_slices-shape → tie.Start
 start c = c.before.before.before.before.before.before
 
-abbrev the-column : tie.After-lent-shape → Column
+abbrev the-column : tie.After-judged_slices-shape → Column
 the-column c = let a = (start c).args in column_of a.directory.now a.g.now a.w.now a.y.now a.n.now
 
 -- past checks 2, 3 and 6
-shaped : (c : tie.Else-refusal-ne0) → let l = c.before in Carried block_limit (lent_checks block_limit (the-column l)) (start l).args.directory.now (start l).args.grower c.lent-shape.result
-shaped c = carried block_limit _ _ _ _ c.lent-shape.ensures c.if-refusal-ne0.false
+shaped : (c : tie.Else-refusal-ne0) → let l = c.before in Carried block_limit (lent_checks block_limit (the-column l)) (start l).args.directory.now (start l).args.grower c.judged_slices-shape.result
+shaped c = carried block_limit _ _ _ _ c.judged_slices-shape.ensures c.if-refusal-ne0.false
 
 lent : (c : tie.Else-refusal-ne0) → LentColumn block_limit (the-column c.before)
 lent c = lent_column block_limit _ (shaped c).passed
@@ -33,7 +33,7 @@ lent c = lent_column block_limit _ (shaped c).passed
 returns : tie.Need-returns-then-refusal-ne0
 returns c =
     let l = c.before.before in
-    c.refused.ensures ∙ grower_no block_limit (the-column l) (direction_of (start l).args.up) _ _ (shape_refusal block_limit _ _ _ _ c.lent-shape.ensures) c.if-refusal-ne0.true
+    c.refused.ensures ∙ grower_no block_limit (the-column l) (direction_of (start l).args.up) _ _ (shape_refusal block_limit _ _ _ _ c.judged_slices-shape.ensures) c.if-refusal-ne0.true
 
 search-requires : tie.Need-search-requires
 search-requires c κs =

@@ -11,24 +11,24 @@ use Rattle.model.specs.Place.{place}
 use Rattle.model.specs.Directory.{directory_of, directory_ok}
 use Rattle.model.specs.Questions.{partition_checks}
 use Rattle.directory.proofs.Numbers.{dir_start, dir_fits}
-use Rattle.directory.proofs.Shapes.{Carried, shape_refusal, carried}
+use Rattle.directory.proofs.Judgements.{Carried, shape_refusal, carried}
 use Rattle.column.proofs.Handing.{partition_refused, partition_done, partition_directory, partition_has}
 use Rattle.column.proofs.partition.Statement.{statement}
 use Rattle.column.proofs.partition.Tie as tie
 
-abbrev start : tie.After-lent_growers-shape → tie.Start
+abbrev start : tie.After-judged_growers-shape → tie.Start
 start c = c.before.before.before
 
 -- past checks 2, 3 and 6
 shaped : (c : tie.Else-n-ne0) → let l = c.before in let a = (start l).args in
-    Carried block_limit (partition_checks block_limit a.directory.now a.growers.now) a.directory.now a.grower c.lent_growers-shape.result
-shaped c = carried block_limit _ _ _ _ c.lent_growers-shape.ensures c.if-n-ne0.false
+    Carried block_limit (partition_checks block_limit a.directory.now a.growers.now) a.directory.now a.grower c.judged_growers-shape.result
+shaped c = carried block_limit _ _ _ _ c.judged_growers-shape.ensures c.if-n-ne0.false
 
 shaped-directory : (c : tie.Else-n-ne0) → T (directory_ok block_limit most_slots (start c.before).args.directory.now)
 shaped-directory c = let a = (start c.before).args in partition_directory block_limit _ a.growers.now a.grower (shaped c).passed
 
 returns : tie.Need-returns-then-n-ne0
-returns c = c.no_partition.ensures ∙ partition_refused block_limit _ _ _ _ (shape_refusal block_limit _ _ _ _ c.lent_growers-shape.ensures) c.if-n-ne0.true
+returns c = c.no_partition.ensures ∙ partition_refused block_limit _ _ _ _ (shape_refusal block_limit _ _ _ _ c.judged_growers-shape.ensures) c.if-n-ne0.true
 
 length-of-requires : tie.Need-length_of-count-requires
 length-of-requires c κs = let w = shaped c in rw w.target (partition_has block_limit _ _ _ w.passed)
@@ -39,7 +39,7 @@ cast-t9 c =
     omega (arith, (shaped c.before).start, dir_start block_limit _ (shaped-directory c.before) (place (directory_of block_limit a.directory.now).fences a.grower))
 
 cast-t10 : tie.Need-overflow_cast-result-2
-cast-t10 c = omega (arith, c.length_of-count.ensures, dir_fits block_limit _ (shaped-directory c.before) c.lent_growers-shape.result.target)
+cast-t10 c = omega (arith, c.length_of-count.ensures, dir_fits block_limit _ (shaped-directory c.before) c.judged_growers-shape.result.target)
 
 returns-2 : tie.Need-returns
 returns-2 c =

@@ -13,7 +13,7 @@ use Rattle.model.specs.Deliveries.{in_range}
 use Rattle.model.specs.Column.{Column, sound_growers, all_records, sound}
 use Rattle.model.specs.Lent.{column_of}
 use Rattle.model.specs.Questions.{lent_checks}
-use Rattle.directory.proofs.Shapes.{Carried, shape_refusal, carried}
+use Rattle.directory.proofs.Judgements.{Carried, shape_refusal, carried}
 use Rattle.directory.proofs.LentColumns.{LentColumn, lent_column, numbered}
 use Rattle.snapshot.proofs.WriteAnswers.{check_lent, parts_lent, values_there, check_sound, check_values, check_good}
 use Rattle.snapshot.proofs.check_column.Statement.{statement}
@@ -27,14 +27,14 @@ lent s = let a = s.args in column_of a.directory.now a.g.now a.w.now a.y.now a.n
 abbrev col : tie.Else-refusal-ne0 → Column
 col c = lent c.before.before.before.before.before.before.before
 
-carry : (c : tie.Else-refusal-ne0) → Carried block_limit (lent_checks block_limit (col c)) (col c).directory 0 c.lent-shape.result
-carry c = carried block_limit (lent_checks block_limit (col c)) (col c).directory 0 _ c.lent-shape.ensures c.if-refusal-ne0.false
+carry : (c : tie.Else-refusal-ne0) → Carried block_limit (lent_checks block_limit (col c)) (col c).directory 0 c.judged_slices-shape.result
+carry c = carried block_limit (lent_checks block_limit (col c)) (col c).directory 0 _ c.judged_slices-shape.ensures c.if-refusal-ne0.false
 
 held : (c : tie.Else-refusal-ne0) → LentColumn block_limit (col c)
 held c = lent_column block_limit (col c) (carry c).passed
 
 -- the used slots are there, and few
-used : (c : tie.Else-refusal-ne0) → (c.lent-shape.result.used ≤ length (col c).slices.growers) × (c.lent-shape.result.used ≤ most_slots)
+used : (c : tie.Else-refusal-ne0) → (c.judged_slices-shape.result.used ≤ length (col c).slices.growers) × (c.judged_slices-shape.result.used ≤ most_slots)
 used c = let l = held c in let u = (carry c).used in (omega (arith, u, l.shape.room), omega (arith, u, l.shape.room, l.most))
 
 -- soundness tested, and passed
@@ -58,7 +58,7 @@ in_range_lem c = let e = shaped (good c).before in values_there block_limit (col
 returns : tie.Need-returns-then-refusal-ne0
 returns c =
     let s = c.before.before.before.before.before.before.before.before in
-    check_lent block_limit (lent s) _ _ (shape_refusal block_limit (lent_checks block_limit (lent s)) _ 0 _ c.lent-shape.ensures) c.if-refusal-ne0.true c.not_checked.ensures
+    check_lent block_limit (lent s) _ _ (shape_refusal block_limit (lent_checks block_limit (lent s)) _ 0 _ c.judged_slices-shape.ensures) c.if-refusal-ne0.true c.not_checked.ensures
 
 lengths-requires : tie.Need-lengths-requires
 lengths-requires c κs = numbered block_limit (col c) (held c)
