@@ -457,7 +457,7 @@ pub extern "C" fn meltusk_tally_add(
     ensures { record { refusal = result; tally = tally rr.new sr.new «rw».new }
         ≡ add_call (tally rr.old sr.old «rw».old) (counts more_rr more_sr more_rw) }
 {
-    let old = Tally {
+    let mut sum = Tally {
         rr: *rr,
         sr: *sr,
         rw: *rw,
@@ -467,11 +467,11 @@ pub extern "C" fn meltusk_tally_add(
         sr: more_sr,
         rw: more_rw,
     };
-    let a = tally::plus(old, more);
-    *rr = a.tally.rr;
-    *sr = a.tally.sr;
-    *rw = a.tally.rw;
-    a.refusal
+    let outcome = tally::add(&mut sum, more);
+    *rr = sum.rr;
+    *sr = sum.sr;
+    *rw = sum.rw;
+    model::number_of(outcome)
 }
 
 // Writes a column as a snapshot's text.

@@ -1,2 +1,2 @@
 -- What adding to a tally answers.
-pub mod Adding
+pub mod Added
