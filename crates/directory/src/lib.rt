@@ -53,8 +53,10 @@ fn judged(directory: &[u32], c: usize, grower: u32) -> Result<Place, Refusal>
     if !slices::zeros(&directory[a..FENCES], &directory[f..DIRECTORY_SIZE]) {
         return Err(Refusal::Shape);
     }
-    let s = slices::surveyed(&directory[LENGTHS..a], &directory[FENCES..f], grower);
-    if !s.rising || c < s.used {
+    let Some(s) = slices::surveyed(&directory[LENGTHS..a], &directory[FENCES..f], grower) else {
+        return Err(Refusal::Shape);
+    };
+    if c < s.used {
         return Err(Refusal::Shape);
     }
     Ok(Place {

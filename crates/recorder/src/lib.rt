@@ -2,7 +2,7 @@
 #![tactic(auto)]
 
 ghost use Rattle.std.specs.Prelude.{◌≡◌, true, ◌≤◌, length};
-ghost use Rattle.model.specs.Bounds.{block_limit};
+ghost use Rattle.model.specs.Bounds.{block_limit, most_slots};
 ghost use Rattle.model.specs.Calendar.{span};
 ghost use Rattle.model.specs.Deliveries.{Even, first_slots, in_range, day_ok, among};
 ghost use Rattle.model.specs.Calls.{find, range, range_days, insert, delete, move};
@@ -11,15 +11,21 @@ ghost use Rattle.model.specs.Lent.{set_in, slices_at, slices_in};
 ghost use Rattle.model.specs.Recorder.{record_call};
 ghost use Rattle.sets.specs.Sized.{counted_checks};
 
-use model::{DE, Delivery, IN, MOST_DAY, PQ, UDB, UDF, UTB, UTF};
+use model::{DE, Delivery, IN, MOST_DAY, PQ, Records, UDB, UDF, UTB, UTF};
 
 // Whether the set has the delivery.
 fn has_delivery(used: u32, g: &[u32], w: &[u32], y: &[u32], n: &[u32], d: Delivery) -> bool
-    requires { (used ≤ length g.now) × Even (slices_at g w y n) }
+    requires { (used ≤ length g.now) × (length g.now ≤ most_slots) × Even (slices_at g w y n) }
     ensures { result ≡ among d (first_slots used (slices_in g w y n)) }
 {
     let m = used as usize;
-    slices::first_match(&g[..m], &w[..m], &y[..m], &n[..m], d) < m
+    let r = Records {
+        growers: &g[..m],
+        weights: &w[..m],
+        yields: &y[..m],
+        days: &n[..m],
+    };
+    slices::first_match(r, d) < m
 }
 
 // The checks ahead of 10 of a call that offers a delivery.

@@ -12,7 +12,7 @@ ghost use Rattle.model.specs.Accesses.{blocks_of, reads_of};
 ghost use Rattle.scan.specs.Scans.{all_fit, every_day, bad_sum, sum_more, sum_all, bad_scan, scan_more};
 ghost use Rattle.scan.specs.Scans.{records_in, scan_of, Light, bad_sought, seek_more, seek_all};
 
-use model::{Counts, Delivery, MOST_DAY, STRIDE, Totals};
+use model::{Counts, DaySpan, Delivery, MOST_DAY, Records, STRIDE, Totals};
 
 // Records that a search judges and passes over at a time: with four slices it is bound by what a stride takes beside its loops.
 const LONG_STRIDE: usize = 2 * STRIDE;
@@ -100,7 +100,16 @@ fn sum_more(s: Sum, g: &[u32], w: &[u32], y: &[u32], n: &[u32], lo: u32, hi: u32
     if !all_fit(g, w, y, n) {
         return bad_sum();
     }
-    let more = slices::total_stride(g, w, y, n, lo, hi);
+    let more = slices::total_stride(
+        Records {
+            growers: g,
+            weights: w,
+            yields: y,
+            days: n,
+        },
+        lo,
+        hi,
+    );
     let totals = s.totals.plus(more);
     Sum { good: true, totals }
 }
@@ -146,7 +155,17 @@ fn sum_more_during(
     if !all_fit(g, w, y, n) {
         return bad_sum();
     }
-    let more = slices::total_stride_days(g, w, y, n, lo, hi, first, last);
+    let more = slices::total_stride_days(
+        Records {
+            growers: g,
+            weights: w,
+            yields: y,
+            days: n,
+        },
+        lo,
+        hi,
+        DaySpan { first, last },
+    );
     let totals = s.totals.plus(more);
     Sum { good: true, totals }
 }
@@ -380,7 +399,16 @@ fn seek_more(s: Sought, g: &[u32], w: &[u32], y: &[u32], n: &[u32], i: usize, d:
             slot: found,
         };
     }
-    let slot = i + slices::first_in_stride(g, w, y, n, d);
+    let slot = i
+        + slices::first_in_stride(
+            Records {
+                growers: g,
+                weights: w,
+                yields: y,
+                days: n,
+            },
+            d,
+        );
     Sought { good: true, slot }
 }
 

@@ -1,6 +1,6 @@
 -- Loops that keep a flag: every number of a slice, or every two neighbours, pass a test. Assumes nothing.
-use Prim.Native.Nat.{ℕ, zero, suc, ◌+◌, ◌≤◌, ◌<◌}
-use mathlib.Core.Path.{◌≡◌, refl, sym, ap, ◌∙◌, subst}
+use Prim.Native.Nat.{ℕ, zero, suc, ◌+◌, ◌-◌, ◌≤◌, ◌<◌}
+use mathlib.Core.Path.{◌≡◌, refl, sym, ap, ◌∙◌}
 use mathlib.Core.Bool.{Bool, true, false, ◌&&◌, and-true, and-false}
 use mathlib.Core.List.{List, [], ◌∷◌}
 use native.Mathlib.Omega.{arith}
@@ -9,8 +9,13 @@ use lib.Dec.{leb, ltb, eqb}
 use lib.Bits.{bit_or, or_add_and, and_le_l, and_le_r}
 use lib.ListN.{length, get_or, drop, drop_of_length-le}
 use Rattle.model.specs.Lists.{every, rising, never_falls}
+use Rattle.slices.specs.Slices.{chain}
 use Rattle.model.proofs.Tests.{pairs_swap}
 use Rattle.model.proofs.ListLaws.{drop_next}
+
+pub and_both : (a b c : Bool) → (a && b) && c ≡ a && (b && c)
+and_both true b c = refl
+and_both false b c = refl
 
 -- what the flag knows at i: so far, and the rest, is the whole
 pub record Flagged (f : ℕ → Bool) (s : List ℕ) (good : Bool) (i : ℕ) : Type 0 where
@@ -31,17 +36,17 @@ module _ (f : ℕ → Bool) (s : List ℕ) (good : Bool) (i : ℕ) (h : i < leng
   pub flag_bad : f (get_or s i 0) ≡ false → Flagged f s false (i + 1)
   flag_bad e = record { at = omega arith; so_far = sym (and-false good) ∙ ap (λ (b : Bool). good && b) (sym (next false e)) ∙ w.so_far }
 
+  -- a turn of a loop that keeps the flag with the test of its number
+  pub flag_next : Flagged f s (good && f (get_or s i 0)) (i + 1)
+  flag_next =
+      let b = f (get_or s i 0) in
+      record { at = omega arith; so_far = and_both good b (every f (drop (i + 1) s)) ∙ ap (λ (b : Bool). good && b) (sym (next b refl)) ∙ w.so_far }
+
 pub flag_end : (f : ℕ → Bool) (s : List ℕ) (good : Bool) (i : ℕ) → length s ≤ i → Flagged f s good i → good ≡ every f s
 unfolding every
 flag_end f s good i h w = sym (and-true good) ∙ ap (λ (l : List ℕ). good && every f l) (sym (drop_of_length-le s h)) ∙ w.so_far
 
 -- Neighbours.
-
--- each two neighbours pass
-unfoldable pub chain : (ℕ → ℕ → Bool) → List ℕ → Bool
-chain r [] = true
-chain r (a ∷ []) = true
-chain r (a ∷ b ∷ l) = r a b && chain r (b ∷ l)
 
 pub chain_rising : (l : List ℕ) → chain ltb l ≡ rising l
 unfolding chain rising
@@ -73,16 +78,18 @@ module _ (r : ℕ → ℕ → Bool) (s : List ℕ) (good : Bool) (i : ℕ) (h : 
       ∙ two_of r (get_or s i 0) (get_or s (i + 1) 0) (drop (i + 1) s) (drop (i + 1 + 1) s) (drop_next s (i + 1) h)
       ∙ ap (λ (t : Bool). t && chain r (drop (i + 1) s)) e
 
-  pub chain_good : r (get_or s i 0) (get_or s (i + 1) 0) ≡ true → Chained r s good (i + 1)
-  chain_good e = record { at = omega arith; so_far = ap (λ (b : Bool). good && b) (sym (two true e)) ∙ w.so_far }
+  pub chain_next : Chained r s (good && r (get_or s i 0) (get_or s (i + 1) 0)) (i + 1)
+  chain_next =
+      let b = r (get_or s i 0) (get_or s (i + 1) 0) in
+      record { at = omega arith; so_far = and_both good b (chain r (drop (i + 1) s)) ∙ ap (λ (b : Bool). good && b) (sym (two b refl)) ∙ w.so_far }
 
-  pub chain_bad : r (get_or s i 0) (get_or s (i + 1) 0) ≡ false → Chained r s false (i + 1)
-  chain_bad e = record { at = omega arith; so_far = sym (and-false good) ∙ ap (λ (b : Bool). good && b) (sym (two false e)) ∙ w.so_far }
-
-  -- a flag that the test may have put out
-  pub chain_by : (b t : Bool) → r (get_or s i 0) (get_or s (i + 1) 0) ≡ b → t ≡ b && good → Chained r s t (i + 1)
-  chain_by true t e k = subst (λ (x : Bool). Chained r s x (i + 1)) (sym k) (chain_good e)
-  chain_by false t e k = subst (λ (x : Bool). Chained r s x (i + 1)) (sym k) (chain_bad e)
+-- a turn of a loop at i from 1 on, which tests a number and the one before it
+pub chain_turn : (r : ℕ → ℕ → Bool) (s : List ℕ) (good : Bool) (i : ℕ) → 1 ≤ i → i < length s → Chained r s good (i - 1)
+    → (t : Bool) → t ≡ r (get_or s (i - 1) 0) (get_or s i 0) → Chained r s (good && t) (i + 1 - 1)
+chain_turn r s good i o h w t e =
+    let a : i - 1 + 1 ≡ i = omega arith in
+    let b : i + 1 - 1 ≡ i = omega arith in
+    rw (b, e) (rw a at (chain_next r s good (i - 1) (omega arith) w))
 
 short : (r : ℕ → ℕ → Bool) (s : List ℕ) (i : ℕ) → length s ≤ i + 1 → chain r (drop i s) ≡ true
 unfolding chain
@@ -94,13 +101,6 @@ short r (x ∷ s) (suc i) h = short r s i (omega arith)
 
 pub chain_end : (r : ℕ → ℕ → Bool) (s : List ℕ) (good : Bool) (i : ℕ) → length s ≤ i + 1 → Chained r s good i → good ≡ chain r s
 chain_end r s good i h w = sym (and-true good) ∙ ap (λ (b : Bool). good && b) (sym (short r s i h)) ∙ w.so_far
-
--- the test for 0
-zero_test : (n : ℕ) → n ≤ 0 → eqb 0 n ≡ true
-zero_test n h = eq-eqb 0 n (omega arith)
-
-positive_test : (n : ℕ) → 0 < n → eqb 0 n ≡ false
-positive_test n h = ne_eqb 0 n (λ e. omega arith)
 
 -- two slices at once
 pub record BothZero (s u : List ℕ) (good : Bool) (i : ℕ) : Type 0 where
@@ -115,24 +115,21 @@ module _ (s u : List ℕ) (good : Bool) (i : ℕ) (h : i < length s) (k : length
   unfolding every
   next_two = rw (drop_next s i h, drop_next u i (omega arith)) (pairs_swap (eqb 0 (get_or s i 0)) (every (eqb 0) (drop (i + 1) s)) (eqb 0 (get_or u i 0)) (every (eqb 0) (drop (i + 1) u)))
 
-  pub both_good : bit_or (get_or s i 0) (get_or u i 0) ≤ 0 → BothZero s u good (i + 1)
-  both_good z =
-      let a = or_add_and (get_or s i 0) (get_or u i 0) in
-      let l = and_le_l (get_or s i 0) (get_or u i 0) in
-      let r = and_le_r (get_or s i 0) (get_or u i 0) in
-      let e : every (eqb 0) (drop i s) && every (eqb 0) (drop i u) ≡ every (eqb 0) (drop (i + 1) s) && every (eqb 0) (drop (i + 1) u)
-      = next_two ∙ rw (zero_test (get_or s i 0) (omega arith), zero_test (get_or u i 0) (omega arith)) in
-      record { at = omega arith; so_far = ap (λ (b : Bool). good && b) (sym e) ∙ w.so_far }
+  -- both are 0 where the bits of both are
+  or_zero : (a b : ℕ) → eqb (bit_or a b) 0 ≡ eqb 0 a && eqb 0 b
+  or_zero zero zero = rw (eq-eqb (bit_or 0 0) 0 (omega (arith, or_add_and 0 0)), eq-eqb 0 0 refl)
+  or_zero zero (suc b) = rw (ne_eqb (bit_or 0 (suc b)) 0 (λ e. omega (arith, or_add_and 0 (suc b), and_le_l 0 (suc b))), ne_eqb 0 (suc b) (λ e. omega arith)) (sym (and-false (eqb 0 0)))
+  or_zero (suc a) b = rw (ne_eqb (bit_or (suc a) b) 0 (λ e. omega (arith, or_add_and (suc a) b, and_le_r (suc a) b)), ne_eqb 0 (suc a) (λ e. omega arith))
 
-  one_not : (a b : ℕ) → 0 < bit_or a b → eqb 0 a && eqb 0 b ≡ false
-  one_not zero zero z = absurd (omega (arith, or_add_and 0 0))
-  one_not zero (suc b) z = rw (positive_test (suc b) (omega arith))
-  one_not (suc a) b z = rw (positive_test (suc a) (omega arith))
-
-  pub both_bad : 0 < bit_or (get_or s i 0) (get_or u i 0) → BothZero s u false (i + 1)
-  both_bad z =
-      let e : every (eqb 0) (drop i s) && every (eqb 0) (drop i u) ≡ false = next_two ∙ rw (one_not (get_or s i 0) (get_or u i 0) z) in
-      record { at = omega arith; so_far = sym (and-false good) ∙ ap (λ (b : Bool). good && b) (sym e) ∙ w.so_far }
+  pub both_next : BothZero s u (good && eqb (bit_or (get_or s i 0) (get_or u i 0)) 0) (i + 1)
+  both_next =
+      let a = get_or s i 0 in
+      let b = get_or u i 0 in
+      let rest = every (eqb 0) (drop (i + 1) s) && every (eqb 0) (drop (i + 1) u) in
+      record {
+        at = omega arith;
+        so_far = ap (λ (t : Bool). (good && t) && rest) (or_zero a b) ∙ and_both good (eqb 0 a && eqb 0 b) rest ∙ ap (λ (t : Bool). good && t) (sym next_two) ∙ w.so_far;
+      }
 
 pub both_end : (s u : List ℕ) (good : Bool) (i : ℕ) → length s ≤ i → length u ≡ length s → BothZero s u good i → good ≡ every (eqb 0) s && every (eqb 0) u
 unfolding every

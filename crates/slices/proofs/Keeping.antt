@@ -42,23 +42,24 @@ pub record Kept (first last : ℕ) (ws ns old s : List ℕ) (k i : ℕ) : Type 0
 pub kept_start : (first last : ℕ) (ws ns s : List ℕ) → Kept first last ws ns s s 0 0
 kept_start first last ws ns s = record { size = refl; done = refl; days = counting_start (inside first last) ns }
 
-module _ (first last : ℕ) (ws ns old s : List ℕ) (k i : ℕ) (r : Kept first last ws ns old s k i) (h : i < length ns) (e : length ns ≡ length ws) (o : length old ≡ length ws)
-    (a : ℕ) (v : a ≡ cond (is_in (span first last) (get_or ns i 0)) (get_or ws i 0) 0) where
+module _ (first last : ℕ) (ws ns old s : List ℕ) (k i : ℕ) (r : Kept first last ws ns old s k i) (h : i < length ns) (e : length ns ≡ length ws) (o : length old ≡ length ws) where
   abbrev whole : List ℕ
   whole = kept_weights (span first last) ws ns
 
-  stored : take (i + 1) (set s i a) ≡ take (i + 1) whole
-  stored =
+  stored : (a : ℕ) → a ≡ cond (is_in (span first last) (get_or ns i 0)) (get_or ws i 0) 0 → take (i + 1) (set s i a) ≡ take (i + 1) whole
+  stored a v =
       let x : get_or whole i 0 ≡ a = kept_at (span first last) ws ns i e (omega arith) ∙ sym v in
       ap (λ (n : ℕ). take n (set s i a)) (add-one i) ∙ take-suc-set s i a (omega (arith, r.size)) ∙ ap (λ (l : List ℕ). l ++ a ∷ []) r.done
       ∙ ap (λ (y : ℕ). take i whole ++ y ∷ []) (sym x) ∙ sym (take-suc whole i 0 (omega (arith, kept_length (span first last) ws ns e)))
       ∙ ap (λ (n : ℕ). take n whole) (sym (add-one i))
 
-  pub kept_yes : inside first last (get_or ns i 0) ≡ true → Kept first last ws ns old (set s i a) (k + 1) (i + 1)
-  kept_yes t = record { size = length-set s i a ∙ r.size; done = stored; days = counting_yes (inside first last) ns k i h r.days t }
+  pub kept_yes : inside first last (get_or ns i 0) ≡ true → Kept first last ws ns old (set s i (get_or ws i 0)) (k + 1) (i + 1)
+  kept_yes t =
+      let a = get_or ws i 0 in
+      record { size = length-set s i a ∙ r.size; done = stored a (rw t); days = counting_yes (inside first last) ns k i h r.days t }
 
-  pub kept_no : inside first last (get_or ns i 0) ≡ false → Kept first last ws ns old (set s i a) k (i + 1)
-  kept_no t = record { size = length-set s i a ∙ r.size; done = stored; days = counting_no (inside first last) ns k i h r.days t }
+  pub kept_no : inside first last (get_or ns i 0) ≡ false → Kept first last ws ns old (set s i 0) k (i + 1)
+  kept_no t = record { size = length-set s i 0 ∙ r.size; done = stored 0 (rw t); days = counting_no (inside first last) ns k i h r.days t }
 
 pub kept_end : (first last : ℕ) (ws ns old s : List ℕ) (k i : ℕ) → Kept first last ws ns old s k i → length ns ≤ i → length ns ≡ length ws → length old ≡ length ws
     → (s ≡ kept_weights (span first last) ws ns) × (k ≡ count_between first last ns)

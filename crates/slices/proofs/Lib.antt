@@ -5,5 +5,4 @@ pub mod Scans
 pub mod Sums
 pub mod Strides
 pub mod Matching
-pub mod Clearing
 pub mod Keeping

@@ -1,11 +1,11 @@
 -- Scans of the rows of the slices: totals of those in a range, and the first that is a given delivery. Assumes nothing.
 use Prim.Native.Nat.{ℕ, zero, suc, ◌+◌, ◌*◌, ◌≤◌, ◌<◌}
-use mathlib.Core.Path.{◌≡◌, refl, sym, ap}
+use mathlib.Core.Path.{◌≡◌, refl, sym, ap, ◌∙◌}
 use mathlib.Core.Bool.{Bool, true, false, cond, ◌&&◌}
 use mathlib.Core.List.{List, [], ◌∷◌, map}
 use native.Mathlib.Omega.{arith}
 use native.Mathlib.Nat.{mul-le-mul}
-use borrow.Author.Tests.{le-leb, lt-leb, leb-true, eq-eqb, ne_eqb}
+use borrow.Author.Tests.{le-leb, leb-true}
 use lib.Dec.{T, leb, eqb}
 use native.Mathlib.Numerals.{add-one}
 use lib.ListN.{length, get_or, drop, drop_of_length-le}
@@ -13,10 +13,11 @@ use lib.Seq.{drop-cons}
 use Rattle.model.specs.declared.Delivery.{Delivery}
 use Rattle.model.specs.declared.Totals.{Totals}
 use Rattle.model.specs.Lists.{sum_of, every, keep}
-use Rattle.model.specs.Deliveries.{Slices, each_slice, rows, Even, zipped, totals_of, first_match}
+use Rattle.model.specs.Deliveries.{Slices, each_slice, rows, Even, zipped, totals_of, same, first_match}
 use Rattle.model.proofs.Tests.{and_fst, and_snd, is_true}
 use Rattle.model.proofs.Deliveries.{row_at, rows_from}
-use Rattle.slices.specs.Slices.{all_within, same_at, Measured}
+use Rattle.slices.specs.Slices.{all_within, Measured}
+use Rattle.slices.proofs.Flags.{and_both}
 
 -- a number of a slice whose numbers are all within m; past its end it is 0
 within_at : (m : ℕ) (s : List ℕ) → T (all_within m s) → (i : ℕ) → get_or s i 0 ≤ m
@@ -41,6 +42,9 @@ pub record Running (f : Delivery → Bool) (s : Slices) (records weight oil i : 
   pub counted : records + length (rest f s i) ≡ length (rest f s 0)
   pub weighed : weight + weight_of (rest f s i) ≡ weight_of (rest f s 0)
   pub pressed : oil + oil_of (rest f s i) ≡ oil_of (rest f s 0)
+
+-- bounds of what i records add up to
+pub record Bounded (records weight oil i : ℕ) : Type 0 where
   pub few : records ≤ i
   pub light : weight ≤ 100000 * i
   pub little : oil ≤ 1000000000 * i
@@ -68,15 +72,11 @@ module _ (f : Delivery → Bool) (s : Slices) (m : Measured s) (records weight o
   unfolding sum_of
   running_take k =
       let e : rest f s i ≡ row_at s i ∷ rest f s (i + 1) = step true k in
-      let o = modest s i m in
       record {
         at = omega arith;
         counted = omega (arith, ap length e, t.counted);
         weighed = omega (arith, ap weight_of e, t.weighed);
         pressed = omega (arith, ap oil_of e, t.pressed);
-        few = omega (arith, t.few);
-        light = omega (arith, t.light, o.weight);
-        little = omega (arith, t.little, o.oil);
       }
 
   pub running_pass : f (row_at s i) ≡ false → Running f s records weight oil (i + 1)
@@ -87,10 +87,17 @@ module _ (f : Delivery → Bool) (s : Slices) (m : Measured s) (records weight o
         counted = omega (arith, ap length e, t.counted);
         weighed = omega (arith, ap weight_of e, t.weighed);
         pressed = omega (arith, ap oil_of e, t.pressed);
-        few = omega (arith, t.few);
-        light = omega (arith, t.light);
-        little = omega (arith, t.little);
       }
+
+-- the bounds after a record that counts, and after one that doesn't
+module _ (s : Slices) (m : Measured s) (records weight oil i : ℕ) (b : Bounded records weight oil i) where
+  pub bounded_take : Bounded (records + 1) (weight + get_or s.weights i 0) (oil + get_or s.weights i 0 * get_or s.yields i 0) (i + 1)
+  bounded_take =
+      let o = modest s i m in
+      record { few = omega (arith, b.few); light = omega (arith, b.light, o.weight); little = omega (arith, b.little, o.oil) }
+
+  pub bounded_pass : Bounded records weight oil (i + 1)
+  bounded_pass = record { few = omega (arith, b.few); light = omega (arith, b.light); little = omega (arith, b.little) }
 
 rest_end : (f : Delivery → Bool) (s : Slices) (i : ℕ) → length s.growers ≤ i → rest f s i ≡ []
 unfolding rest zipped keep
@@ -119,12 +126,6 @@ inside lo hi x = leb lo x && leb x hi
 pub is_inside : (lo hi x : ℕ) → lo ≤ x → x ≤ hi → inside lo hi x ≡ true
 is_inside lo hi x l m = rw (le-leb lo x l, le-leb x hi m)
 
-pub is_below : (lo hi x : ℕ) → x < lo → inside lo hi x ≡ false
-is_below lo hi x l = rw (lt-leb lo x l)
-
-pub is_above : (lo hi x : ℕ) → lo ≤ x → hi < x → inside lo hi x ≡ false
-is_above lo hi x l m = rw (le-leb lo x l, lt-leb x hi m)
-
 pub is_equal : (q x : ℕ) → x ≡ q → inside q q x ≡ true
 is_equal q x e = is_inside q q x (omega arith) (omega arith)
 
@@ -135,23 +136,6 @@ is_other q x h = go (leb q x) (leb x q) refl refl
     go true true l m = absurd (h (omega (arith, leb-true q x l, leb-true x q m)))
     go true false l m = refl
     go false b l m = refl
-
--- a grower in a range, on a day in a span
-abbrev pub during : ℕ → ℕ → ℕ → ℕ → Delivery → Bool
-during lo hi first last d = inside first last d.day && inside lo hi d.grower
-
-pub is_during : (lo hi first last : ℕ) (d : Delivery) → inside first last d.day ≡ true → inside lo hi d.grower ≡ true → during lo hi first last d ≡ true
-is_during lo hi first last d e f = rw (e, f)
-
-pub other_day : (lo hi first last : ℕ) (d : Delivery) → inside first last d.day ≡ false → during lo hi first last d ≡ false
-other_day lo hi first last d e = rw e
-
-pub not_wanted : (lo hi first last : ℕ) (d : Delivery) → inside lo hi d.grower ≡ false → during lo hi first last d ≡ false
-not_wanted lo hi first last d f = go (inside first last d.day)
-  where
-    go : (b : Bool) → b && inside lo hi d.grower ≡ false
-    go true = f
-    go false = refl
 
 -- Growers counted.
 
@@ -188,19 +172,10 @@ keep_any (d ∷ l) = ap (λ (t : List Delivery). d ∷ t) (keep_any l)
 
 -- The first that is the delivery.
 
-module _ (d : Delivery) (s : Slices) (i : ℕ) where
-  pub other_grower : (d.grower ≡ get_or s.growers i 0 → ⊥) → false ≡ same_at d s i
-  other_grower h = rw (ne_eqb d.grower (get_or s.growers i 0) h)
-
-  pub other_weight : d.grower ≡ get_or s.growers i 0 → (d.weight ≡ get_or s.weights i 0 → ⊥) → false ≡ same_at d s i
-  other_weight p h = rw (eq-eqb d.grower (get_or s.growers i 0) p, ne_eqb d.weight (get_or s.weights i 0) h)
-
-  pub other_yield : d.grower ≡ get_or s.growers i 0 → d.weight ≡ get_or s.weights i 0 → (d.oil_yield ≡ get_or s.yields i 0 → ⊥) → false ≡ same_at d s i
-  other_yield p q h = rw (eq-eqb d.grower (get_or s.growers i 0) p, eq-eqb d.weight (get_or s.weights i 0) q, ne_eqb d.oil_yield (get_or s.yields i 0) h)
-
-  pub day_decides : d.grower ≡ get_or s.growers i 0 → d.weight ≡ get_or s.weights i 0 → d.oil_yield ≡ get_or s.yields i 0
-      → eqb d.day (get_or s.days i 0) ≡ same_at d s i
-  day_decides p q r = rw (eq-eqb d.grower (get_or s.growers i 0) p, eq-eqb d.weight (get_or s.weights i 0) q, eq-eqb d.oil_yield (get_or s.yields i 0) r)
+-- the test as it is derived
+pub same_is : (a b : Delivery) → same a b ≡ eqb a.grower b.grower && (eqb a.weight b.weight && (eqb a.oil_yield b.oil_yield && eqb a.day b.day))
+same_is a b = and_both (eqb a.grower b.grower && eqb a.weight b.weight) (eqb a.oil_yield b.oil_yield) (eqb a.day b.day)
+    ∙ and_both (eqb a.grower b.grower) (eqb a.weight b.weight) (eqb a.oil_yield b.oil_yield && eqb a.day b.day)
 
 -- none before i is
 pub record Searched (d : Delivery) (s : Slices) (i : ℕ) : Type 0 where
@@ -211,14 +186,14 @@ pub search_start : (d : Delivery) (s : Slices) → Searched d s 0
 search_start d s = record { at = omega arith; none_yet = omega arith }
 
 module _ (d : Delivery) (s : Slices) (i : ℕ) (h : i < length s.growers) (p : Even s) (t : Searched d s i) where
-  at_i : (b : Bool) → same_at d s i ≡ b → first_match d (rows (each_slice (drop i) s)) ≡ cond b 0 (first_match d (rows (each_slice (drop (i + 1)) s)) + 1)
+  at_i : (b : Bool) → same d (row_at s i) ≡ b → first_match d (rows (each_slice (drop i) s)) ≡ cond b 0 (first_match d (rows (each_slice (drop (i + 1)) s)) + 1)
   unfolding first_match
   at_i b e = rw (rows_from s i h p, e)
 
-  pub search_found : same_at d s i ≡ true → i ≡ first_match d (rows s)
+  pub search_found : same d (row_at s i) ≡ true → i ≡ first_match d (rows s)
   search_found e = omega (arith, t.none_yet, at_i true e)
 
-  pub search_next : same_at d s i ≡ false → Searched d s (i + 1)
+  pub search_next : same d (row_at s i) ≡ false → Searched d s (i + 1)
   search_next e = record { at = omega arith; none_yet = omega (arith, t.none_yet, at_i false e) }
 
 pub search_end : (d : Delivery) (s : Slices) (i : ℕ) → length s.growers ≤ i → Searched d s i → i ≡ first_match d (rows s)

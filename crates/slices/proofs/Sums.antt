@@ -139,7 +139,7 @@ module _ (lo hi first last : ℕ) (s : Slices) (m : Measured s) where
   dated = ap (λ (t : Slices). count_between first last t.days) (sym (slices_for_lem s m.even)) ∙ keep_by day_of (is_in (span first last)) (rows s)
 
   -- growers and days are tested in either order
-  kept_either : keep (on_days (span first last)) (keep (matches lo hi) (rows s)) ≡ keep (matches lo hi) (keep (on_days (span first last)) (rows s))
+  pub kept_either : keep (on_days (span first last)) (keep (matches lo hi) (rows s)) ≡ keep (matches lo hi) (keep (on_days (span first last)) (rows s))
   kept_either =
       keep_both (on_days (span first last)) (matches lo hi) (rows s) ∙ (λ i. keep (λ (d : Delivery). and_comm (matches lo hi d) (on_days (span first last) d) i) (rows s))
       ∙ sym (keep_both (matches lo hi) (on_days (span first last)) (rows s))

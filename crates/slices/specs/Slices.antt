@@ -1,10 +1,10 @@
 -- Tests of all numbers of a slice and of one record.
-use Rattle.std.specs.Prelude.{ℕ, ◌≤◌, Bool, cond, ◌&&◌, List, [], ◌∷◌, length, get_or, T, leb, eqb}
+use Rattle.std.specs.Prelude.{ℕ, ◌≤◌, Bool, true, cond, ◌&&◌, List, [], ◌∷◌, length, get_or, T, leb, eqb}
 use Rattle.model.specs.declared.Delivery.{Delivery}
 use Rattle.model.specs.Bounds.{most_weight, most_yield, most_slots}
 use Rattle.model.specs.Lists.{every, keep}
 use Rattle.model.specs.Calendar.{Span, is_in}
-use Rattle.model.specs.Deliveries.{Slices, Even, delivery, same}
+use Rattle.model.specs.Deliveries.{Slices, Even, delivery}
 
 -- none is above m
 abbrev pub all_within : ℕ → List ℕ → Bool
@@ -14,9 +14,15 @@ all_within m s = every (λ (n : ℕ). leb n m) s
 abbrev pub all_zero : List ℕ → Bool
 all_zero s = every (eqb 0) s
 
--- record i of the slices is the delivery
-abbrev pub same_at : Delivery → Slices → ℕ → Bool
-same_at d s i = same d (delivery (get_or s.growers i 0) (get_or s.weights i 0) (get_or s.yields i 0) (get_or s.days i 0))
+-- each number and the one after it pass a test
+unfoldable pub chain : (ℕ → ℕ → Bool) → List ℕ → Bool
+chain r [] = true
+chain r (a ∷ []) = true
+chain r (a ∷ b ∷ l) = r a b && chain r (b ∷ l)
+
+-- record i of the slices
+abbrev pub record_at : Slices → ℕ → Delivery
+record_at s i = delivery (get_or s.growers i 0) (get_or s.weights i 0) (get_or s.yields i 0) (get_or s.days i 0)
 
 -- how many are lo to hi
 abbrev pub count_between : ℕ → ℕ → List ℕ → ℕ

@@ -1,30 +1,26 @@
 // Loops over slices of numbers that several crates share. Each flag loop has one test and no early return, so that it is vectorised.
 #![tactic(auto)]
 
-ghost use Rattle.std.specs.Prelude.{◌≡◌, cond, ◌&&◌, ◌+◌, ◌≤◌, ◌<◌, length, replicate, T};
+ghost use Rattle.std.specs.Prelude.{◌≡◌, ℕ, Bool, true, false, ◌&&◌, ◌+◌, ◌≤◌, ◌<◌, length, replicate, MatchOption, T};
 ghost use Rattle.model.specs.Bounds.{block_limit, most_slots};
+ghost use Rattle.model.specs.declared.Delivery.{Delivery};
 ghost use Rattle.model.specs.Lists.{sum_of, keep, rising, never_falls};
-ghost use Rattle.model.specs.Lent.{slices_at, slices_in};
+ghost use Rattle.model.specs.Lent.{records_given, span_given};
 ghost use Rattle.model.specs.Place.{place};
 ghost use Rattle.model.specs.Partitions.{start_of};
-ghost use Rattle.model.specs.Calendar.{span, is_in};
-ghost use Rattle.model.specs.Deliveries.{Even, rows, on_days, totals_of, totals_between, totals_during, first_match};
-ghost use Rattle.slices.specs.Slices.{all_within, all_zero, same_at, count_between, kept_weights, Measured};
+ghost use Rattle.model.specs.Calendar.{is_in};
+ghost use Rattle.model.specs.Deliveries.{rows, on_days, totals_of, totals_between, totals_during, first_match};
+ghost use Rattle.slices.specs.Slices.{all_within, all_zero, chain, record_at, count_between, kept_weights, Measured};
 
-use model::{Delivery, STRIDE, Totals};
+use model::{DaySpan, Delivery, Records, STRIDE, Totals};
 
 // Whether none of s is above most.
 pub fn within(s: &[u32], most: u32) -> bool
     ensures { result ≡ all_within most s.now }
 {
     let mut good = true;
-    let mut i = 0;
-    while i < s.len() {
-        let x = s[i];
-        i += 1;
-        if most < x {
-            good = false;
-        }
+    for &x in s {
+        good &= x <= most;
     }
     good
 }
@@ -35,13 +31,20 @@ pub fn zeros(s: &[u32], u: &[u32]) -> bool
     ensures { result ≡ all_zero s.now && all_zero u.now }
 {
     let mut good = true;
-    let mut i = 0;
-    while i < s.len() {
-        let x = s[i] | u[i];
-        i += 1;
-        if 0 < x {
-            good = false;
-        }
+    for i in 0..s.len() {
+        good &= s[i] | u[i] == 0;
+    }
+    good
+}
+
+// Whether each number and the one after it pass a test.
+fn neighbours<F: Fn(u32, u32) -> bool>(s: &[u32], pass: F) -> bool
+    requires { F.IsAlwaysCallable pass }
+    ensures { (p : ℕ → ℕ → Bool) → ((x y : ℕ) (t : Bool) → F.post pass x y t → t ≡ p x y) → result ≡ chain p s.now }
+{
+    let mut good = true;
+    for i in 1..s.len() {
+        good &= pass(s[i - 1], s[i]);
     }
     good
 }
@@ -50,34 +53,14 @@ pub fn zeros(s: &[u32], u: &[u32]) -> bool
 pub fn strictly_rising(s: &[u32]) -> bool
     ensures { result ≡ rising s.now }
 {
-    let mut good = true;
-    let mut i = 0;
-    while i + 1 < s.len() {
-        let x = s[i];
-        i += 1;
-        let z = s[i];
-        if z <= x {
-            good = false;
-        }
-    }
-    good
+    neighbours(s, |x, y| x < y)
 }
 
 // Whether no number is less than the one before it.
 pub fn never_falling(s: &[u32]) -> bool
     ensures { result ≡ never_falls s.now }
 {
-    let mut good = true;
-    let mut i = 0;
-    while i + 1 < s.len() {
-        let x = s[i];
-        i += 1;
-        let z = s[i];
-        if z < x {
-            good = false;
-        }
-    }
-    good
+    neighbours(s, |x, y| x <= y)
 }
 
 // The sum of s, of which there are few enough that it fits.
@@ -86,10 +69,8 @@ pub fn total(s: &[u32]) -> u64
     ensures { result ≡ sum_of s.now }
 {
     let mut sum: u64 = 0;
-    let mut i = 0;
-    while i < s.len() {
-        sum += s[i] as u64;
-        i += 1;
+    for &x in s {
+        sum += u64::from(x);
     }
     sum
 }
@@ -98,11 +79,7 @@ pub fn total(s: &[u32]) -> u64
 pub fn clear(s: &mut [u32])
     ensures { s.new ≡ replicate (length s.old) 0 }
 {
-    let mut i = 0;
-    while i < s.len() {
-        s[i] = 0;
-        i += 1;
-    }
+    s.fill(0);
 }
 
 // The place of g among rising keys: how many of all but the last are less.
@@ -110,77 +87,75 @@ pub fn place_of(keys: &[u32], g: u32) -> usize
     requires { (1 ≤ length keys.now) × (length keys.now ≤ block_limit) × T (rising keys.now) }
     ensures { result ≡ place keys.now g }
 {
-    let last = keys.len() - 1;
     let mut t: u32 = 0;
-    let mut i = 0;
-    while i < last {
-        let k = keys[i];
-        i += 1;
-        if k < g {
+    for i in 0..keys.len() - 1 {
+        if keys[i] < g {
             t += 1;
         }
     }
     t as usize
 }
 
-// What one pass over the lengths and fences of partitions finds: do the fences rise, how many slots are used, a grower's partition and where that starts.
+// What one pass over the lengths and fences of partitions finds: how many slots are used, a grower's partition and where that starts.
 #[derive(Clone, Copy)]
 pub struct Survey {
-    pub rising: bool,
     pub used: usize,
     pub target: usize,
     pub start: usize,
 }
 
-// Each sum has its own test, so that the pass is vectorised.
-pub fn surveyed(lens: &[u32], fences: &[u32], g: u32) -> Survey
+// Nothing where the fences don't rise. Each sum has its own test, so that the pass is vectorised.
+pub fn surveyed(lens: &[u32], fences: &[u32], g: u32) -> Option<Survey>
     requires { (1 ≤ length lens.now) × (length lens.now ≤ block_limit) × (length fences.now ≡ length lens.now) }
-    ensures { (result.rising ≡ rising fences.now) × (result.used ≡ sum_of lens.now)
-        × (T (rising fences.now) → (result.target ≡ place fences.now g)
-        × (result.start ≡ start_of lens.now (place fences.now g))) }
+    ensures { MatchOption result (rising fences.now ≡ false) (λ s. (rising fences.now ≡ true) × (s.used ≡ sum_of lens.now)
+        × (s.target ≡ place fences.now g) × (s.start ≡ start_of lens.now (place fences.now g))) }
 {
     let mut rising = true;
     let mut used: usize = 0;
     let mut target: u32 = 0;
     let mut start: usize = 0;
-    let mut i = 0;
-    while i + 1 < fences.len() {
+    let last = lens.len() - 1;
+    for i in 0..last {
         let n = lens[i] as usize;
         let x = fences[i];
-        i += 1;
-        let z = fences[i];
+        rising &= x < fences[i + 1];
         used += n;
-        if z <= x {
-            rising = false;
-        }
         if x < g {
             target += 1;
             start += n;
         }
     }
-    Survey {
-        rising,
-        used: used + lens[i] as usize,
+    if !rising {
+        return None;
+    }
+    Some(Survey {
+        used: used + lens[last] as usize,
         target: target as usize,
         start,
-    }
+    })
 }
 
-// How many growers are q: one comparison a grower, where a range takes two.
-pub fn count_equal(g: &[u32], q: u32) -> usize
-    requires { length g.now ≤ most_slots }
-    ensures { result ≡ count_between q q g.now }
+// How many numbers pass a test; counted in 32 bits, as they are, so that the pass is vectorised four at a time.
+fn counted<F: Fn(u32) -> bool>(s: &[u32], pass: F) -> usize
+    requires few { length s.now ≤ most_slots }
+    requires callable { F.IsAlwaysCallable pass }
+    ensures { (p : ℕ → Bool) → ((x : ℕ) (t : Bool) → F.post pass x t → t ≡ p x) → result ≡ length (keep p s.now) }
 {
     let mut n: u32 = 0;
-    let mut i = 0;
-    while i < g.len() {
-        let x = g[i];
-        i += 1;
-        if x == q {
+    for &x in s {
+        if pass(x) {
             n += 1;
         }
     }
     n as usize
+}
+
+// How many growers are q: one comparison a grower, where a range takes two.
+pub fn count_equal(growers: &[u32], q: u32) -> usize
+    requires { length growers.now ≤ most_slots }
+    ensures { result ≡ count_between q q growers.now }
+{
+    counted(growers, |x| x == q)
 }
 
 // How many of s are lo to hi.
@@ -188,75 +163,50 @@ pub fn count_between(s: &[u32], lo: u32, hi: u32) -> usize
     requires { length s.now ≤ most_slots }
     ensures { result ≡ count_between lo hi s.now }
 {
-    let mut n: u32 = 0;
-    let mut i = 0;
-    while i < s.len() {
-        let x = s[i];
-        i += 1;
-        if lo <= x {
-            if x <= hi {
-                n += 1;
-            }
-        }
-    }
-    n as usize
+    counted(s, |x| lo <= x && x <= hi)
 }
 
 // How many growers are lo to hi, of a find and of a range.
-fn count(g: &[u32], lo: u32, hi: u32) -> usize
-    requires { length g.now ≤ most_slots }
-    ensures { result ≡ count_between lo hi g.now }
+fn count(growers: &[u32], lo: u32, hi: u32) -> usize
+    requires { length growers.now ≤ most_slots }
+    ensures { result ≡ count_between lo hi growers.now }
 {
     if lo == hi {
-        return count_equal(g, lo);
+        return count_equal(growers, lo);
     }
-    count_between(g, lo, hi)
+    count_between(growers, lo, hi)
 }
 
-// All records: how many, their weight and their oil. The days are lent to name the records; totals do not read them.
-fn total_all(g: &[u32], w: &[u32], y: &[u32], n: &[u32]) -> Totals
-    requires { Measured (slices_at g w y n) }
-    ensures { result ≡ totals_of (rows (slices_in g w y n)) }
+// Record i.
+fn record_at(r: Records, i: usize) -> Delivery
+    requires { i < length r.growers.now }
+    ensures { result ≡ record_at (records_given r.entry) i }
 {
-    let mut weight: u64 = 0;
-    let mut oil: u64 = 0;
-    let mut i = 0;
-    while i < g.len() {
-        let a = w[i] as u64;
-        let b = y[i] as u64;
-        let c = a * b;
-        i += 1;
-        weight += a;
-        oil += c;
-    }
-    Totals {
-        records: i as u64,
-        weight,
-        oil,
+    Delivery {
+        grower: r.growers[i],
+        weight: r.weights[i],
+        oil_yield: r.yields[i],
+        day: r.days[i],
     }
 }
 
-// The records whose grower is lo to hi, each tested.
-fn total_tested(g: &[u32], w: &[u32], y: &[u32], n: &[u32], lo: u32, hi: u32) -> Totals
-    requires { Measured (slices_at g w y n) }
-    ensures { result ≡ totals_between lo hi (rows (slices_in g w y n)) }
+// The records that pass a test: how many, their weight and their oil.
+fn total_of<F: Fn(Delivery) -> bool>(r: Records, pass: F) -> Totals
+    requires measured { Measured (records_given r) }
+    requires callable { F.IsAlwaysCallable pass }
+    ensures { (p : Delivery → Bool) → ((d : Delivery) (t : Bool) → F.post pass d t → t ≡ p d) → result ≡ totals_of (keep p (rows (records_given r.entry))) }
 {
     let mut records: u64 = 0;
     let mut weight: u64 = 0;
     let mut oil: u64 = 0;
-    let mut i = 0;
-    while i < g.len() {
-        let x = g[i];
-        let a = w[i] as u64;
-        let b = y[i] as u64;
-        let c = a * b;
-        i += 1;
-        if lo <= x {
-            if x <= hi {
-                records += 1;
-                weight += a;
-                oil += c;
-            }
+    for i in 0..r.len() {
+        let d = record_at(r, i);
+        let a = u64::from(d.weight);
+        let c = a * u64::from(d.oil_yield);
+        if pass(d) {
+            records += 1;
+            weight += a;
+            oil += c;
         }
     }
     Totals {
@@ -264,109 +214,70 @@ fn total_tested(g: &[u32], w: &[u32], y: &[u32], n: &[u32], lo: u32, hi: u32) ->
         weight,
         oil,
     }
+}
+
+// All records. The days are lent to name the records; totals do not read them.
+fn total_all(r: Records) -> Totals
+    requires { Measured (records_given r) }
+    ensures { result ≡ totals_of (rows (records_given r.entry)) }
+{
+    total_of(r, |_| true)
 }
 
 // The records whose grower is lo to hi. Counting is cheaper than adding: where none is, or all are, no record is tested again.
-pub fn total_stride(g: &[u32], w: &[u32], y: &[u32], n: &[u32], lo: u32, hi: u32) -> Totals
-    requires { Measured (slices_at g w y n) }
-    ensures { result ≡ totals_between lo hi (rows (slices_in g w y n)) }
+pub fn total_stride(r: Records, lo: u32, hi: u32) -> Totals
+    requires { Measured (records_given r) }
+    ensures { result ≡ totals_between lo hi (rows (records_given r.entry)) }
 {
-    let k = count(g, lo, hi);
+    let k = count(r.growers, lo, hi);
     if k < 1 {
         return Totals::none();
     }
-    if k == g.len() {
-        return total_all(g, w, y, n);
+    if k == r.len() {
+        return total_all(r);
     }
-    total_tested(g, w, y, n, lo, hi)
+    total_of(r, |d| lo <= d.grower && d.grower <= hi)
 }
 
-// The records whose grower is lo to hi and whose day is first to last, each tested.
-fn total_tested_days(
-    g: &[u32],
-    w: &[u32],
-    y: &[u32],
-    n: &[u32],
-    lo: u32,
-    hi: u32,
-    first: u32,
-    last: u32,
-) -> Totals
-    requires { Measured (slices_at g w y n) }
-    ensures { result ≡ totals_during lo hi (span first last) (rows (slices_in g w y n)) }
+// Whether a day is in the span.
+fn is_in(days: DaySpan, day: u32) -> bool
+    ensures { result ≡ is_in (span_given days) day }
 {
-    let mut records: u64 = 0;
-    let mut weight: u64 = 0;
-    let mut oil: u64 = 0;
-    let mut i = 0;
-    while i < g.len() {
-        let x = g[i];
-        let t = n[i];
-        let a = w[i] as u64;
-        let b = y[i] as u64;
-        let c = a * b;
-        i += 1;
-        if lo <= x {
-            if x <= hi {
-                if first <= t {
-                    if t <= last {
-                        records += 1;
-                        weight += a;
-                        oil += c;
-                    }
-                }
-            }
-        }
-    }
-    Totals {
-        records,
-        weight,
-        oil,
-    }
+    days.first <= day && day <= days.last
 }
 
-// A weight if its day t is first to last, and else 0.
-fn weight_on(x: u32, t: u32, first: u32, last: u32) -> u32
-    ensures { result ≡ cond (is_in (span first last) t) x 0 }
-{
-    if first <= t {
-        if t <= last {
-            return x;
-        }
-    }
-    0
-}
-
-// The weight of each record whose day is first to last, and 0 for each other; how many those days have.
-fn keep_weights(w: &[u32], n: &[u32], first: u32, last: u32, kept: &mut [u32]) -> usize
-    requires { (length n.now ≡ length w.now) × (length kept.old ≡ length w.now) × (length w.now ≤ most_slots) }
-    ensures { (kept.new ≡ kept_weights (span first last) w.now n.now)
-        × (result ≡ count_between first last n.now) }
+// The weight of each record whose day is in the span, and 0 for each other; how many those days have.
+fn keep_weights(r: Records, days: DaySpan, kept: &mut [u32]) -> usize
+    requires { length kept.old ≡ length r.growers.now }
+    ensures { (kept.new ≡ kept_weights (span_given days) r.entry.weights.now r.entry.days.now)
+        × (result ≡ count_between days.first days.last r.entry.days.now) }
 {
     let mut k: u32 = 0;
-    let mut i = 0;
-    while i < n.len() {
-        let t = n[i];
-        kept[i] = weight_on(w[i], t, first, last);
-        i += 1;
-        if first <= t {
-            if t <= last {
-                k += 1;
-            }
+    for i in 0..r.len() {
+        if is_in(days, r.days[i]) {
+            kept[i] = r.weights[i];
+            k += 1;
+        } else {
+            kept[i] = 0;
         }
     }
     k as usize
 }
 
-// The records of a stride whose day is first to last, whoever their grower is: their weights are kept first, four at a time, and then added
+// The records of a stride whose day is in the span, whoever their grower is: their weights are kept first, four at a time, and then added
 // without a test.
-fn total_days(g: &[u32], w: &[u32], y: &[u32], n: &[u32], first: u32, last: u32) -> Totals
-    requires { Measured (slices_at g w y n) × (length g.now ≡ 64) }
-    ensures { result ≡ totals_of (keep (on_days (span first last)) (rows (slices_in g w y n))) }
+fn total_days(r: Records, days: DaySpan) -> Totals
+    requires { Measured (records_given r) × (length r.growers.now ≡ 64) }
+    ensures { result ≡ totals_of (keep (on_days (span_given days)) (rows (records_given r.entry))) }
 {
     let mut kept = [0u32; STRIDE];
-    let k = keep_weights(w, n, first, last, &mut kept[..]);
-    let t = total_all(g, &kept[..], y, n);
+    let k = keep_weights(r, days, &mut kept[..]);
+    let t = total_all(Records {
+        growers: r.growers,
+        weights: &kept[..],
+        yields: r.yields,
+        days: r.days,
+    });
     Totals {
         records: k as u64,
         weight: t.weight,
@@ -374,90 +285,59 @@ fn total_days(g: &[u32], w: &[u32], y: &[u32], n: &[u32], first: u32, last: u32)
     }
 }
 
-// The records whose grower is lo to hi and whose day is first to last. Where no grower is, nothing is added; where a whole stride's are, only
+// The records whose grower is lo to hi and whose day is in the span. Where no grower is, nothing is added; where a whole stride's are, only
 // the days are tested.
-pub fn total_stride_days(
-    g: &[u32],
-    w: &[u32],
-    y: &[u32],
-    n: &[u32],
-    lo: u32,
-    hi: u32,
-    first: u32,
-    last: u32,
-) -> Totals
-    requires { Measured (slices_at g w y n) }
-    ensures { result ≡ totals_during lo hi (span first last) (rows (slices_in g w y n)) }
+pub fn total_stride_days(r: Records, lo: u32, hi: u32, days: DaySpan) -> Totals
+    requires { Measured (records_given r) }
+    ensures { result ≡ totals_during lo hi (span_given days) (rows (records_given r.entry)) }
 {
-    let wanted = count(g, lo, hi);
+    let wanted = count(r.growers, lo, hi);
     if wanted < 1 {
         return Totals::none();
     }
-    if g.len() == STRIDE {
-        if wanted == STRIDE {
-            return total_days(g, w, y, n, first, last);
-        }
+    if r.len() == STRIDE && wanted == STRIDE {
+        return total_days(r, days);
     }
-    total_tested_days(g, w, y, n, lo, hi, first, last)
-}
-
-// Whether record i is the delivery.
-fn is_same(g: &[u32], w: &[u32], y: &[u32], n: &[u32], i: usize, d: Delivery) -> bool
-    requires { (i < length g.now) × Even (slices_at g w y n) }
-    ensures { result ≡ same_at d (slices_in g w y n) i }
-{
-    if d.grower != g[i] {
-        return false;
-    }
-    if d.weight != w[i] {
-        return false;
-    }
-    if d.oil_yield != y[i] {
-        return false;
-    }
-    d.day == n[i]
+    total_of(
+        r,
+        |d| lo <= d.grower && d.grower <= hi && is_in(days, d.day),
+    )
 }
 
 // The first record that is the delivery, or how many there are; each tested.
-fn first_tested(g: &[u32], w: &[u32], y: &[u32], n: &[u32], d: Delivery) -> usize
-    requires { Even (slices_at g w y n) }
-    ensures { result ≡ first_match d (rows (slices_in g w y n)) }
+fn first_tested(r: Records, d: Delivery) -> usize
+    ensures { result ≡ first_match d (rows (records_given r.entry)) }
 {
-    let mut i = 0;
-    while i < g.len() {
-        if is_same(g, w, y, n, i, d) {
+    for i in 0..r.len() {
+        if d == record_at(r, i) {
             return i;
         }
-        i += 1;
     }
-    i
+    r.len()
 }
 
 // The first record that is the delivery, or how many there are. Only where the delivery's grower is among them are the records tested.
-pub fn first_in_stride(g: &[u32], w: &[u32], y: &[u32], n: &[u32], d: Delivery) -> usize
-    requires { (length g.now ≤ most_slots) × Even (slices_at g w y n) }
-    ensures { result ≡ first_match d (rows (slices_in g w y n)) }
+pub fn first_in_stride(r: Records, d: Delivery) -> usize
+    ensures { result ≡ first_match d (rows (records_given r.entry)) }
 {
-    if count_equal(g, d.grower) < 1 {
-        return g.len();
+    if count_equal(r.growers, d.grower) < 1 {
+        return r.len();
     }
-    first_tested(g, w, y, n, d)
+    first_tested(r, d)
 }
 
 // The first record that is the delivery, or how many there are; a stride at a time.
-pub fn first_match(g: &[u32], w: &[u32], y: &[u32], n: &[u32], d: Delivery) -> usize
-    requires { Even (slices_at g w y n) }
-    ensures { result ≡ first_match d (rows (slices_in g w y n)) }
+pub fn first_match(r: Records, d: Delivery) -> usize
+    ensures { result ≡ first_match d (rows (records_given r.entry)) }
 {
-    let mut i = 0;
-    while STRIDE <= g.len() - i {
-        let e = i + STRIDE;
-        let k = first_in_stride(&g[i..e], &w[i..e], &y[i..e], &n[i..e], d);
+    let strides = r.len() / STRIDE;
+    for n in 0..strides {
+        let i = n * STRIDE;
+        let k = first_in_stride(r.part(i, i + STRIDE), d);
         if k < STRIDE {
             return i + k;
         }
-        i = e;
     }
-    let e = g.len();
-    i + first_tested(&g[i..e], &w[i..e], &y[i..e], &n[i..e], d)
+    let i = strides * STRIDE;
+    i + first_tested(r.part(i, r.len()), d)
 }

@@ -5,10 +5,9 @@ use Rattle.model.specs.Bounds.{block_limit}
 use Rattle.model.specs.Directory.{directory_size}
 use Rattle.model.specs.Lists.{sum_of, rising}
 use Rattle.model.proofs.Tests.{of_true, no_such}
-use borrow.Author.Tests.{not-true, not-false}
 use Rattle.directory.proofs.Judging.{judged_not, judged_yes, lengths_part, fences_part, unused_both, unused_parts}
 use Rattle.directory.proofs.judged.Goals as goal
-use Rattle.directory.proofs.judged.Goals.{then-not-s-via-then-not-s, then-not-s-via-else-not-s+then-c-s, Else-c-s}
+use Rattle.directory.proofs.judged.Goals.{Else-c-s}
 
 pub returns-then-directory-ne-DIRECTORY_SIZE-clause-refused : goal.returns-then-directory-ne-DIRECTORY_SIZE-clause-refused
 returns-then-directory-ne-DIRECTORY_SIZE-clause-refused c = judged_not block_limit _ _ (λ s. c.if-directory-ne-DIRECTORY_SIZE.true s.size)
@@ -21,16 +20,13 @@ returns-then-not-zeros-clause-refused c =
     let not-zero = sym c.zeros.ensures ∙ c.if-not-zeros.true in
     judged_not block_limit _ _ (λ s. no_such (unused_parts block_limit _ s.size s.few s.unused) not-zero)
 
-pub returns-then-not-s-clause-refused : goal.returns-then-not-s-clause-refused
-returns-then-not-s-clause-refused c =
-    elim c.then-not-s.branch [
-      | then-not-s-via-then-not-s w ↦
-          let falls = sym c.surveyed-s.ensures.0 ∙ not-true _ w.if-not-s.true in
-          judged_not block_limit _ _ (λ s. no_such s.rises (ap rising (sym (fences_part block_limit _ s.size s.few)) ∙ falls))
-      | then-not-s-via-else-not-s+then-c-s w ↦
-          let sum = c.surveyed-s.ensures.1 in
-          judged_not block_limit _ _ (λ s. let h = s.room in omega (arith, sum ∙ ap sum_of (lengths_part block_limit c.args.directory.now s.size s.few)))
-    ]
+pub returns-in_default-clause-refused : goal.returns-in_default-clause-refused
+returns-in_default-clause-refused c =
+    judged_not block_limit _ _ (λ s. no_such s.rises (ap rising (sym (fences_part block_limit _ s.size s.few)) ∙ c.in_default.ensures))
+
+pub returns-then-c-s-clause-refused : goal.returns-then-c-s-clause-refused
+returns-then-c-s-clause-refused c =
+    judged_not block_limit _ _ (λ s. let h = s.room in omega (arith, c.in-Some.ensures.1 ∙ ap sum_of (lengths_part block_limit c.args.directory.now s.size s.few)))
 
 few : (c : Else-c-s) → get_or c.args.directory.now 1 0 ≤ block_limit
 few c = omega arith
@@ -39,8 +35,8 @@ pub returns-clause-refused : goal.returns-clause-refused
 returns-clause-refused c =
     let ns = c.args.directory.now in
     let size : length ns ≡ directory_size block_limit = c.if-directory-ne-DIRECTORY_SIZE.false in
-    let s = c.surveyed-s.ensures in
-    let up = of_true _ (sym s.0 ∙ not-false _ c.if-not-s.false) in
+    let s = c.in-Some.ensures in
+    let up = of_true _ s.0 in
     let sum = s.1 ∙ ap sum_of (lengths_part block_limit ns size (few c)) in
     judged_yes block_limit c.args.c ns (record {
       size = size;
@@ -57,6 +53,5 @@ returns-clause-accepted c =
     let size : length ns ≡ directory_size block_limit = c.if-directory-ne-DIRECTORY_SIZE.false in
     let lens = lengths_part block_limit ns size (few c) in
     let fences = fences_part block_limit ns size (few c) in
-    let s = c.surveyed-s.ensures in
-    let found = s.2 (of_true _ (sym s.0 ∙ not-false _ c.if-not-s.false)) in
-    record { used_is = s.1 ∙ ap sum_of lens; target_is = rw fences at found.0; start_is = rw (lens, fences) at found.1 }
+    let s = c.in-Some.ensures in
+    record { used_is = s.1 ∙ ap sum_of lens; target_is = rw fences at s.2; start_is = rw (lens, fences) at s.3 }

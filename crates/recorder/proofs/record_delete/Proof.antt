@@ -31,7 +31,7 @@ has-delivery-requires : tie.Need-has_delivery-requires
 has-delivery-requires c κs =
     let e = c.before.before in
     let w = ((decision e).passed c.if-n-ne0.false).whole_set in
-    (w.sized.used_fits, w.even)
+    (w.sized.used_fits, w.sized.slots_most, w.even)
 
 raise-one-requires : tie.Need-raise_one-requires
 raise-one-requires c κs =
