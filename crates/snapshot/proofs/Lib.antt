@@ -6,3 +6,4 @@ pub mod Sounding
 pub mod Putting
 pub mod ReadAnswers
 pub mod WriteAnswers
+pub mod CheckedRecords

@@ -136,7 +136,7 @@ module _ (L : ℕ) (c : Column) where
         let d = yes_first 5 (directory_ok L (length c.slices.growers) c.directory) _ b.1 in
         (is_true _ a.0, is_true _ b.0, is_true _ d.0)
 
-    checks_are : first_failed (sound_checks L c) ≡ first_failed (ask 6 (sound L c) ∷ ask 8 (every in_range (all_records L c)) ∷ [])
+    pub checks_are : first_failed (sound_checks L c) ≡ first_failed (ask 6 (sound L c) ∷ ask 8 (every in_range (all_records L c)) ∷ [])
     unfolding first_failed
     checks_are = let l = lent_passed in rw (l.0, l.1, l.2)
 

@@ -2,12 +2,14 @@
 // Reading judges the whole text before it stores a number, so that a refused text writes to no slice.
 #![tactic(auto)]
 
-ghost use Rattle.std.specs.Prelude.{◌≡◌, ◌+◌, ◌*◌, ◌≤◌, ◌<◌, map, length, T, ◌&&◌};
+ghost use Rattle.std.specs.Prelude.{◌≡◌, ◌+◌, ◌*◌, ◌≤◌, ◌<◌, map, length, take, T, ◌&&◌, IfOk};
 ghost use Rattle.model.specs.Bounds.{block_limit};
 ghost use Rattle.model.specs.Lists.{sum_of, rising};
-ghost use Rattle.model.specs.Deliveries.{rows, Even};
-ghost use Rattle.model.specs.Column.{sound_growers};
-ghost use Rattle.model.specs.Lent.{slices_at, slices_in, column_in, slices_in_mut};
+ghost use Rattle.model.specs.Checks.{first_failed};
+ghost use Rattle.model.specs.Deliveries.{rows, Even, each_slice};
+ghost use Rattle.model.specs.Refusals.{number_of};
+ghost use Rattle.model.specs.Column.{sound_growers, lengths_of};
+ghost use Rattle.model.specs.Lent.{slices_at, slices_in, column_in, slices_in_mut, slices_given, records_given, column_given};
 ghost use Rattle.model.specs.Fields.{lines};
 ghost use Rattle.model.specs.Snapshot.{header_ok, partition_rows, delivery_row};
 ghost use Rattle.model.specs.SnapshotCalls.{read_call, write_call};
@@ -16,11 +18,14 @@ ghost use Rattle.directory.specs.Numbers.{Numbered};
 ghost use Rattle.fields.specs.Writing.{placed};
 ghost use Rattle.lines.specs.Lines.{text_refusal};
 ghost use Rattle.snapshot.specs.Texts.{head_found, no_head, listed_in, not_listed, low_of, high_of, delivery_ok, deliveries_ok, parts_ok, all_from};
-ghost use Rattle.snapshot.specs.Answers.{numbers_ok, not_judged, judged_of, refused_read, read_out, not_checked, checked_column, checked_of};
+ghost use Rattle.snapshot.specs.Answers.{numbers_ok, not_judged, judged_of, refused_read, read_out, not_checked, sound_checks, checked_column, checked_of};
 
 use fields::{Field, WIDTH};
 use lines::{NOT_A_TEXT, THREE, TWO};
-use model::{Applied, BLOCK_LIMIT, DIRECTORY_SIZE, Delivery, MOST_SLOTS, Written};
+use model::{
+    Applied, BLOCK_LIMIT, DIRECTORY_SIZE, Delivery, LentSlices, MOST_SLOTS, Records, Refusal,
+    Written,
+};
 
 // The answer of an accepted call, and the refusal of a text with more deliveries than slots (01: 0 and 12).
 const ACCEPTED: u32 = 0;
@@ -465,6 +470,28 @@ pub fn check_column(directory: &[u32], g: &[u32], w: &[u32], y: &[u32], n: &[u32
         refusal: 0,
         used: m,
     }
+}
+
+// The same of the slices in one value: the records of the used slots.
+pub fn checked_records<'a>(
+    directory: &[u32],
+    slices: LentSlices<'a>,
+) -> Result<Records<'a>, Refusal>
+    ensures refused { number_of result ≡ first_failed (sound_checks block_limit (column_given directory.now slices.entry)) }
+    ensures accepted { IfOk result (λ r.
+        records_given r ≡ each_slice (take (sum_of (lengths_of block_limit (column_given directory.now slices.entry)))) (slices_given slices.entry)) }
+{
+    let shape = directory::lent(directory, slices, 0)?;
+    let lens = directory::lengths(directory);
+    let fences = directory::fences(directory);
+    if !sound_ok(slices.growers, lens, fences) {
+        return Err(Refusal::Shape);
+    }
+    let records = shape.records.part(0, shape.used);
+    if !checks::values_ok(records.weights, records.yields) {
+        return Err(Refusal::Values);
+    }
+    Ok(records)
 }
 
 // These, 19 (a day that the text cannot hold) and 15 of writing into room bytes.
