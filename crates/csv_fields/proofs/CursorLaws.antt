@@ -1,17 +1,14 @@
 -- Reading a field at a cursor, byte by byte. Assumes nothing.
 use Rattle.std.proofs.Common.{◌≡◌, ℕ, suc, ◌+◌, ◌-◌, ◌<◌, ◌≤◌, Bool, true, false, ◌||◌, eqb, List, [], ◌∷◌, ◌++◌, length, get_or, take, drop, sym, refl}
 use Rattle.std.proofs.Common.{ap, ◌∙◌, subst, append-nil, add-one, arith, length-drop, drop_of_length-le, get_or-drop, drop-cons, take-suc, ne_eqb}
+use Rattle.std.specs.Prelude.{Some, None}
 use mathlib.Core.Option.{Option, none, some}
 use lib.Seq.{append_snoc}
 use Rattle.model.specs.Lists.{only_if, and_then, is_some}
 use Rattle.model.specs.Fields.{Taken, taken, after_line_end}
-use Rattle.csv_fields.specs.declared.Behind.TheVariants.{Comma, End, Broken}
-use Rattle.csv_fields.specs.declared.Quoted.{Quoted}
-use Rattle.csv_fields.specs.declared.Field.{Field}
-use Rattle.csv_fields.specs.declared.Field.TheVariants.{Found, Torn}
-use Rattle.csv_fields.specs.declared.Quoted.TheVariants.{Closed, Open}
+use Rattle.csv_fields.specs.declared.Behind.TheVariants.{Comma, End}
 use Rattle.model.specs.Csv.{Bytes, quote, ahead, after_end, behind, take_plain, take_quoted, take_field}
-use Rattle.csv_fields.specs.Reading.{BehindIs, StopsIs, PlainEnd, between, holds_quote, Holds, ClosedAt, QuotedIs, FoundAt, FieldIs}
+use Rattle.csv_fields.specs.Reading.{BehindIs, StopsIs, PlainEnd, between, holds_quote, Holds, ClosedAt, FoundAt, FieldIs}
 
 pub nothing_left : (text : List ℕ) (at : ℕ) → length text ≤ at → drop at text ≡ []
 nothing_left text at h = drop_of_length-le text h
@@ -78,15 +75,15 @@ crlf_or_not : (b c : ℕ) (t : List ℕ) → b ≡ 13 → eqb c 10 ≡ is_some (
 unfolding behind after_end after_line_end
 crlf_or_not b c t e = rw e (some_only (eqb c 10) t (λ (u : List ℕ). taken false u))
 
-pub at_end : (text : List ℕ) (at : ℕ) → at ≡ length text → BehindIs text at (End at)
+pub at_end : (text : List ℕ) (at : ℕ) → at ≡ length text → BehindIs text at (Some (End at))
 unfolding behind
 at_end text at e = record { is = rw (nothing_left text at (omega arith)); within = omega arith; moves = λ h. absurd (omega arith); on = omega arith }
 
 module _ (text : List ℕ) (at : ℕ) (h : at < length text) where
-  pub at-comma : get_or text at 0 ≡ 44 → BehindIs text at (Comma (at + 1))
+  pub at-comma : get_or text at 0 ≡ 44 → BehindIs text at (Some (Comma (at + 1)))
   at-comma e = record { is = sym (ap behind (here_cons text at h) ∙ behind-comma _ _ e); within = omega arith; moves = λ h. omega arith; on = omega arith }
 
-  pub at_lf : get_or text at 0 ≡ 10 → BehindIs text at (End (at + 1))
+  pub at_lf : get_or text at 0 ≡ 10 → BehindIs text at (Some (End (at + 1)))
   at_lf e = record { is = sym (ap behind (here_cons text at h) ∙ behind_lf _ _ e); within = omega arith; moves = λ h. omega arith; on = omega arith }
 
   none_other : (get_or text at 0 ≡ 44 → ⊥) → (get_or text at 0 ≡ 10 → ⊥) → (get_or text at 0 ≡ 13 → ⊥) → behind (drop at text) ≡ none
@@ -98,19 +95,19 @@ module _ (text : List ℕ) (at : ℕ) (h : at < length text) where
   none_cr_other : get_or text at 0 ≡ 13 → at + 1 < length text → (get_or text (at + 1) 0 ≡ 10 → ⊥) → behind (drop at text) ≡ none
   none_cr_other e l n = ap behind (here_two text at l) ∙ behind_cr_other _ _ _ e n
 
-  pub at_none : behind (drop at text) ≡ none → BehindIs text at Broken
+  pub at_none : behind (drop at text) ≡ none → BehindIs text at None
   at_none e = record { is = sym e; within = omega arith; moves = λ k. k; on = omega arith }
 
-  pub at_other : (get_or text at 0 ≡ 44 → ⊥) → (get_or text at 0 ≡ 10 → ⊥) → (get_or text at 0 ≡ 13 → ⊥) → BehindIs text at Broken
+  pub at_other : (get_or text at 0 ≡ 44 → ⊥) → (get_or text at 0 ≡ 10 → ⊥) → (get_or text at 0 ≡ 13 → ⊥) → BehindIs text at None
   at_other p q r = at_none (none_other p q r)
 
-  pub at_cr : get_or text at 0 ≡ 13 → at + 1 ≡ length text → BehindIs text at Broken
+  pub at_cr : get_or text at 0 ≡ 13 → at + 1 ≡ length text → BehindIs text at None
   at_cr e l = at_none (none_cr e l)
 
-  pub at_cr_other : get_or text at 0 ≡ 13 → at + 1 < length text → (get_or text (at + 1) 0 ≡ 10 → ⊥) → BehindIs text at Broken
+  pub at_cr_other : get_or text at 0 ≡ 13 → at + 1 < length text → (get_or text (at + 1) 0 ≡ 10 → ⊥) → BehindIs text at None
   at_cr_other e l n = at_none (none_cr_other e l n)
 
-  pub at_crlf : get_or text at 0 ≡ 13 → at + 1 < length text → get_or text (at + 1) 0 ≡ 10 → BehindIs text at (End (at + 2))
+  pub at_crlf : get_or text at 0 ≡ 13 → at + 1 < length text → get_or text (at + 1) 0 ≡ 10 → BehindIs text at (Some (End (at + 2)))
   at_crlf e l n = record { is = sym (ap behind (here_two text at l) ∙ behind_crlf _ _ _ e n); within = omega arith; moves = λ h. omega arith; on = omega arith }
 
   -- Where an unquoted field stops.
@@ -187,9 +184,9 @@ module _ {text : List ℕ} {at i : ℕ} (p : Plain text at i) where
       let q : true ≡ eqb (get_or text i 0) quote || is_some (behind (get_or text i 0 ∷ drop (i + 1) text)) = e ∙ ap (λ (l : List ℕ). eqb (get_or text i 0) quote || is_some (behind l)) c in
       plain_done (ap take_plain c ∙ plain_stop (get_or text i 0) (drop (i + 1) text) q ∙ ap (taken []) (sym c))
 
-  pub plain_all : length text ≤ i → PlainEnd text at i
+  pub plain_all : length text ≤ i → PlainEnd text at (length text)
   unfolding take_plain
-  plain_all h = plain_done (rw (nothing_left text i h))
+  plain_all h = let e : i ≡ length text = omega (arith, p.high) in subst (λ (n : ℕ). PlainEnd text at n) e (plain_done (rw (nothing_left text i h)))
 
 -- A quoted field.
 
@@ -304,17 +301,19 @@ module _ {text : List ℕ} {at i : ℕ} {clean : Bool} (q : Quoting text at i cl
 
 -- A field.
 
-pub field_none : (text : List ℕ) (at : ℕ) → at ≡ length text → FoundAt text at at at true at
-unfolding take_field
-field_none text at h = record {
-  order = omega arith;
-  high = omega arith;
-  on = omega arith;
-  within = omega arith;
-  bytes = [];
-  is = rw (nothing_left text at (omega arith));
-  holds = record { plain = λ e. sym (between_none text at); doubled = λ e. let z : ◌≡◌ {A = ℕ} 0 1 = cc in absurd (omega arith) };
-}
+pub field_none : (text : List ℕ) (at : ℕ) → at ≡ length text → {e : ℕ} → PlainEnd text at e → FoundAt text at at e true e
+unfolding take_field take_plain
+field_none text at h {e} p =
+    let n : drop at text ≡ [] = nothing_left text at (omega arith) in
+    record {
+      order = p.low;
+      high = p.high;
+      on = p.low;
+      within = p.high;
+      bytes = between at e text;
+      is = ap take_field n ∙ ap some (sym (ap take_plain n) ∙ p.is);
+      holds = record { plain = λ z. refl; doubled = λ z. let z : ◌≡◌ {A = ℕ} 0 1 = cc in absurd (omega arith) };
+    }
 
 field_plain_is : (b : ℕ) (t : List ℕ) → (b ≡ 34 → ⊥) → take_field (b ∷ t) ≡ some (take_plain (b ∷ t))
 unfolding take_field
@@ -325,8 +324,8 @@ unfolding take_field
 field_quoted_is b t e = rw e
 
 module _ (text : List ℕ) (at : ℕ) (h : at < length text) where
-  pub field_plain : (get_or text at 0 ≡ 34 → ⊥) → (e : ℕ) → PlainEnd text at e → FoundAt text at at e true e
-  field_plain n e p =
+  pub field_plain : (get_or text at 0 ≡ 34 → ⊥) → {e : ℕ} → PlainEnd text at e → FoundAt text at at e true e
+  field_plain n {e} p =
       let c = here_cons text at h in
       record {
         order = p.low;
@@ -338,8 +337,8 @@ module _ (text : List ℕ) (at : ℕ) (h : at < length text) where
         holds = record { plain = λ z. refl; doubled = λ e. let z : ◌≡◌ {A = ℕ} 0 1 = cc in absurd (omega arith) };
       }
 
-  pub field_quoted : get_or text at 0 ≡ 34 → (e : ℕ) (clean : Bool) → ClosedAt text (at + 1) e clean → FoundAt text at (at + 1) e clean (e + 1)
-  field_quoted q e clean p = record {
+  pub field_quoted : get_or text at 0 ≡ 34 → {e : ℕ} {clean : Bool} → ClosedAt text (at + 1) e clean → FoundAt text at (at + 1) e clean (e + 1)
+  field_quoted q p = record {
     order = p.low;
     high = omega (arith, p.high);
     on = omega (arith, p.low);
@@ -349,18 +348,5 @@ module _ (text : List ℕ) (at : ℕ) (h : at < length text) where
     holds = p.holds;
   }
 
-  pub field_torn : get_or text at 0 ≡ 34 → take_quoted (drop (at + 1) text) ≡ none → FieldIs text at Torn
+  pub field_torn : get_or text at 0 ≡ 34 → take_quoted (drop (at + 1) text) ≡ none → FieldIs text at None
   field_torn q e = record { is = ap take_field (here_cons text at h) ∙ field_quoted_is _ _ q ∙ e }
-
--- what the answers say, case by case
-pub closed_is : {text : List ℕ} {at to : ℕ} {clean : Bool} {r : Quoted} → QuotedIs text at r → r ≡ Closed to clean → ClosedAt text at to clean
-closed_is {text} {at} {to} {clean} q e = (subst (λ (x : Quoted). QuotedIs text at x) e q).is
-
-pub open_is : {text : List ℕ} {at : ℕ} {r : Quoted} → QuotedIs text at r → r ≡ Open → take_quoted (drop at text) ≡ none
-open_is {text} {at} q e = (subst (λ (x : Quoted). QuotedIs text at x) e q).is
-
-pub found_is : {text : List ℕ} {at from to rest : ℕ} {clean : Bool} {r : Field} → FieldIs text at r → r ≡ Found from to clean rest → FoundAt text at from to clean rest
-found_is {text} {at} q e = (subst (λ (x : Field). FieldIs text at x) e q).is
-
-pub torn_is : {text : List ℕ} {at : ℕ} {r : Field} → FieldIs text at r → r ≡ Torn → take_field (drop at text) ≡ none
-torn_is {text} {at} q e = (subst (λ (x : Field). FieldIs text at x) e q).is

@@ -1,6 +1,7 @@
 -- Digits from a byte on, and the number that they spell. Assumes nothing.
 use Rattle.std.proofs.Common.{◌≡◌, ℕ, zero, suc, ◌+◌, ◌-◌, ◌*◌, ◌^◌, ◌<◌, ◌≤◌, Bool, true, false, ◌&&◌, leb, List, [], ◌∷◌, ◌++◌, length, get_or, take, drop, sym}
 use Rattle.std.proofs.Common.{refl, ap, ◌∙◌, subst, ap₂, pow-suc, add-one, arith, length-drop, take-append-drop, length-take-le, drop-drop, le-leb}
+use Rattle.std.specs.Prelude.{Some, None}
 use mathlib.Core.Option.{none, some}
 use borrow.Author.Tests.{lt-leb}
 use lib.Seq.{take-length}
@@ -10,9 +11,6 @@ use Rattle.model.specs.Fields.{spelled}
 use Rattle.model.specs.Weighbridge.{is_digit, number_in}
 use Rattle.model.proofs.ListLaws.{every-joined}
 use Rattle.model.proofs.FieldLaws.{spelled-append}
-use Rattle.csv_fields.specs.declared.Run.{Run}
-use Rattle.csv_fields.specs.declared.Run.TheVariants.{Digits, TooLarge}
-use Rattle.csv_fields.specs.declared.Short.TheVariants.{Read}
 use Rattle.csv_fields.specs.Reading.{between, Spells, DigitsTo, DigitsAt, RunIs, ShortIs}
 use Rattle.csv_fields.proofs.CursorLaws.{here_cons, between_none, between_next}
 
@@ -100,13 +98,13 @@ spells_next {text} {at} {v} {i} p h l m s =
     }
 
 module _ {text : List ℕ} {at v i : ℕ} (p : DigitsTo text at v i) where
-  pub digits_low : get_or text i 0 < 48 → RunIs text at (Digits v i)
+  pub digits_low : get_or text i 0 < 48 → RunIs text at (Some (record { number = v; next = i }))
   digits_low l = record { is = record { passed = p; stops = λ h. rw (lt-leb 48 (get_or text i 0) l) } }
 
-  pub digits_high : 57 < get_or text i 0 → RunIs text at (Digits v i)
+  pub digits_high : 57 < get_or text i 0 → RunIs text at (Some (record { number = v; next = i }))
   digits_high l = record { is = record { passed = p; stops = λ h. rw (le-leb 48 (get_or text i 0) (omega arith), lt-leb (get_or text i 0) 57 l) } }
 
-  pub digits_end : length text ≤ i → RunIs text at (Digits v i)
+  pub digits_end : length text ≤ i → RunIs text at (Some (record { number = v; next = i }))
   digits_end l = record { is = record { passed = p; stops = λ h. absurd (omega arith) } }
 
   module _ (h : i < length text) where
@@ -119,7 +117,7 @@ module _ {text : List ℕ} {at v i : ℕ} (p : DigitsTo text at v i) where
     pub digits_next : {n : ℕ} → 48 ≤ byte → byte ≤ 57 → n ≡ more → n ≤ most_number → DigitsTo text at n (i + 1)
     digits_next l m s k = record { spells = spells_next p.spells h l m s; small = k }
 
-    pub digits_large : most_number < more → RunIs text at TooLarge
+    pub digits_large : most_number < more → RunIs text at None
     digits_large l =
         let e : spelled 0 (drop at text) ≡ spelled more (drop (i + 1) text)
         = ap (spelled 0) (parted text at i p.spells.low)
@@ -136,12 +134,6 @@ module _ {text : List ℕ} {at v i : ℕ} (p : DigitsTo text at v i) where
       rw (le-leb 1 (length (between at i text)) (omega arith), p.spells.digits, p.spells.value, le-leb v most_number p.small)
 
 -- A whole text.
-
-pub run_is : {text : List ℕ} {at number to : ℕ} {r : Run} → RunIs text at r → r ≡ Digits number to → DigitsAt text at number to
-run_is {text} {at} q e = (subst (λ (x : Run). RunIs text at x) e q).is
-
-pub large_is : {text : List ℕ} {at : ℕ} {r : Run} → RunIs text at r → r ≡ TooLarge → number_in most_number (drop at text) ≡ none
-large_is {text} {at} q e = (subst (λ (x : Run). RunIs text at x) e q).is
 
 module _ {s : List ℕ} {v i : ℕ} (p : DigitsAt s 0 v i) where
   pub spell_other : (i ≡ length s → ⊥) → number_in most_number s ≡ none
@@ -206,8 +198,8 @@ module _ {text : List ℕ} {at digits v k : ℕ} (p : Shorter text at digits v k
         below = omega (arith, ap (λ (n : ℕ). 10 ^ n) (add-one k), pow-suc 10 k, p.below);
       }
 
-  pub short_read : v ≤ most_number → ShortIs text at (Read v (at + k))
+  pub short_read : v ≤ most_number → ShortIs text at (Some (record { number = v; next = at + k }))
   short_read l = record { is = record { passed = record { spells = p.spells; small = l }; behind = omega (arith, p.room, p.few) } }
 
-  pub short_all : digits ≤ k → v ≤ most_number → ShortIs text at (Read v (at + digits))
-  short_all h l = let e : at + k ≡ at + digits = omega (arith, p.few) in subst (λ (i : ℕ). ShortIs text at (Read v i)) e (short_read l)
+  pub short_all : digits ≤ k → v ≤ most_number → ShortIs text at (Some (record { number = v; next = at + digits }))
+  short_all h l = let e : at + k ≡ at + digits = omega (arith, p.few) in subst (λ (i : ℕ). ShortIs text at (Some (record { number = v; next = i }))) e (short_read l)

@@ -1,44 +1,39 @@
 -- What reading a field at a byte answers.
 use Rattle.std.specs.Prelude.{◌≡◌, ℕ, suc, ◌+◌, ◌<◌, ◌≤◌, Bool, true, false, cond, ◌||◌, List, [], ◌∷◌, length, drop, ◌==◌, slice_index, slice_range}
-use Rattle.std.proofs.Math.Option.{Option, none, some}
+use Rattle.std.specs.Prelude.{Option, None, Some, option_map}
+use Rattle.std.proofs.Math.Option as maybe
+use Rattle.std.proofs.Math.Option.{none, some}
 use Rattle.model.specs.Bounds.{most_number}
 use Rattle.model.specs.Lists.{every, is_some}
 use Rattle.model.specs.Fields.{Taken, taken, spelled}
 use Rattle.model.specs.Csv.{Bytes, quote, behind, take_plain, take_quoted, take_field, take_fields}
 use Rattle.model.specs.Weighbridge.{is_digit, number_in}
 use Rattle.csv_fields.specs.declared.Behind.{Behind}
-use Rattle.csv_fields.specs.declared.Behind.TheVariants.{Comma, End, Broken}
-use Rattle.csv_fields.specs.declared.Number.{Number}
-use Rattle.csv_fields.specs.declared.Number.TheVariants.{Value, Nothing}
+use Rattle.csv_fields.specs.declared.Behind.TheVariants.{Comma, End}
 use Rattle.csv_fields.specs.declared.Quoted.{Quoted}
-use Rattle.csv_fields.specs.declared.Quoted.TheVariants.{Closed, Open}
 use Rattle.csv_fields.specs.declared.Field.{Field}
-use Rattle.csv_fields.specs.declared.Field.TheVariants.{Found, Torn}
-use Rattle.csv_fields.specs.declared.Run.{Run}
-use Rattle.csv_fields.specs.declared.Run.TheVariants.{Digits, TooLarge}
-use Rattle.csv_fields.specs.declared.Short.{Short}
-use Rattle.csv_fields.specs.declared.Short.TheVariants.{Read, Other}
+use Rattle.csv_fields.specs.declared.Digits.{Digits}
 use Rattle.csv_fields.specs.declared.Cell.{Cell}
 
--- the enum's cases: a comma, a line end or the end, or neither
-abbrev pub behind_of : List ℕ → Behind → Option (Taken Bool)
-behind_of text (Comma n) = some (taken true (drop n text))
-behind_of text (End n) = some (taken false (drop n text))
-behind_of text Broken = none
+-- a comma, a line end or the end, or neither
+abbrev pub behind_of : List ℕ → Option Behind → maybe.Option (Taken Bool)
+behind_of text (Some (Comma n)) = some (taken true (drop n text))
+behind_of text (Some (End n)) = some (taken false (drop n text))
+behind_of text None = none
 
 -- where the text goes on
-abbrev pub next_of : List ℕ → Behind → ℕ
-next_of text (Comma n) = n
-next_of text (End n) = n
-next_of text Broken = length text
+abbrev pub next_of : List ℕ → Option Behind → ℕ
+next_of text (Some (Comma n)) = n
+next_of text (Some (End n)) = n
+next_of text None = length text
 
 -- a comma is a byte
-abbrev pub step_of : Behind → ℕ
-step_of (Comma n) = 1
-step_of (End n) = 0
-step_of Broken = 0
+abbrev pub step_of : Option Behind → ℕ
+step_of (Some (Comma n)) = 1
+step_of (Some (End n)) = 0
+step_of None = 0
 
-pub record BehindIs (text : List ℕ) (at : ℕ) (r : Behind) : Type 0 where
+pub record BehindIs (text : List ℕ) (at : ℕ) (r : Option Behind) : Type 0 where
   pub is : behind_of text r ≡ behind (drop at text)
   pub within : next_of text r ≤ length text
   pub moves : at < length text → at < next_of text r
@@ -49,9 +44,9 @@ pub record StopsIs (text : List ℕ) (at : ℕ) (r : Bool) : Type 0 where
   pub is : r ≡ (slice_index text at == quote) || is_some (behind (drop at text))
 
 -- a number, or none
-abbrev pub number_of : Number → Option ℕ
-number_of (Value n) = some n
-number_of Nothing = none
+abbrev pub number_of : Option ℕ → maybe.Option ℕ
+number_of (Some n) = some n
+number_of None = none
 
 -- the bytes from one place to another
 abbrev pub between : ℕ → ℕ → List ℕ → List ℕ
@@ -81,11 +76,11 @@ pub record ClosedAt (text : List ℕ) (at to : ℕ) (clean : Bool) : Type 0 wher
   pub is : take_quoted (drop at text) ≡ some (taken bytes (drop (to + 1) text))
   pub holds : Holds text at to clean bytes
 
-abbrev pub QuotedByCase : List ℕ → ℕ → Quoted → Type 0
-QuotedByCase text at (Closed to clean) = ClosedAt text at to clean
-QuotedByCase text at Open = take_quoted (drop at text) ≡ none
+abbrev pub QuotedByCase : List ℕ → ℕ → Option Quoted → Type 0
+QuotedByCase text at (Some q) = ClosedAt text at q.to q.clean
+QuotedByCase text at None = take_quoted (drop at text) ≡ none
 
-pub record QuotedIs (text : List ℕ) (at : ℕ) (r : Quoted) : Type 0 where
+pub record QuotedIs (text : List ℕ) (at : ℕ) (r : Option Quoted) : Type 0 where
   pub is : QuotedByCase text at r
 
 -- the field at a byte
@@ -98,11 +93,11 @@ pub record FoundAt (text : List ℕ) (at from to : ℕ) (clean : Bool) (rest : �
   pub is : take_field (drop at text) ≡ some (taken bytes (drop rest text))
   pub holds : Holds text from to clean bytes
 
-abbrev pub FieldByCase : List ℕ → ℕ → Field → Type 0
-FieldByCase text at (Found from to clean rest) = FoundAt text at from to clean rest
-FieldByCase text at Torn = take_field (drop at text) ≡ none
+abbrev pub FieldByCase : List ℕ → ℕ → Option Field → Type 0
+FieldByCase text at (Some f) = FoundAt text at f.from f.to f.clean f.rest
+FieldByCase text at None = take_field (drop at text) ≡ none
 
-pub record FieldIs (text : List ℕ) (at : ℕ) (r : Field) : Type 0 where
+pub record FieldIs (text : List ℕ) (at : ℕ) (r : Option Field) : Type 0 where
   pub is : FieldByCase text at r
 
 -- the bytes from one place to another are digits, and spell a number
@@ -122,15 +117,15 @@ pub record DigitsAt (text : List ℕ) (at number to : ℕ) : Type 0 where
   pub passed : DigitsTo text at number to
   pub stops : to < length text → is_digit (slice_index text to) ≡ false
 
-abbrev pub RunByCase : List ℕ → ℕ → Run → Type 0
-RunByCase text at (Digits number to) = DigitsAt text at number to
-RunByCase text at TooLarge = number_in most_number (drop at text) ≡ none
+abbrev pub RunByCase : List ℕ → ℕ → Option Digits → Type 0
+RunByCase text at (Some d) = DigitsAt text at d.number d.next
+RunByCase text at None = number_in most_number (drop at text) ≡ none
 
-pub record RunIs (text : List ℕ) (at : ℕ) (r : Run) : Type 0 where
+pub record RunIs (text : List ℕ) (at : ℕ) (r : Option Digits) : Type 0 where
   pub is : RunByCase text at r
 
 -- the field at a byte with its number, and the text that goes on behind it, in the same record or not
-pub record CellAt (text : List ℕ) (at : ℕ) (v : Number) (more : Bool) (next : ℕ) : Type 0 where
+pub record CellAt (text : List ℕ) (at : ℕ) (v : Option ℕ) (more : Bool) (next : ℕ) : Type 0 where
   pub bytes : Bytes
   pub rest : List ℕ
   pub field : take_field (drop at text) ≡ some (taken bytes rest)
@@ -140,36 +135,40 @@ pub record CellAt (text : List ℕ) (at : ℕ) (v : Number) (more : Bool) (next 
   pub on : at + cond more 1 0 ≤ next
   pub moves : at < length text → at < next
 
--- no record goes on or ends here
-abbrev pub CellByCase : List ℕ → ℕ → Number → Behind → Type 0
-CellByCase text at v (Comma n) = CellAt text at v true n
-CellByCase text at v (End n) = CellAt text at v false n
-CellByCase text at v Broken = (k : ℕ) → take_fields (suc k) (drop at text) ≡ none
+-- the same by what stands behind the field
+abbrev pub CellBefore : List ℕ → ℕ → Option ℕ → Behind → Type 0
+CellBefore text at v (Comma n) = CellAt text at v true n
+CellBefore text at v (End n) = CellAt text at v false n
 
-pub record CellIs (text : List ℕ) (at : ℕ) (r : Cell) : Type 0 where
-  pub is : CellByCase text at r.number r.behind
+-- or no record goes on or ends here
+abbrev pub CellByCase : List ℕ → ℕ → Option Cell → Type 0
+CellByCase text at (Some c) = CellBefore text at c.number c.behind
+CellByCase text at None = (k : ℕ) → take_fields (suc k) (drop at text) ≡ none
+
+pub record CellIs (text : List ℕ) (at : ℕ) (r : Option Cell) : Type 0 where
+  pub is : CellByCase text at r
 
 -- the same without the number, whatever it is
-pub record SkippedIs (text : List ℕ) (at : ℕ) (r : Behind) : Type 0 where
-  pub number : Number
-  pub is : CellIs text at (record { number = number; behind = r })
+pub record SkippedIs (text : List ℕ) (at : ℕ) (r : Option Behind) : Type 0 where
+  pub number : Option ℕ
+  pub is : CellIs text at (option_map (λ b. record { number = number; behind = b }) r)
 
 -- digits that were read, if there are any; nothing is said of anything else
 pub record ShortAt (text : List ℕ) (at number to : ℕ) : Type 0 where
   pub passed : DigitsTo text at number to
   pub behind : to < length text
 
-abbrev pub ShortByCase : List ℕ → ℕ → Short → Type 0
-ShortByCase text at (Read number to) = ShortAt text at number to
-ShortByCase text at Other = Unit {0}
+abbrev pub ShortByCase : List ℕ → ℕ → Option Digits → Type 0
+ShortByCase text at (Some d) = ShortAt text at d.number d.next
+ShortByCase text at None = Unit {0}
 
-pub record ShortIs (text : List ℕ) (at : ℕ) (r : Short) : Type 0 where
+pub record ShortIs (text : List ℕ) (at : ℕ) (r : Option Digits) : Type 0 where
   pub is : ShortByCase text at r
 
 -- the same of a whole field, with a comma behind it or not
-abbrev pub ShortCellByCase : List ℕ → ℕ → Bool → Short → Type 0
-ShortCellByCase text at more (Read number next) = CellAt text at (Value number) more next
-ShortCellByCase text at more Other = Unit {0}
+abbrev pub ShortCellByCase : List ℕ → ℕ → Bool → Option Digits → Type 0
+ShortCellByCase text at more (Some d) = CellAt text at (Some d.number) more d.next
+ShortCellByCase text at more None = Unit {0}
 
-pub record ShortCellIs (text : List ℕ) (at : ℕ) (more : Bool) (r : Short) : Type 0 where
+pub record ShortCellIs (text : List ℕ) (at : ℕ) (more : Bool) (r : Option Digits) : Type 0 where
   pub is : ShortCellByCase text at more r

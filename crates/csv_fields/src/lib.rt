@@ -11,84 +11,55 @@ ghost use Rattle.csv_fields.specs.Reading.{BehindIs, StopsIs, PlainEnd, QuotedIs
 pub enum Behind {
     Comma(usize),
     End(usize),
-    Broken,
-}
-
-// A number of plain digits, or none.
-#[derive(Clone, Copy)]
-pub enum Number {
-    Value(u32),
-    Nothing,
 }
 
 // A quoted field behind its opening quote: where it is closed, and whether no quote in it is doubled.
 #[derive(Clone, Copy)]
-enum Quoted {
-    Closed { to: usize, clean: bool },
-    Open,
+struct Quoted {
+    to: usize,
+    clean: bool,
 }
 
 // A field: where its bytes stand, whether no quote in it is doubled, and where the text goes on.
 #[derive(Clone, Copy)]
-pub enum Field {
-    Found {
-        from: usize,
-        to: usize,
-        clean: bool,
-        rest: usize,
-    },
-    Torn,
+pub struct Field {
+    pub from: usize,
+    pub to: usize,
+    pub clean: bool,
+    pub rest: usize,
 }
 
-// Digits from a byte on: their number, and where they end; or a number of more than 32 bits.
+// The number of digits from a byte on, and where the text goes on.
 #[derive(Clone, Copy)]
-enum Run {
-    Digits { number: u32, to: usize },
-    TooLarge,
-}
-
-// At most ten digits with a comma or a line end behind them: their number, and where the text goes on; or anything else.
-#[derive(Clone, Copy)]
-pub enum Short {
-    Read { number: u32, next: usize },
-    Other,
+pub struct Digits {
+    pub number: u32,
+    pub next: usize,
 }
 
 // The number of a field, if it is one, and what stands behind the field.
 #[derive(Clone, Copy)]
 pub struct Cell {
-    pub number: Number,
+    pub number: Option<u32>,
     pub behind: Behind,
 }
 
 // The greatest number (01: 4,294,967,295).
-const MOST: u64 = 4294967295;
+const MOST: u64 = u32::MAX as u64;
 
-// What stands behind a field.
-pub fn behind_at(text: &[u8], at: usize) -> Behind
+// What stands behind a field, unless it is broken.
+pub fn behind_at(text: &[u8], at: usize) -> Option<Behind>
     requires { at ≤ length text.now }
     ensures { BehindIs text.now at result }
 {
     if at == text.len() {
-        return Behind::End(at);
+        return Some(Behind::End(at));
     }
-    let b = text[at];
-    if b == b',' {
-        return Behind::Comma(at + 1);
+    match text[at] {
+        b',' => Some(Behind::Comma(at + 1)),
+        b'\n' => Some(Behind::End(at + 1)),
+        b'\r' if at + 1 < text.len() && text[at + 1] == b'\n' => Some(Behind::End(at + 2)),
+        _ => None,
     }
-    if b == b'\n' {
-        return Behind::End(at + 1);
-    }
-    if b != b'\r' {
-        return Behind::Broken;
-    }
-    if at + 1 == text.len() {
-        return Behind::Broken;
-    }
-    if text[at + 1] != b'\n' {
-        return Behind::Broken;
-    }
-    Behind::End(at + 2)
 }
 
 // Whether an unquoted field ends ahead of a byte. The two tests of order keep the others from becoming a table of jumps.
@@ -126,180 +97,122 @@ fn plain_end(text: &[u8], at: usize) -> usize
     requires { at ≤ length text.now }
     ensures { PlainEnd text.now at result }
 {
-    let mut i = at;
-    while i < text.len() {
+    for i in at..text.len() {
         if stops_at(text, i) {
             return i;
         }
-        i += 1;
     }
-    i
+    text.len()
 }
 
-// Where a quoted field is closed, read from behind its opening quote.
-fn quoted_end(text: &[u8], at: usize) -> Quoted
+// Where a quoted field is closed, read from behind its opening quote; none if it is never closed.
+fn quoted_end(text: &[u8], at: usize) -> Option<Quoted>
     requires { at ≤ length text.now }
     ensures { QuotedIs text.now at result }
 {
     let mut i = at;
     let mut clean = true;
+    // A `while`, since a doubled quote is two bytes.
     while i < text.len() {
-        let b = text[i];
-        if b != b'"' {
+        if text[i] != b'"' {
             i += 1;
         } else {
-            if i + 1 == text.len() {
-                return Quoted::Closed { to: i, clean };
-            }
-            if text[i + 1] != b'"' {
-                return Quoted::Closed { to: i, clean };
+            if i + 1 == text.len() || text[i + 1] != b'"' {
+                return Some(Quoted { to: i, clean });
             }
             clean = false;
             i += 2;
         }
     }
-    Quoted::Open
+    None
 }
 
-// The field at a byte.
-pub fn field_at(text: &[u8], at: usize) -> Field
+// The field at a byte; none if its quote is never closed.
+pub fn field_at(text: &[u8], at: usize) -> Option<Field>
     requires { at ≤ length text.now }
     ensures { FieldIs text.now at result }
 {
-    if at == text.len() {
-        return Field::Found {
+    if at == text.len() || text[at] != b'"' {
+        let to = plain_end(text, at);
+        return Some(Field {
             from: at,
-            to: at,
+            to,
             clean: true,
-            rest: at,
-        };
+            rest: to,
+        });
     }
-    if text[at] != b'"' {
-        let e = plain_end(text, at);
-        return Field::Found {
-            from: at,
-            to: e,
-            clean: true,
-            rest: e,
-        };
-    }
-    let q = quoted_end(text, at + 1);
-    let Quoted::Closed { to: e, clean: c } = q else {
-        return Field::Torn;
-    };
-    Field::Found {
+    let quoted = quoted_end(text, at + 1)?;
+    Some(Field {
         from: at + 1,
-        to: e,
-        clean: c,
-        rest: e + 1,
-    }
+        to: quoted.to,
+        clean: quoted.clean,
+        rest: quoted.to + 1,
+    })
 }
 
-// Digits from a byte on: their number, and where they end. The low four bits of a digit are its value.
-fn digits_at(text: &[u8], at: usize) -> Run
+// Digits from a byte on; none if their number is of more than 32 bits. The low four bits of a digit are its value.
+fn digits_at(text: &[u8], at: usize) -> Option<Digits>
     requires { at ≤ length text.now }
     ensures { RunIs text.now at result }
 {
     let mut v: u64 = 0;
-    let mut i = at;
-    while i < text.len() {
+    for i in at..text.len() {
         let b = text[i];
-        if b < b'0' {
-            return Run::Digits {
+        if b < b'0' || b'9' < b {
+            return Some(Digits {
                 number: v as u32,
-                to: i,
-            };
+                next: i,
+            });
         }
-        if b'9' < b {
-            return Run::Digits {
-                number: v as u32,
-                to: i,
-            };
-        }
-        v = v * 10 + (b % 16) as u64;
+        v = v * 10 + u64::from(b % 16);
         if MOST < v {
-            return Run::TooLarge;
+            return None;
         }
-        i += 1;
     }
-    Run::Digits {
+    Some(Digits {
         number: v as u32,
-        to: i,
-    }
+        next: text.len(),
+    })
 }
 
 // The number that bytes spell, if they are digits and it is of 32 bits.
-fn spell(s: &[u8]) -> Number
+fn spell(s: &[u8]) -> Option<u32>
     ensures { number_of result ≡ number_in most_number s.now }
 {
-    let d = digits_at(s, 0);
-    let Run::Digits { number: n, to: e } = d else {
-        return Number::Nothing;
-    };
-    if e != s.len() {
-        return Number::Nothing;
+    let digits = digits_at(s, 0)?;
+    if digits.next != s.len() || digits.next == 0 {
+        return None;
     }
-    if e == 0 {
-        return Number::Nothing;
-    }
-    Number::Value(n)
+    Some(digits.number)
 }
 
-// The number of the field at a byte, and what stands behind it.
-fn any_cell(text: &[u8], at: usize) -> Cell
+// The number of the field at a byte, and what stands behind it; none if the field or what is behind it is broken.
+fn any_cell(text: &[u8], at: usize) -> Option<Cell>
     requires { at ≤ length text.now }
     ensures { CellIs text.now at result }
 {
-    let f = field_at(text, at);
-    let Field::Found {
-        from: a,
-        to: e,
-        clean: c,
-        rest: r,
-    } = f
-    else {
-        return Cell {
-            number: Number::Nothing,
-            behind: Behind::Broken,
-        };
+    let field = field_at(text, at)?;
+    let behind = behind_at(text, field.rest)?;
+    let number = if field.clean {
+        spell(&text[field.from..field.to])
+    } else {
+        None
     };
-    let b = behind_at(text, r);
-    if c {
-        let n = spell(&text[a..e]);
-        return Cell {
-            number: n,
-            behind: b,
-        };
-    }
-    Cell {
-        number: Number::Nothing,
-        behind: b,
-    }
+    Some(Cell { number, behind })
 }
 
 // The same; digits, which nearly every field is, are read once. `any_cell` is called in one place, so that it is inlined.
-pub fn cell_at(text: &[u8], at: usize) -> Cell
+pub fn cell_at(text: &[u8], at: usize) -> Option<Cell>
     requires { at ≤ length text.now }
     ensures { CellIs text.now at result }
 {
-    let d = digits_at(text, at);
-    if let Run::Digits { number: n, to: e } = d {
-        if at < e {
-            let b = behind_at(text, e);
-            match b {
-                Behind::Comma(next) => {
-                    return Cell {
-                        number: Number::Value(n),
-                        behind: Behind::Comma(next),
-                    };
-                }
-                Behind::End(next) => {
-                    return Cell {
-                        number: Number::Value(n),
-                        behind: Behind::End(next),
-                    };
-                }
-                Behind::Broken => {}
+    if let Some(digits) = digits_at(text, at) {
+        if at < digits.next {
+            if let Some(behind) = behind_at(text, digits.next) {
+                return Some(Cell {
+                    number: Some(digits.number),
+                    behind,
+                });
             }
         }
     }
@@ -307,99 +220,79 @@ pub fn cell_at(text: &[u8], at: usize) -> Cell
 }
 
 // What stands behind the field at a byte; its number is not read.
-pub fn skip_field(text: &[u8], at: usize) -> Behind
+pub fn skip_field(text: &[u8], at: usize) -> Option<Behind>
     requires { at ≤ length text.now }
     ensures { SkippedIs text.now at result }
 {
-    if at == text.len() {
-        return Behind::End(at);
-    }
-    if text[at] != b'"' {
-        let e = plain_end(text, at);
-        return behind_at(text, e);
-    }
-    let q = quoted_end(text, at + 1);
-    let Quoted::Closed { to: e, clean: _ } = q else {
-        return Behind::Broken;
-    };
-    behind_at(text, e + 1)
+    let field = field_at(text, at)?;
+    behind_at(text, field.rest)
 }
 
 // The value of a digit, and more than 9 for any other byte: one test in place of two.
 fn digit_of(b: u8) -> u32
     ensures { result ≤ 9 → b ≡ result + 48 }
 {
-    std::num::wrapping_sub_u32(b as u32, 48)
+    u32::from(b).wrapping_sub(48)
 }
 
-// At most so many digits from a byte on with a byte behind them: their number, and where they end. The count is a parameter and differs
-// from call to call, since a loop of a fixed count is unrolled first and then too long to be inlined.
-fn short_at(text: &[u8], at: usize, digits: usize) -> Short
+// At most so many digits from a byte on with a byte behind them. The count is a parameter and differs from call to call, since a loop of a
+// fixed count is unrolled first and then too long to be inlined.
+fn short_at(text: &[u8], at: usize, digits: usize) -> Option<Digits>
     requires { at ≤ length text.now × digits ≤ 10 }
     ensures { ShortIs text.now at result }
 {
     if text.len() - at <= digits {
-        return Short::Other;
+        return None;
     }
     let mut v: u64 = 0;
-    let mut k = 0;
-    while k < digits {
-        let b = text[at + k];
-        let d = digit_of(b);
+    for k in 0..digits {
+        let d = digit_of(text[at + k]);
         if 9 < d {
-            return Short::Read {
+            return Some(Digits {
                 number: v as u32,
                 next: at + k,
-            };
+            });
         }
-        v = v * 10 + d as u64;
-        k += 1;
+        v = v * 10 + u64::from(d);
     }
     if MOST < v {
-        return Short::Other;
+        return None;
     }
-    Short::Read {
+    Some(Digits {
         number: v as u32,
         next: at + digits,
-    }
+    })
 }
 
-// Digits and a comma: the number of a field that is not the last.
-pub fn short_before_comma(text: &[u8], at: usize, digits: usize) -> Short
+// At most so many digits and a comma: the number of a field that is not the last.
+pub fn short_before_comma(text: &[u8], at: usize, digits: usize) -> Option<Digits>
     requires { at ≤ length text.now × digits ≤ 10 }
     ensures { ShortCellIs text.now at true result }
 {
-    let d = short_at(text, at, digits);
-    let Short::Read { number: n, next: e } = d else {
-        return Short::Other;
-    };
-    if e == at {
-        return Short::Other;
+    let short = short_at(text, at, digits)?;
+    if short.next == at || text[short.next] != b',' {
+        return None;
     }
-    if text[e] != b',' {
-        return Short::Other;
-    }
-    Short::Read {
-        number: n,
-        next: e + 1,
-    }
+    Some(Digits {
+        number: short.number,
+        next: short.next + 1,
+    })
 }
 
-// Digits and a line end: the number of the last field of a record.
-pub fn short_before_end(text: &[u8], at: usize, digits: usize) -> Short
+// At most so many digits and a line end: the number of the last field of a record.
+pub fn short_before_end(text: &[u8], at: usize, digits: usize) -> Option<Digits>
     requires { at ≤ length text.now × digits ≤ 10 }
     ensures { ShortCellIs text.now at false result }
 {
-    let d = short_at(text, at, digits);
-    let Short::Read { number: n, next: e } = d else {
-        return Short::Other;
-    };
-    if e == at {
-        return Short::Other;
+    let short = short_at(text, at, digits)?;
+    if short.next == at {
+        return None;
     }
-    let b = behind_at(text, e);
-    let Behind::End(next) = b else {
-        return Short::Other;
+    let Behind::End(next) = behind_at(text, short.next)? else {
+        return None;
     };
-    Short::Read { number: n, next }
+    Some(Digits {
+        number: short.number,
+        next,
+    })
 }

@@ -1,6 +1,6 @@
 -- The rows from a byte on: the first of them and those behind it. Assumes nothing.
 use Prim.Native.Nat.{ℕ, suc, ◌-◌, ◌≤◌, ◌<◌}
-use mathlib.Core.Path.{◌≡◌, refl, sym, ap, ◌∙◌, subst}
+use mathlib.Core.Path.{◌≡◌, refl, sym, ap, ◌∙◌}
 use mathlib.Core.Option.{Option, none, some}
 use mathlib.Core.List.{List, [], ◌∷◌, ◌++◌}
 use native.Mathlib.Omega.{arith}
@@ -8,17 +8,12 @@ use lib.ListN.{length, drop, length-drop, drop_of_length-le}
 use lib.Seq.{append_snoc}
 use Rattle.model.specs.declared.Delivery.{Delivery}
 use Rattle.model.specs.Lists.{and_then}
-use Rattle.model.specs.Deliveries.{delivery}
 use Rattle.model.specs.Fields.{Taken}
 use Rattle.model.specs.Csv.{Bytes, take_record, take_records}
 use Rattle.model.specs.Weighbridge.{row_of, rows_of}
 use Rattle.model.proofs.CsvLaws.{records_next, records_broken, records_none, rows_next, rows_bad, rows_broken, rows_none}
-use Rattle.csv_rows.specs.declared.Columns.{Columns}
 use Rattle.csv_rows.specs.declared.Row.{Row}
-use Rattle.csv_rows.specs.Rows.{GoodRow, BadRow, RowIs}
-
-pub row_as : {text : List ℕ} {at : ℕ} {c : Columns} {r s : Row} → RowIs text at c r → r ≡ s → RowIs text at c s
-row_as {text} {at} {c} q e = subst (λ (x : Row). RowIs text at c x) e q
+use Rattle.csv_rows.specs.Rows.{GoodRow, BadRow}
 
 -- at most n rows of a text
 abbrev pub rows_in : List Bytes → ℕ → List ℕ → Option (List Delivery)
@@ -38,11 +33,11 @@ module _ (h : List Bytes) (text : List ℕ) {i n : ℕ} (l : i < length text) (e
   one_more_lem : n ≡ suc (n - 1)
   one_more_lem = omega arith
 
-  pub rows_good : {x v z next : ℕ} → GoodRow h text i x v z next → rows_in h n (drop i text) ≡ after (delivery x v z 0) (rows_in h (n - 1) (drop next text))
-  rows_good {x} {v} {z} {next} d =
+  pub rows_good : {r : Row} → GoodRow h text i r → rows_in h n (drop i text) ≡ after r.delivery (rows_in h (n - 1) (drop r.next text))
+  rows_good {r} d =
       ap (λ (m : ℕ). rows_in h m (drop i text)) one_more_lem
-      ∙ ap (rows_of h) (records_next (n - 1) (drop i text) there d.fields (drop next text) d.is)
-      ∙ rows_next h d.fields (take_records (n - 1) (drop next text)) (delivery x v z 0) d.row
+      ∙ ap (rows_of h) (records_next (n - 1) (drop i text) there d.fields (drop r.next text) d.is)
+      ∙ rows_next h d.fields (take_records (n - 1) (drop r.next text)) r.delivery d.row
 
   pub rows_stop : BadRow h (drop i text) → rows_in h n (drop i text) ≡ none
   rows_stop z = ap (λ (m : ℕ). rows_in h m (drop i text)) one_more_lem ∙ go (take_record (drop i text)) refl z.is

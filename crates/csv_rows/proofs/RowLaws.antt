@@ -1,7 +1,9 @@
 -- Reading a row at a byte: a record of the header's columns, with a number in each of the three. Assumes nothing.
 use Prim.Native.Nat.{ℕ, ◌≤◌, ◌<◌}
-use mathlib.Core.Path.{◌≡◌, refl, sym, ap, ◌∙◌, subst}
+use mathlib.Core.Path.{◌≡◌, refl, sym, ap, ◌∙◌}
 use mathlib.Core.Bool.{Bool, true, false, ◌&&◌}
+use Rattle.std.specs.Prelude.{None, Some}
+use Rattle.std.specs.Prelude as rust
 use mathlib.Core.Option.{Option, none, some}
 use mathlib.Core.List.{List}
 use native.Mathlib.Omega.{arith}
@@ -15,25 +17,10 @@ use Rattle.model.specs.Deliveries.{delivery}
 use Rattle.model.specs.Fields.{spelled}
 use Rattle.model.specs.Csv.{Bytes, take_record}
 use Rattle.model.specs.Weighbridge.{grower_name, weight_name, yield_name, is_digit, number_in, number_named, field_at, row_of}
-use Rattle.csv_fields.specs.declared.Number.{Number}
-use Rattle.csv_fields.specs.declared.Number.TheVariants.{Value, Nothing}
 use Rattle.csv_fields.specs.Reading.{number_of}
 use Rattle.csv_rows.specs.declared.Columns.{Columns}
 use Rattle.csv_rows.specs.declared.Record.{Record}
-use Rattle.csv_rows.specs.declared.Record.TheVariants.{Whole, Broken}
-use Rattle.csv_rows.specs.declared.Row.TheVariants.{Good, Bad}
-use Rattle.csv_rows.specs.Rows.{ColumnsOf, ReadAt, RecordIs, BadRow, RowIs}
-
--- what the answer says, case by case
-module _ {text : List ℕ} {at : ℕ} {c : Columns} {r : Record} (q : RecordIs text at c r) where
-  abbrev answer : (s : Record) → r ≡ s → RecordIs text at c s
-  answer s e = subst (λ (x : Record). RecordIs text at c x) e q
-
-  pub whole_is : {count next : ℕ} {g w y : Number} → r ≡ Whole count g w y next → ReadAt text at c count g w y next
-  whole_is {count} {next} {g} {w} {y} e = (answer (Whole count g w y next) e).is
-
-  pub broken_is : r ≡ Broken → take_record (drop at text) ≡ none
-  broken_is e = (answer Broken e).is
+use Rattle.csv_rows.specs.Rows.{ColumnsOf, ReadAt, BadRow, RowIs}
 
 -- A number at most another.
 
@@ -50,13 +37,13 @@ number_bounded most f l = go (leb 1 (length f) && every is_digit f) (spelled 0 f
     go true n true e false k = absurd (omega (arith, leb-true n most e, leb-false n most_number k))
     go true n false e false k = refl
 
-pub none_there : (most : ℕ) {v : Number} → v ≡ Nothing → bounded most (number_of v) ≡ none
+pub none_there : (most : ℕ) {v : rust.Option ℕ} → v ≡ None → bounded most (number_of v) ≡ none
 none_there most e = rw e
 
-pub too_large : (most : ℕ) {v : Number} {n : ℕ} → v ≡ Value n → most < n → bounded most (number_of v) ≡ none
+pub too_large : (most : ℕ) {v : rust.Option ℕ} {n : ℕ} → v ≡ Some n → most < n → bounded most (number_of v) ≡ none
 too_large most {v} {n} e l = rw (e, lt-leb n most l)
 
-pub in_range_lem : (most : ℕ) {v : Number} {n : ℕ} → v ≡ Value n → n ≤ most → bounded most (number_of v) ≡ some n
+pub in_range_lem : (most : ℕ) {v : rust.Option ℕ} {n : ℕ} → v ≡ Some n → n ≤ most → bounded most (number_of v) ≡ some n
 in_range_lem most {v} {n} e l = rw (e, le-leb n most l)
 
 -- A delivery of three numbers.
@@ -77,23 +64,23 @@ row_is : (h fs : List Bytes) (g w y : Option ℕ)
 unfolding row_of
 row_is h fs g w y l p q r = rw (eq-eqb (length fs) (length h) l, p, q, r)
 
-no_row : {text : List ℕ} {at : ℕ} {c : Columns} → ((h : List Bytes) → ColumnsOf h c → BadRow h (drop at text)) → RowIs text at c Bad
+no_row : {text : List ℕ} {at : ℕ} {c : Columns} → ((h : List Bytes) → ColumnsOf h c → BadRow h (drop at text)) → RowIs text at c None
 no_row e = record { within = omega arith; moves = λ z. z; is = e }
 
-pub row_broken : {text : List ℕ} {at : ℕ} {c : Columns} → take_record (drop at text) ≡ none → RowIs text at c Bad
+pub row_broken : {text : List ℕ} {at : ℕ} {c : Columns} → take_record (drop at text) ≡ none → RowIs text at c None
 row_broken e = no_row (λ h k. record { is = rw e })
 
-module _ {text : List ℕ} {at : ℕ} {c : Columns} {count next : ℕ} {g w y : Number} (p : ReadAt text at c count g w y next) where
-  bad : ((h : List Bytes) → ColumnsOf h c → row_of h p.fields ≡ none) → RowIs text at c Bad
+module _ {text : List ℕ} {at : ℕ} {c : Columns} {r : Record} (p : ReadAt text at c r) where
+  bad : ((h : List Bytes) → ColumnsOf h c → row_of h p.fields ≡ none) → RowIs text at c None
   bad e = no_row (λ h k. record { is = rw p.is (e h k) })
 
-  pub row_count : (count ≡ c.count → ⊥) → RowIs text at c Bad
+  pub row_count : (r.count ≡ c.count → ⊥) → RowIs text at c None
   row_count n = bad (λ h k. row_other h p.fields (λ e. n (p.counted ∙ e ∙ sym k.counted)))
 
-  module _ (l : count ≡ c.count) where
-    row_given_lem : (h : List Bytes) → ColumnsOf h c → row_of h p.fields ≡ row_given (number_of g) (number_of w) (number_of y)
+  module _ (l : r.count ≡ c.count) where
+    row_given_lem : (h : List Bytes) → ColumnsOf h c → row_of h p.fields ≡ row_given (number_of r.picks.grower) (number_of r.picks.weight) (number_of r.picks.oil_yield)
     row_given_lem h k =
-        row_is h p.fields (number_of g) (number_of w) (number_of y) (sym p.counted ∙ l ∙ k.counted) (sym (named k.grower p.grower))
+        row_is h p.fields (number_of r.picks.grower) (number_of r.picks.weight) (number_of r.picks.oil_yield) (sym p.counted ∙ l ∙ k.counted) (sym (named k.grower p.grower))
         (in_bound most_weight (omega arith) k.weight p.weight) (in_bound most_yield (omega arith) k.oil p.oil)
       where
         named : {i j : ℕ} {o : Option ℕ} → i ≡ j → o ≡ number_in most_number (field_at i p.fields) → o ≡ number_in most_number (field_at j p.fields)
@@ -103,28 +90,28 @@ module _ {text : List ℕ} {at : ℕ} {c : Columns} {count next : ℕ} {g w y : 
             → number_in most (field_at j p.fields) ≡ bounded most o
         in_bound most {i} {j} m e q = number_bounded most (field_at j p.fields) m ∙ ap (bounded most) (sym (named e q))
 
-    refused : row_given (number_of g) (number_of w) (number_of y) ≡ none → RowIs text at c Bad
+    refused : row_given (number_of r.picks.grower) (number_of r.picks.weight) (number_of r.picks.oil_yield) ≡ none → RowIs text at c None
     refused e = bad (λ h k. row_given_lem h k ∙ e)
 
-    pub row_no_grower : g ≡ Nothing → RowIs text at c Bad
+    pub row_no_grower : r.picks.grower ≡ None → RowIs text at c None
     row_no_grower e = refused (rw e)
 
-    pub row_no_weight : bounded most_weight (number_of w) ≡ none → RowIs text at c Bad
-    row_no_weight e = refused (rw e (go (number_of g)))
+    pub row_no_weight : bounded most_weight (number_of r.picks.weight) ≡ none → RowIs text at c None
+    row_no_weight e = refused (rw e (go (number_of r.picks.grower)))
       where
         go : (o : Option ℕ) → and_then {B = Delivery} o (λ (g : ℕ). none) ≡ none
         go none = refl
         go (some g) = refl
 
-    pub row_no_yield : bounded most_yield (number_of y) ≡ none → RowIs text at c Bad
-    row_no_yield e = refused (rw e (go (number_of g) (bounded most_weight (number_of w))))
+    pub row_no_yield : bounded most_yield (number_of r.picks.oil_yield) ≡ none → RowIs text at c None
+    row_no_yield e = refused (rw e (go (number_of r.picks.grower) (bounded most_weight (number_of r.picks.weight))))
       where
         go : (o q : Option ℕ) → and_then {B = Delivery} o (λ (g : ℕ). and_then q (λ (w : ℕ). none)) ≡ none
         go none q = refl
         go (some g) none = refl
         go (some g) (some w) = refl
 
-    pub row_good : {x v z : ℕ} → g ≡ Value x → bounded most_weight (number_of w) ≡ some v → bounded most_yield (number_of y) ≡ some z → RowIs text at c (Good x v z next)
+    pub row_good : {x v z : ℕ} → r.picks.grower ≡ Some x → bounded most_weight (number_of r.picks.weight) ≡ some v → bounded most_yield (number_of r.picks.oil_yield) ≡ some z → RowIs text at c (Some (record { delivery = delivery x v z 0; next = r.next }))
     row_good {x} {v} {z} e f i = record {
       within = p.within;
       moves = p.moves;

@@ -1,20 +1,20 @@
 -- All rows from a byte on, judged one after the other and stored in their order. Assumes nothing.
 use Prim.Native.Nat.{ℕ, suc, ◌+◌, ◌-◌, ◌≤◌, ◌<◌}
 use mathlib.Core.Path.{◌≡◌, refl, sym, ap, ap₂, ◌∙◌, subst}
+use Rattle.std.specs.Prelude.{None, Some, min}
+use Rattle.std.specs.Prelude as rust
 use mathlib.Core.Option.{Option, none, some}
 use mathlib.Core.List.{List, [], ◌∷◌, ◌++◌, append-nil, map}
 use native.Mathlib.Omega.{arith}
 use lib.ListN.{length, get_or, drop, set, length-drop, length-append, length-map, length-set}
 use lib.Seq.{append_snoc, drop-cons, set_at}
 use Rattle.model.specs.declared.Delivery.{Delivery}
-use Rattle.model.specs.Deliveries.{delivery, grower_of, weight_of, yield_of}
+use Rattle.model.specs.Deliveries.{grower_of, weight_of, yield_of}
 use Rattle.model.specs.Csv.{Bytes}
 use Rattle.model.specs.SnapshotCalls.{slots_read}
 use Rattle.csv_rows.specs.declared.Columns.{Columns}
-use Rattle.csv_rows.specs.declared.Row.TheVariants.{Good, Bad}
-use Rattle.csv_rows.specs.declared.Judged.{Judged}
-use Rattle.csv_rows.specs.declared.Judged.TheVariants.{AllGood, OneBad}
-use Rattle.csv_rows.specs.Rows.{ColumnsOf, GoodRow, GoodRows, RowIs, rows_from, Storable, Filled, Stored, RoomFor, ReadRows, LeastIs}
+use Rattle.csv_rows.specs.declared.Row.{Row}
+use Rattle.csv_rows.specs.Rows.{ColumnsOf, GoodRow, GoodRows, RowIs, rows_from, Storable, Filled, Stored, RoomFor, ReadRows}
 use Rattle.csv_rows.proofs.JudgeLaws.{rows_in, rows_end, rows_good, rows_stop, behind_rows, one_row, no_rows}
 
 -- one slot more
@@ -82,14 +82,14 @@ module _ {text : List ℕ} {at : ℕ} {c : Columns} {room : ℕ} {gs ws ys gs' w
     from_here o e = q.is ∙ ap (behind_rows q.rows) e
 
     -- one row more, whatever became of the slices
-    row_next : {x v z next : ℕ} {gn wn yn : List ℕ} → i < length text → i < next → GoodRow h text i x v z next
-        → (m + 1 ≤ room → Filled (q.rows ++ delivery x v z 0 ∷ []) gs ws ys gn wn yn) → Rowed h text at room gs ws ys gn wn yn next (m + 1)
-    row_next {x} {v} {z} {next} l s d f = record {
-      rows = q.rows ++ delivery x v z 0 ∷ [];
+    row_next : {r : Row} {gn wn yn : List ℕ} → i < length text → i < r.next → GoodRow h text i r
+        → (m + 1 ≤ room → Filled (q.rows ++ r.delivery ∷ []) gs ws ys gn wn yn) → Rowed h text at room gs ws ys gn wn yn r.next (m + 1)
+    row_next {r} l s d f = record {
+      rows = q.rows ++ r.delivery ∷ [];
       fuel = q.fuel - 1;
       enough = omega (arith, q.enough);
-      is = from_here _ (rows_good h text l q.enough d) ∙ one_row q.rows (delivery x v z 0) (rows_in h (q.fuel - 1) (drop next text));
-      counted = omega (arith, q.counted, length-append q.rows (delivery x v z 0 ∷ []));
+      is = from_here _ (rows_good h text l q.enough d) ∙ one_row q.rows r.delivery (rows_in h (q.fuel - 1) (drop r.next text));
+      counted = omega (arith, q.counted, length-append q.rows (r.delivery ∷ []));
       filled = f;
     }
 
@@ -105,19 +105,19 @@ module _ {text : List ℕ} {at : ℕ} {c : Columns} {room : ℕ} {gs ws ys gs' w
     no_more : length text ≤ i → rows_from h at text ≡ some q.rows
     no_more l = from_here (some []) (rows_end h q.fuel text i l) ∙ ap some (append-nil q.rows)
 
-  module _ {x v z next : ℕ} (l : i < length text) (r : RowIs text i c (Good x v z next)) where
-    pub read_stored : m < room → Reading text at c room gs ws ys (set gs' m x) (set ws' m v) (set ys' m z) next (m + 1)
+  module _ {new : Row} (l : i < length text) (r : RowIs text i c (Some new)) where
+    pub read_stored : m < room → Reading text at c room gs ws ys (set gs' m new.delivery.grower) (set ws' m new.delivery.weight) (set ys' m new.delivery.oil_yield) new.next (m + 1)
     read_stored s = record {
       slots = p.slots;
       high = r.within;
       few = omega (arith, p.few, r.moves l);
-      size_growers = length-set gs' m x ∙ p.size_growers;
-      size_weights = length-set ws' m v ∙ p.size_weights;
-      size_yields = length-set ys' m z ∙ p.size_yields;
-      each = λ h k. let q = p.each h k in row_next h q l (r.moves l) (r.is h k) (λ e. slots_next h q (delivery x v z 0) s);
+      size_growers = length-set gs' m new.delivery.grower ∙ p.size_growers;
+      size_weights = length-set ws' m new.delivery.weight ∙ p.size_weights;
+      size_yields = length-set ys' m new.delivery.oil_yield ∙ p.size_yields;
+      each = λ h k. let q = p.each h k in row_next h q l (r.moves l) (r.is h k) (λ e. slots_next h q new.delivery s);
     }
 
-    pub read_passed : room ≤ m → Reading text at c room gs ws ys gs' ws' ys' next (m + 1)
+    pub read_passed : room ≤ m → Reading text at c room gs ws ys gs' ws' ys' new.next (m + 1)
     read_passed s = record {
       slots = p.slots;
       high = r.within;
@@ -128,13 +128,13 @@ module _ {text : List ℕ} {at : ℕ} {c : Columns} {room : ℕ} {gs ws ys gs' w
       each = λ h k. row_next h (p.each h k) l (r.moves l) (r.is h k) (λ e. absurd (omega arith));
     }
 
-  pub read_bad : i < length text → RowIs text i c Bad → ReadRows text at c room gs ws ys OneBad gs' ws' ys'
+  pub read_bad : i < length text → RowIs text i c None → ReadRows text at c room gs ws ys None gs' ws' ys'
   read_bad l r = record { judged = record { is = none_of }; stored = λ h k ds e f. not_none (sym (none_of h k) ∙ e) }
     where
       none_of : (h : List Bytes) → ColumnsOf h c → rows_from h at text ≡ none
       none_of h k = let q = p.each h k in from_here h q none (rows_stop h text l q.enough (r.is h k))
 
-  pub read_end : length text ≤ i → ReadRows text at c room gs ws ys (AllGood m) gs' ws' ys'
+  pub read_end : length text ≤ i → ReadRows text at c room gs ws ys (Some m) gs' ws' ys'
   read_end l = record {
     judged = record { is = λ h k. let q = p.each h k in record { rows = q.rows; is = no_more h q l; counted = q.counted } };
     stored = λ h k ds e f. these h (p.each h k) ds e f;
@@ -155,12 +155,11 @@ counted_as ds q e =
     let w : q.rows ≡ ds = cc in q.counted ∙ ap length w
 
 module _ {text : List ℕ} {at : ℕ} {c : Columns} {gs ws ys : List ℕ} (s : Storable text at c gs ws ys) {room : ℕ}
-    (n : LeastIs (length gs) (length ws) (length ys) room) {gs' ws' ys' : List ℕ} where
-  pub all_stored : (r : Judged) → ReadRows text at c room gs ws ys r gs' ws' ys' → Stored text at c gs ws ys gs' ws' ys'
-  all_stored (AllGood m) p = record {
+    (n : room ≡ min (min (length gs) (length ws)) (length ys)) {gs' ws' ys' : List ℕ} where
+  pub all_stored : (r : rust.Option ℕ) → ReadRows text at c room gs ws ys r gs' ws' ys' → Stored text at c gs ws ys gs' ws' ys'
+  all_stored (Some m) p = record {
     is = λ h k ds e.
         let own = counted_as s.rows (p.judged.is s.header s.columns) s.is in
-        let l = n.most (length s.rows) s.fits_growers s.fits_weights s.fits_yields in
-        p.stored h k ds e (omega (arith, own, l, counted_as ds (p.judged.is h k) e));
+        p.stored h k ds e (omega (arith, own, n, s.fits_growers, s.fits_weights, s.fits_yields, counted_as ds (p.judged.is h k) e));
   }
-  all_stored OneBad p = record { is = λ h k ds e. not_none (sym (p.judged.is h k) ∙ e) }
+  all_stored None p = record { is = λ h k ds e. not_none (sym (p.judged.is h k) ∙ e) }
