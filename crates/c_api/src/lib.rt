@@ -24,7 +24,7 @@ ghost use Rattle.dates.specs.DateCalls.{day_call, date_call, term_call};
 
 use dates::{DateAnswer, DayAnswer, TermAnswer};
 use model::{
-    Answer, Applied, Costed, Counts, Delivery, GrowerAnswer, Imported, Limits, Listed,
+    Answer, Applied, Costed, Counts, Delivery, GrowerAnswer, Imported, LentSlices, Limits, Listed,
     PartitionSlice, Planned, PriceCard, Tally, Written,
 };
 
@@ -555,7 +555,7 @@ pub extern "C" fn meltusk_import_csv(
     ensures { record { answer = result; slices = slices_out growers weights yields days }
         ≡ import_call text.now (slices_in_mut growers weights yields days) }
 {
-    csv_calls::import(text, growers, weights, yields, days)
+    csv_calls::import(text, growers, weights, yields, days).into()
 }
 
 // Exports the first slots as a weighbridge file.
@@ -571,7 +571,13 @@ pub extern "C" fn meltusk_export_csv(
     ensures { record { answer = result; text = text.new }
         ≡ export_call used (slices_in growers weights yields days) text.old }
 {
-    csv_calls::export(used, growers, weights, yields, days, text)
+    let slices = LentSlices {
+        growers,
+        weights,
+        yields,
+        days,
+    };
+    csv_calls::export(used, slices, text).into()
 }
 
 // The day number of a date.

@@ -1,104 +1,79 @@
--- The header's three columns, once each name was looked for. Assumes nothing.
+-- The header's three columns, once each name was found.
 use Prim.Native.Nat.{ℕ, ◌≤◌}
-use mathlib.Core.Path.{◌≡◌, refl, ap, ◌∙◌}
-use mathlib.Core.Bool.{Bool, true, false, ◌&&◌}
-use mathlib.Core.Option.{Option, none, some}
+use mathlib.Core.Path.{◌≡◌, sym, ap, ◌∙◌, subst}
+use mathlib.Core.Bool.{true, false, ◌&&◌}
+use mathlib.Core.Option.{none, some}
 use mathlib.Core.List.{List, [], ◌∷◌}
 use native.Mathlib.Omega.{arith}
-use lib.Dec.{leb, leb→le}
+use lib.Dec.{leb}
+use lib.ListN.{drop}
 use Rattle.model.specs.Checks.{ask}
 use Rattle.model.specs.Fields.{Taken, taken}
 use Rattle.model.specs.Csv.{Bytes, take_record}
 use Rattle.model.specs.Weighbridge.{grower_name, weight_name, yield_name, header_named, header_once}
-use Rattle.model.proofs.Tests.{and_fst, and_snd, of_true}
 use Rattle.checks.proofs.Answers.{fails, passes, none_failed}
-use Rattle.csv_rows.specs.declared.Columns.{Columns}
 use Rattle.csv_calls.specs.declared.Named.{Named}
-use Rattle.csv_calls.specs.declared.Header.{Header}
-use Rattle.csv_calls.specs.Checking.{NamedIn, NamedByCase, NamedIs, no_columns, HeaderAt, HeaderIs}
+use Rattle.csv_calls.specs.Checking.{NameAmong, NamedIn, header_refusal, HeaderAt}
 
--- the header has a broken quote, or it is there and has what was found of each name
-pub data Looked (text : List ℕ) (g w y : Named) : Type 0 where
-  broken : take_record text ≡ none → g.times ≡ 0 → Looked text g w y
-  there : (h : Taken (List Bytes))
-      → take_record text ≡ some h
-      → NamedIn text grower_name g h
-      → NamedIn text weight_name w h
-      → NamedIn text yield_name y h
-      → Looked text g w y
-
-pub looked : {text : List ℕ} {g w y : Named} → NamedIs text grower_name g → NamedIs text weight_name w → NamedIs text yield_name y → Looked text g w y
-looked {text} {g} {w} {y} p q r = go (take_record text) refl p.is q.is r.is
-  where
-    go : (o : Option (Taken (List Bytes))) → take_record text ≡ o → NamedByCase text grower_name g o → NamedByCase text weight_name w o → NamedByCase text yield_name y o
-        → Looked text g w y
-    go none e p q r = broken e p
-    go (some h) e p q r = there h e p q r
-
-abbrev columns : Named → Named → Named → Columns
-columns g w y = record { grower = g.column; weight = w.column; oil_yield = y.column; count = g.count }
-
-abbrev named : Named → Named → Named → Bool
-named g w y = leb 1 g.times && leb 1 w.times && leb 1 y.times
-
-abbrev once : Named → Named → Named → Bool
-once g w y = leb g.times 1 && leb w.times 1 && leb y.times 1
-
--- each of them is in the header
-record Each (g w y : Named) : Type 0 where
-  grower : 1 ≤ g.times
-  weight : 1 ≤ w.times
-  oil : 1 ≤ y.times
-
-each : {g w y : Named} → named g w y ≡ true → Each g w y
-each {g} {w} {y} e =
-    let a = leb 1 g.times in
-    let b = leb 1 w.times in
-    let c = leb 1 y.times in
-    let t = of_true (a && b && c) e in
-    let u = and_fst (a && b) c t in
-    record { grower = leb→le _ _ (and_fst a b u); weight = leb→le _ _ (and_snd a b u); oil = leb→le _ _ (and_snd (a && b) c t) }
-
-named_is : {text : List ℕ} {g w y : Named} → Looked text g w y → header_named text ≡ named g w y
+-- a header with a broken quote has no name
+pub header_torn : (text : List ℕ) → take_record text ≡ none → 16 ≡ header_refusal text
 unfolding header_named
-named_is (broken e z) = rw (e, z)
-named_is (there h e a b c) = rw (e, a.among.times, b.among.times, c.among.times)
+header_torn text e = fails 16 (header_named text) (ask 17 (header_once text) ∷ []) (rw e)
 
-once_is : {text : List ℕ} {g w y : Named} → Looked text g w y → 1 ≤ g.times → header_once text ≡ once g w y
-unfolding header_once
-once_is (broken e z) n = absurd (omega arith)
-once_is (there h e a b c) n = rw (e, a.among.times, b.among.times, c.among.times)
+-- Three numbers: each at least 1, each at most 1.
 
-header_at : {text : List ℕ} {g w y : Named} → Looked text g w y → Each g w y → HeaderAt text (columns g w y) g.next
-header_at (broken e z) n = absurd (omega (arith, n.grower))
-header_at (there h e a b c) n = record {
-  header = h.value;
-  is = e ∙ ap (λ (u : List ℕ). some (taken h.value u)) a.rest;
-  columns = record { grower = a.among.first n.grower; weight = b.among.first n.weight; oil = c.among.first n.oil; counted = a.among.counted };
-  within = a.within;
-}
+each_fails : (a b c : ℕ) → (1 ≤ a → 1 ≤ b → 1 ≤ c → ⊥) → leb 1 a && leb 1 b && leb 1 c ≡ false
+each_fails a b c n = grind arith
 
--- What reading the header answers.
-module _ {text : List ℕ} {g w y : Named} (l : Looked text g w y) where
-  pub header_absent : {r : Header} → named g w y ≡ false → r ≡ no_columns 16 → HeaderIs text r
-  header_absent e d = record {
-    refused = ap (λ (r : Header). r.refusal) d ∙ fails 16 (header_named text) (ask 17 (header_once text) ∷ []) (named_is l ∙ e);
-    accepted = λ z. absurd (omega (arith, z, ap (λ (r : Header). r.refusal) d));
-  }
+each_holds : (a b c : ℕ) → 1 ≤ a → 1 ≤ b → 1 ≤ c → leb 1 a && leb 1 b && leb 1 c ≡ true
+each_holds a b c p q r = grind arith
 
-  module _ (n : named g w y ≡ true) where
-    in_header : Each g w y
-    in_header = each n
+single_fails : (a b c : ℕ) → (a ≤ 1 → b ≤ 1 → c ≤ 1 → ⊥) → leb a 1 && leb b 1 && leb c 1 ≡ false
+single_fails a b c n = grind arith
 
-    pub header_twice : {r : Header} → once g w y ≡ false → r ≡ no_columns 17 → HeaderIs text r
-    header_twice e d = record {
-      refused = ap (λ (r : Header). r.refusal) d
-          ∙ passes 16 17 (header_named text) _ (named_is l ∙ n) (fails 17 (header_once text) [] (once_is l in_header.grower ∙ e));
-      accepted = λ z. absurd (omega (arith, z, ap (λ (r : Header). r.refusal) d));
-    }
+single_holds : (a b c : ℕ) → a ≤ 1 → b ≤ 1 → c ≤ 1 → leb a 1 && leb b 1 && leb c 1 ≡ true
+single_holds a b c p q r = grind arith
 
-    pub header_good : once g w y ≡ true → HeaderIs text (record { refusal = 0; columns = columns g w y; next = g.next })
-    header_good e = record {
-      refused = passes 16 0 (header_named text) _ (named_is l ∙ n) (passes 17 0 (header_once text) [] (once_is l in_header.grower ∙ e) none_failed);
-      accepted = λ z. header_at l in_header;
+-- What reading the header answers, with the three names found.
+module _ {text : List ℕ} {g w y : Named} (a : NamedIn text grower_name g) (b : NamedIn text weight_name w) (c : NamedIn text yield_name y) where
+  weights : NameAmong weight_name a.header w
+  weights =
+      let e : some (taken b.header (drop w.next text)) ≡ some (taken a.header (drop g.next text)) = sym b.is ∙ a.is in
+      let t : taken b.header (drop w.next text) ≡ taken a.header (drop g.next text) = cc in
+      let h : b.header ≡ a.header = ap (λ (t : Taken (List Bytes)). t.value) t in subst (λ (h : List Bytes). NameAmong weight_name h w) h b.among
+
+  yields : NameAmong yield_name a.header y
+  yields =
+      let e : some (taken c.header (drop y.next text)) ≡ some (taken a.header (drop g.next text)) = sym c.is ∙ a.is in
+      let t : taken c.header (drop y.next text) ≡ taken a.header (drop g.next text) = cc in
+      let h : c.header ≡ a.header = ap (λ (t : Taken (List Bytes)). t.value) t in subst (λ (h : List Bytes). NameAmong yield_name h y) h c.among
+
+  named_is : header_named text ≡ leb 1 g.times && leb 1 w.times && leb 1 y.times
+  unfolding header_named
+  named_is = rw (a.is, a.among.times, weights.times, yields.times)
+
+  once_is : header_once text ≡ leb g.times 1 && leb w.times 1 && leb y.times 1
+  unfolding header_once
+  once_is = rw (a.is, a.among.times, weights.times, yields.times)
+
+  pub header_absent : (1 ≤ g.times → 1 ≤ w.times → 1 ≤ y.times → ⊥) → 16 ≡ header_refusal text
+  header_absent n = fails 16 (header_named text) (ask 17 (header_once text) ∷ []) (named_is ∙ each_fails g.times w.times y.times n)
+
+  module _ (p : 1 ≤ g.times) (q : 1 ≤ w.times) (r : 1 ≤ y.times) where
+    named_holds : header_named text ≡ true
+    named_holds = named_is ∙ each_holds g.times w.times y.times p q r
+
+    pub header_twice : (g.times ≤ 1 → w.times ≤ 1 → y.times ≤ 1 → ⊥) → 17 ≡ header_refusal text
+    header_twice n = passes 16 17 (header_named text) _ named_holds (fails 17 (header_once text) [] (once_is ∙ single_fails g.times w.times y.times n))
+
+    pub header_passed : g.times ≤ 1 → w.times ≤ 1 → y.times ≤ 1 → 0 ≡ header_refusal text
+    header_passed i j k =
+        passes 16 0 (header_named text) _ named_holds (passes 17 0 (header_once text) [] (once_is ∙ single_holds g.times w.times y.times i j k) none_failed)
+
+    pub header_good : HeaderAt text (record { columns = record { grower = g.column; weight = w.column; oil_yield = y.column; count = g.count }; next = g.next })
+    header_good = record {
+      header = a.header;
+      is = a.is;
+      columns = record { grower = a.among.first p; weight = weights.first q; oil = yields.first r; counted = a.among.counted };
+      within = a.within;
     }

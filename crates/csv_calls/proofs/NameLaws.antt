@@ -1,67 +1,33 @@
--- A name compared with a field, and counted column by column. Assumes nothing.
+-- A name compared with a field, and counted column by column.
 use Prim.Native.Nat.{ℕ, suc, ◌+◌, ◌-◌, ◌≤◌, ◌<◌}
 use mathlib.Core.Path.{◌≡◌, refl, sym, ap, ap₂, ◌∙◌}
 use mathlib.Core.Bool.{Bool, true, false, cond, ◌&&◌, ◌||◌}
-use mathlib.Core.Option.{Option, none, some}
+use mathlib.Core.Option.{none, some}
 use mathlib.Core.List.{List, [], ◌∷◌, ◌++◌}
 use native.Mathlib.Omega.{arith}
-use borrow.Author.Tests.{eq-eqb, ne_eqb, eqb-true, eqb-false}
+use borrow.Author.Tests.{eqb-true, eqb-false}
 use lib.Dec.{eqb}
-use lib.ListN.{length, get_or, drop, length-append}
+use lib.ListN.{length, drop, length-append}
 use Rattle.model.specs.Lists.{same_list}
-use Rattle.model.specs.Fields.{Taken, taken}
-use Rattle.model.specs.Csv.{Bytes, quote, take_field, take_record}
+use Rattle.model.specs.Fields.{taken}
+use Rattle.model.specs.Csv.{Bytes, quote, take_field}
 use Rattle.model.specs.Weighbridge.{times_named, column_named}
 use Rattle.model.proofs.CsvLaws.{fields_torn, fields_broken}
-use Rattle.csv_fields.specs.declared.Behind.TheVariants.{Comma, End, Broken}
+use Rattle.std.specs.Prelude.{None, Some}
+use Rattle.std.specs.Str.{bytes_eq}
+use Rattle.csv_fields.specs.declared.Behind.TheVariants.{Comma, End}
 use Rattle.csv_fields.specs.Reading.{BehindIs, between, holds_quote, FoundAt}
-use Rattle.csv_fields.proofs.CursorLaws.{here_cons, nothing_left}
 use Rattle.csv_fields.proofs.PassedLaws.{FieldsPassed, none_passed, record_broken, field_passed, record_ended}
 use Rattle.csv_calls.specs.declared.Named.{Named}
-use Rattle.csv_calls.specs.Checking.{IsName, with_column, NameAmong, NamedByCase, NamedIs}
+use Rattle.csv_calls.specs.Checking.{IsName, with_column, NameAmong, NamedIs}
 
--- Two texts compared byte by byte: the bytes from here on decide.
-
-pub record Alike (s t : List ℕ) (i : ℕ) : Type 0 where
-  pub high : i ≤ length s
-  pub even : length t ≡ length s
-  pub is : same_list s t ≡ same_list (drop i s) (drop i t)
-
-pub unequal : (s t : List ℕ) → (length s ≡ length t → ⊥) → false ≡ same_list s t
+-- `==` of two texts
+pub same_is : (s t : List ℕ) → bytes_eq s t ≡ same_list s t
 unfolding same_list
-unequal [] [] n = absurd (n refl)
-unequal [] (b ∷ t) n = refl
-unequal (a ∷ s) [] n = refl
-unequal (a ∷ s) (b ∷ t) n = rw (sym (unequal s t (λ e. n (ap suc e)))) (go (eqb a b))
-  where
-    go : (x : Bool) → false ≡ x && false
-    go true = refl
-    go false = refl
-
-pub alike_start : (s t : List ℕ) → length s ≡ length t → Alike s t 0
-alike_start s t e = record { high = omega arith; even = sym e; is = refl }
-
-cons_other : (a b : ℕ) (s t : List ℕ) → (a ≡ b → ⊥) → same_list (a ∷ s) (b ∷ t) ≡ false
-unfolding same_list
-cons_other a b s t n = rw (ne_eqb a b n)
-
-cons_same : (a b : ℕ) (s t : List ℕ) → a ≡ b → same_list (a ∷ s) (b ∷ t) ≡ same_list s t
-unfolding same_list
-cons_same a b s t e = rw (eq-eqb a b e)
-
-module _ {s t : List ℕ} {i : ℕ} (p : Alike s t i) where
-  both : i < length s → same_list s t ≡ same_list (get_or s i 0 ∷ drop (i + 1) s) (get_or t i 0 ∷ drop (i + 1) t)
-  both h = p.is ∙ ap₂ same_list (here_cons s i h) (here_cons t i (omega (arith, p.even)))
-
-  pub alike_other : i < length s → (get_or s i 0 ≡ get_or t i 0 → ⊥) → false ≡ same_list s t
-  alike_other h n = sym (both h ∙ cons_other (get_or s i 0) (get_or t i 0) (drop (i + 1) s) (drop (i + 1) t) n)
-
-  pub alike_next : i < length s → get_or s i 0 ≡ get_or t i 0 → Alike s t (i + 1)
-  alike_next h e = record { high = omega arith; even = p.even; is = both h ∙ cons_same (get_or s i 0) (get_or t i 0) (drop (i + 1) s) (drop (i + 1) t) e }
-
-  pub alike_all : length s ≤ i → true ≡ same_list s t
-  unfolding same_list
-  alike_all h = sym (p.is ∙ ap₂ same_list (nothing_left s i h) (nothing_left t i (omega (arith, p.even))))
+same_is [] [] = refl
+same_is [] (b ∷ t) = refl
+same_is (a ∷ s) [] = refl
+same_is (a ∷ s) (b ∷ t) = ap (λ (x : Bool). eqb a b && x) (same_is s t)
 
 -- A field with a quote is no name.
 
@@ -168,20 +134,16 @@ header_start text name = record {
   among = record { times = refl; first = λ h. absurd (omega arith); counted = refl };
 }
 
--- what find_name answers, once it is known what the header is
-named_of : {text : List ℕ} {name : Bytes} {s : Named} (o : Option (Taken (List Bytes))) → take_record text ≡ o → NamedByCase text name s o → NamedIs text name s
-named_of o e n = record { is = rw e n }
-
 module _ {text : List ℕ} {name : Bytes} {s : Named} (p : HeaderSo text name s) where
   abbrev here : List ℕ
   here = drop s.next text
 
-  pub header_torn : take_field here ≡ none → NamedIs text name no_column
-  header_torn e = named_of none (record_broken p.passed (λ n. fields_torn n here e)) refl
+  pub header_torn : take_field here ≡ none → NamedIs text name None
+  header_torn e = record { is = record_broken p.passed (λ n. fields_torn n here e) }
 
   module _ {from to rest : ℕ} {clean : Bool} (f : FoundAt text s.next from to clean rest) where
-    pub header_broken : BehindIs text rest Broken → NamedIs text name no_column
-    header_broken q = named_of none (record_broken p.passed (λ n. fields_broken n here f.bytes (drop rest text) f.is (sym q.is))) refl
+    pub header_broken : BehindIs text rest None → NamedIs text name None
+    header_broken q = record { is = record_broken p.passed (λ n. fields_broken n here f.bytes (drop rest text) f.is (sym q.is)) }
 
     module _ {x : Bool} (i : IsName text from to clean name x) {n : ℕ} {r : Named} (d : r ≡ with_column s x (s.count + 1) n) where
       among' : NameAmong name (p.fields ++ f.bytes ∷ []) r
@@ -197,10 +159,10 @@ module _ {text : List ℕ} {name : Bytes} {s : Named} (p : HeaderSo text name s)
           go true e = omega (arith, e, ap (λ (r : Named). r.count) d, p.fewer)
           go false e = omega (arith, e, ap (λ (r : Named). r.count) d, p.fewer)
 
-      pub header_less : BehindIs text rest (Comma n) → length text + 1 - r.next < length text + 1 - s.next
+      pub header_less : BehindIs text rest (Some (Comma n)) → length text + 1 - r.next < length text + 1 - s.next
       header_less z = omega (arith, goes_on, f.on, z.on, z.within)
 
-      pub header_comma : BehindIs text rest (Comma n) → HeaderSo text name r
+      pub header_comma : BehindIs text rest (Some (Comma n)) → HeaderSo text name r
       header_comma z = record {
         fewer = fewer';
         fields = p.fields ++ f.bytes ∷ [];
@@ -208,8 +170,12 @@ module _ {text : List ℕ} {name : Bytes} {s : Named} (p : HeaderSo text name s)
         among = among';
       }
 
-      pub header_end : BehindIs text rest (End n) → NamedIs text name r
-      header_end z =
-          named_of (some (taken (p.fields ++ f.bytes ∷ []) (drop n text)))
-          (record_ended p.passed n f.is (sym z.is))
-          (record { among = among'; rest = ap (λ (k : ℕ). drop k text) (sym goes_on); within = omega (arith, goes_on, z.within) })
+      pub header_end : BehindIs text rest (Some (End n)) → NamedIs text name (Some r)
+      header_end z = record {
+        is = record {
+          header = p.fields ++ f.bytes ∷ [];
+          is = record_ended p.passed n f.is (sym z.is) ∙ ap (λ (k : ℕ). some (taken (p.fields ++ f.bytes ∷ []) (drop k text))) (sym goes_on);
+          among = among';
+          within = omega (arith, goes_on, z.within);
+        };
+      }

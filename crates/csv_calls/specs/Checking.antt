@@ -1,13 +1,13 @@
 -- What checking a text answers: in which columns its header has a name, its three columns, and its rows.
 use Rattle.std.specs.Prelude.{ℕ, ◌+◌, ◌≤◌, ◌≡◌, Bool, cond, List, [], ◌∷◌, length, drop, leb, eqb}
-use Rattle.std.proofs.Math.Option.{Option, none, some}
+use Rattle.std.specs.Prelude.{Option, None, Some}
+use Rattle.std.proofs.Math.Option.{none, some}
 use Rattle.model.specs.Lists.{same_list, is_some}
 use Rattle.model.specs.Checks.{ask, first_failed}
-use Rattle.model.specs.Fields.{Taken, taken}
+use Rattle.model.specs.Fields.{taken}
 use Rattle.model.specs.Csv.{Bytes, take_record}
 use Rattle.model.specs.Weighbridge.{times_named, column_named, header_named, header_once, read_rows, row_count}
 use Rattle.csv_fields.specs.Reading.{Holds}
-use Rattle.csv_rows.specs.declared.Columns.{Columns}
 use Rattle.csv_rows.specs.Rows.{ColumnsOf, GoodRows}
 use Rattle.csv_calls.specs.declared.Named.{Named}
 use Rattle.csv_calls.specs.declared.Header.{Header}
@@ -32,53 +32,38 @@ pub record NameAmong (name : Bytes) (fs : List Bytes) (s : Named) : Type 0 where
   pub counted : s.count ≡ length fs
 
 -- a name in a header, and where the text goes on
-pub record NamedIn (text : List ℕ) (name : Bytes) (s : Named) (h : Taken (List Bytes)) : Type 0 where
-  pub among : NameAmong name h.value s
-  pub rest : h.rest ≡ drop s.next text
+pub record NamedIn (text : List ℕ) (name : Bytes) (s : Named) : Type 0 where
+  pub header : List Bytes
+  pub is : take_record text ≡ some (taken header (drop s.next text))
+  pub among : NameAmong name header s
   pub within : s.next ≤ length text
 
--- a header with a broken quote has no column
-abbrev pub NamedByCase : List ℕ → Bytes → Named → Option (Taken (List Bytes)) → Type 0
-NamedByCase text name s none = s.times ≡ 0
-NamedByCase text name s (some h) = NamedIn text name s h
+-- a header with a broken quote is none
+abbrev pub NamedByCase : List ℕ → Bytes → Option Named → Type 0
+NamedByCase text name (Some s) = NamedIn text name s
+NamedByCase text name None = take_record text ≡ none
 
-pub record NamedIs (text : List ℕ) (name : Bytes) (s : Named) : Type 0 where
-  pub is : NamedByCase text name s (take_record text)
+pub record NamedIs (text : List ℕ) (name : Bytes) (r : Option Named) : Type 0 where
+  pub is : NamedByCase text name r
 
 -- checks 16 and 17, in this order
 abbrev pub header_refusal : List ℕ → ℕ
 header_refusal text = first_failed (ask 16 (header_named text) ∷ ask 17 (header_once text) ∷ [])
 
--- a refused header
-abbrev pub no_columns : ℕ → Header
-no_columns n = record { refusal = n; columns = record { grower = 0; weight = 0; oil_yield = 0; count = 0 }; next = 0 }
-
 -- the header, its columns and where the rows begin
-pub record HeaderAt (text : List ℕ) (c : Columns) (next : ℕ) : Type 0 where
+pub record HeaderAt (text : List ℕ) (h : Header) : Type 0 where
   pub header : List Bytes
-  pub is : take_record text ≡ some (taken header (drop next text))
-  pub columns : ColumnsOf header c
-  pub within : next ≤ length text
-
-pub record HeaderIs (text : List ℕ) (r : Header) : Type 0 where
-  pub refused : r.refusal ≡ header_refusal text
-  pub accepted : r.refusal ≡ 0 → HeaderAt text r.columns r.next
+  pub is : take_record text ≡ some (taken header (drop h.next text))
+  pub columns : ColumnsOf header h.columns
+  pub within : h.next ≤ length text
 
 -- checks 16, 17, 18 and 12 of a text for so many slots, in this order
 abbrev pub text_refusal : List ℕ → ℕ → ℕ
 text_refusal text slots =
     first_failed (ask 16 (header_named text) ∷ ask 17 (header_once text) ∷ ask 18 (is_some (read_rows text)) ∷ ask 12 (leb (row_count text) slots) ∷ [])
 
--- a refused text
-abbrev pub not_checked : ℕ → Checked
-not_checked n = record { refusal = n; columns = record { grower = 0; weight = 0; oil_yield = 0; count = 0 }; next = 0; rows = 0 }
-
--- a text whose m rows are good and have slots: its columns, and where the rows begin
-pub record GoodText (text : List ℕ) (slots : ℕ) (c : Columns) (next m : ℕ) : Type 0 where
-  pub found : HeaderAt text c next
-  pub good : GoodRows found.header text next m
-  pub fits : m ≤ slots
-
-pub record CheckedIs (text : List ℕ) (slots : ℕ) (r : Checked) : Type 0 where
-  pub refused : r.refusal ≡ text_refusal text slots
-  pub accepted : r.refusal ≡ 0 → GoodText text slots r.columns r.next r.rows
+-- a text whose rows are good and have slots: its columns, and where the rows begin
+pub record GoodText (text : List ℕ) (slots : ℕ) (t : Checked) : Type 0 where
+  pub found : HeaderAt text t.header
+  pub good : GoodRows found.header text t.header.next t.rows
+  pub fits : t.rows ≤ slots

@@ -3,39 +3,19 @@
 // call writes to no slice.
 #![tactic(auto)]
 
-ghost use Rattle.std.specs.Prelude.{◌≡◌, false, ◌&&◌, ◌≤◌, ◌<◌, length};
-ghost use Rattle.model.specs.Lists.{same_list};
+ghost use Rattle.std.specs.Prelude.{◌≡◌, false, ◌≤◌, ◌<◌, length, IfOk};
+ghost use Rattle.model.specs.Refusals.{number_of};
+ghost use Rattle.model.specs.Answers.{imported_of, written_of};
 ghost use Rattle.model.specs.Checks.{first_failed};
-ghost use Rattle.model.specs.Lent.{slices_in, slices_out, slices_in_mut};
+ghost use Rattle.model.specs.Lent.{slices_given, slices_part, records_given, slices_out, slices_in_mut};
 ghost use Rattle.model.specs.Questions.{export_checks};
 ghost use Rattle.model.specs.CsvCalls.{import_call, export_call};
 ghost use Rattle.csv_fields.specs.Reading.{holds_quote};
-ghost use Rattle.csv_calls.specs.Checking.{IsName, with_column, NamedIs, HeaderIs, no_columns, not_checked, CheckedIs};
+ghost use Rattle.csv_calls.specs.Checking.{IsName, with_column, NamedIs, header_refusal, HeaderAt, text_refusal, GoodText};
 
 use csv_fields::{Behind, Field};
-use csv_rows::{Columns, Judged};
-use model::{Imported, Written};
-
-// The answer of an accepted call, and the refusals (01: 0, 3, 4, 8, 12 and 15; 02: 16, 17, 18 and 19).
-const ACCEPTED: u32 = 0;
-
-const UNEVEN_SLICES: u32 = 3;
-
-const USED_OUT_OF_RANGE: u32 = 4;
-
-const VALUES_OUT_OF_RANGE: u32 = 8;
-
-const TOO_FEW_SLOTS: u32 = 12;
-
-const TOO_SHORT: u32 = 15;
-
-const NAME_ABSENT: u32 = 16;
-
-const NAME_TWICE: u32 = 17;
-
-const BAD_ROW: u32 = 18;
-
-const DAY_OUT_OF_RANGE: u32 = 19;
+use csv_rows::Columns;
+use model::{LentSlices, Records, Refusal};
 
 // A name in the header: in how many columns it stands, the first of them, how many columns there are, and where the text goes on.
 #[derive(Clone, Copy)]
@@ -53,32 +33,26 @@ const NO_COLUMN: Named = Named {
     next: 0,
 };
 
-// Whether two texts are the same.
-fn equal(s: &[u8], t: &[u8]) -> bool
-    ensures { result ≡ same_list s.now t.now }
-{
-    if s.len() != t.len() {
-        return false;
-    }
-    let mut i = 0;
-    while i < s.len() {
-        if s[i] != t[i] {
-            return false;
-        }
-        i += 1;
-    }
-    true
+// The header's columns, and where the rows begin.
+#[derive(Clone, Copy)]
+struct Header {
+    columns: Columns,
+    next: usize,
+}
+
+// What checking a text finds: its header, and how many rows there are.
+#[derive(Clone, Copy)]
+struct Checked {
+    header: Header,
+    rows: usize,
 }
 
 // Whether a field is a name. One with a doubled quote is none, as no name holds a quote.
-fn is_name(text: &[u8], from: usize, to: usize, clean: bool, name: &[u8]) -> bool
-    requires { (from ≤ to) × (to ≤ length text.now) × (holds_quote name.now ≡ false) }
-    ensures { IsName text.now from to clean name.now result }
+fn is_name(text: &[u8], field: Field, name: &[u8]) -> bool
+    requires { (field.from ≤ field.to) × (field.to ≤ length text.now) × (holds_quote name.now ≡ false) }
+    ensures { IsName text.now field.from field.to field.clean name.now result }
 {
-    if !clean {
-        return false;
-    }
-    equal(&text[from..to], name)
+    field.clean && &text[field.from..field.to] == name
 }
 
 // The name with one column more, of which there are then `count`.
@@ -87,186 +61,70 @@ fn with_column(s: Named, found: bool, count: usize, next: usize) -> Named
     ensures { result ≡ with_column s found count next }
 {
     if !found {
-        return Named {
-            times: s.times,
-            column: s.column,
-            count,
-            next,
-        };
-    }
-    if s.times != 0 {
-        return Named {
-            times: s.times + 1,
-            column: s.column,
-            count,
-            next,
-        };
+        return Named { count, next, ..s };
     }
     Named {
-        times: 1,
-        column: s.count,
+        times: s.times + 1,
+        column: if s.times == 0 { s.count } else { s.column },
         count,
         next,
     }
 }
 
-// A name in the header; a header with a broken quote has no column.
-fn find_name(text: &[u8], name: &[u8]) -> Named
+// A name in the header; a header with a broken quote is none.
+fn find_name(text: &[u8], name: &[u8]) -> Option<Named>
     requires { holds_quote name.now ≡ false }
     ensures { NamedIs text.now name.now result }
 {
     let mut s = NO_COLUMN;
-    while s.next <= text.len() {
-        let f = csv_fields::field_at(text, s.next);
-        let Field::Found {
-            from,
-            to,
-            clean,
-            rest,
-        } = f
-        else {
-            return NO_COLUMN;
-        };
-        let found = is_name(text, from, to, clean, name);
+    loop {
+        let field = csv_fields::field_at(text, s.next)?;
+        let found = is_name(text, field, name);
         let count = s.count + 1;
-        let e = csv_fields::behind_at(text, rest);
-        match e {
-            Behind::Comma(n) => {
-                s = with_column(s, found, count, n);
-            }
-            Behind::End(n) => {
-                return with_column(s, found, count, n);
-            }
-            Behind::Broken => {
-                return NO_COLUMN;
-            }
+        match csv_fields::behind_at(text, field.rest)? {
+            Behind::Comma(next) => s = with_column(s, found, count, next),
+            Behind::End(next) => return Some(with_column(s, found, count, next)),
         }
     }
-    NO_COLUMN
-}
-
-// The header's columns and where the rows begin, or the refusal of the header.
-#[derive(Clone, Copy)]
-struct Header {
-    refusal: u32,
-    columns: Columns,
-    next: usize,
-}
-
-fn no_columns(n: u32) -> Header
-    ensures { result ≡ no_columns n }
-{
-    let columns = Columns {
-        grower: 0,
-        weight: 0,
-        oil_yield: 0,
-        count: 0,
-    };
-    Header {
-        refusal: n,
-        columns,
-        next: 0,
-    }
-}
-
-// Whether three tests hold.
-fn all(a: bool, b: bool, c: bool) -> bool
-    ensures { result ≡ a && b && c }
-{
-    if !a {
-        return false;
-    }
-    if !b {
-        return false;
-    }
-    c
 }
 
 // Checks 16 and 17 of the header.
-fn columns_of(text: &[u8]) -> Header
-    ensures { HeaderIs text.now result }
+fn columns_of(text: &[u8]) -> Result<Header, Refusal>
+    ensures refused { number_of result ≡ header_refusal text.now }
+    ensures accepted { IfOk result (λ h. HeaderAt text.now h) }
 {
-    let g = find_name(text, b"grower");
-    let w = find_name(text, b"weight");
-    let y = find_name(text, b"yield");
-    if !all(1 <= g.times, 1 <= w.times, 1 <= y.times) {
-        return no_columns(NAME_ABSENT);
+    let grower = find_name(text, b"grower").ok_or(Refusal::NameAbsent)?;
+    let weight = find_name(text, b"weight").ok_or(Refusal::NameAbsent)?;
+    let oil_yield = find_name(text, b"yield").ok_or(Refusal::NameAbsent)?;
+    if grower.times < 1 || weight.times < 1 || oil_yield.times < 1 {
+        return Err(Refusal::NameAbsent);
     }
-    if !all(g.times <= 1, w.times <= 1, y.times <= 1) {
-        return no_columns(NAME_TWICE);
+    if 1 < grower.times || 1 < weight.times || 1 < oil_yield.times {
+        return Err(Refusal::NameTwice);
     }
     let columns = Columns {
-        grower: g.column,
-        weight: w.column,
-        oil_yield: y.column,
-        count: g.count,
+        grower: grower.column,
+        weight: weight.column,
+        oil_yield: oil_yield.column,
+        count: grower.count,
     };
-    Header {
-        refusal: ACCEPTED,
+    Ok(Header {
         columns,
-        next: g.next,
-    }
-}
-
-// What checking a text finds: a refusal, or its columns, where the rows begin, and how many there are.
-#[derive(Clone, Copy)]
-struct Checked {
-    refusal: u32,
-    columns: Columns,
-    next: usize,
-    rows: usize,
-}
-
-fn not_checked(n: u32) -> Checked
-    ensures { result ≡ not_checked n }
-{
-    let columns = Columns {
-        grower: 0,
-        weight: 0,
-        oil_yield: 0,
-        count: 0,
-    };
-    Checked {
-        refusal: n,
-        columns,
-        next: 0,
-        rows: 0,
-    }
+        next: grower.next,
+    })
 }
 
 // Checks 16, 17, 18 and 12 of a text for so many slots.
-fn check_text(text: &[u8], slots: usize) -> Checked
-    ensures { CheckedIs text.now slots result }
+fn check_text(text: &[u8], slots: usize) -> Result<Checked, Refusal>
+    ensures refused { number_of result ≡ text_refusal text.now slots }
+    ensures accepted { IfOk result (λ t. GoodText text.now slots t) }
 {
-    let h = columns_of(text);
-    let n = h.refusal;
-    if n != 0 {
-        return not_checked(n);
-    }
-    let next = h.next;
-    let columns = h.columns;
-    let j = csv_rows::judge(text, next, columns);
-    let Judged::AllGood(rows) = j else {
-        return not_checked(BAD_ROW);
-    };
+    let header = columns_of(text)?;
+    let rows = csv_rows::judge(text, header.next, header.columns).ok_or(Refusal::Row)?;
     if slots < rows {
-        return not_checked(TOO_FEW_SLOTS);
+        return Err(Refusal::Full);
     }
-    Checked {
-        refusal: ACCEPTED,
-        columns,
-        next,
-        rows,
-    }
-}
-
-fn not_imported(n: u32) -> Imported
-    ensures { result ≡ record { refusal = n; rows = 0 } }
-{
-    Imported {
-        refusal: n,
-        rows: 0,
-    }
+    Ok(Checked { header, rows })
 }
 
 // Reads the rows of a text into the slices, in their order, with day 0: how many, or a refusal and the slices as they were.
@@ -276,82 +134,64 @@ pub fn import(
     weights: &mut [u32],
     yields: &mut [u32],
     days: &mut [u32],
-) -> Imported
-    ensures { record { answer = result; slices = slices_out growers weights yields days }
+) -> Result<u64, Refusal>
+    ensures { record { answer = imported_of result; slices = slices_out growers weights yields days }
         ≡ import_call text.now (slices_in_mut growers weights yields days) }
 {
     if !checks::slices_ok(growers, weights, yields, days) {
-        return not_imported(UNEVEN_SLICES);
+        return Err(Refusal::Slices);
     }
-    let t = check_text(text, growers.len());
-    let n = t.refusal;
-    if n != 0 {
-        return not_imported(n);
-    }
-    let at = t.next;
-    let c = t.columns;
-    let m = t.rows;
-    csv_rows::store(text, at, c, growers, weights, yields);
-    slices::clear(&mut days[..m]);
-    let refusal = ACCEPTED;
-    let rows = m as u64;
-    Imported { refusal, rows }
+    let checked = check_text(text, growers.len())?;
+    let header = checked.header;
+    csv_rows::store(text, header.next, header.columns, growers, weights, yields);
+    days[..checked.rows].fill(0);
+    Ok(checked.rows as u64)
 }
 
-// Checks 3, 4, 8, 19 and 15 of exporting the first slots into room bytes.
-fn check_export(used: u32, g: &[u32], w: &[u32], y: &[u32], n: &[u32], room: usize) -> u32
-    ensures { result ≡ first_failed (export_checks used (slices_in g w y n) room) }
+// Checks 3, 4, 8, 19 and 15 of exporting the first slots into room bytes: the records of those slots.
+fn check_export<'a>(used: u32, slices: LentSlices<'a>, room: usize) -> Result<Records<'a>, Refusal>
+    ensures refused { number_of result ≡ first_failed (export_checks used (slices_given slices.entry) room) }
+    ensures accepted { IfOk result (λ r. records_given r ≡ slices_part 0 used (slices_given slices.entry)) }
 {
-    if !checks::slices_ok(g, w, y, n) {
-        return UNEVEN_SLICES;
-    }
+    let all = checks::records(slices)?;
     let m = used as usize;
-    if g.len() < m {
-        return USED_OUT_OF_RANGE;
+    if all.len() < m {
+        return Err(Refusal::UsedSlots);
     }
-    if !checks::values_ok(&w[..m], &y[..m]) {
-        return VALUES_OUT_OF_RANGE;
+    let records = all.part(0, m);
+    if !checks::values_ok(records.weights, records.yields) {
+        return Err(Refusal::Values);
     }
-    if !checks::days_ok(&n[..m]) {
-        return DAY_OUT_OF_RANGE;
+    if !checks::days_ok(records.days) {
+        return Err(Refusal::Days);
     }
-    if room < csv_lines::text_length(&g[..m], &w[..m], &y[..m], &n[..m]) {
-        return TOO_SHORT;
+    if room
+        < csv_lines::text_length(
+            records.growers,
+            records.weights,
+            records.yields,
+            records.days,
+        )
+    {
+        return Err(Refusal::Room);
     }
-    0
+    Ok(records)
 }
 
 // Writes the first slots as a weighbridge file, without their days: how many bytes, or a refusal and the text as it was.
-pub fn export(
-    used: u32,
-    growers: &[u32],
-    weights: &[u32],
-    yields: &[u32],
-    days: &[u32],
-    text: &mut [u8],
-) -> Written
-    ensures { record { answer = result; text = text.new }
-        ≡ export_call used (slices_in growers weights yields days) text.old }
+pub fn export(used: u32, slices: LentSlices, text: &mut [u8]) -> Result<u64, Refusal>
+    ensures { record { answer = written_of result; text = text.new }
+        ≡ export_call used (slices_given slices.entry) text.old }
 {
-    let n = check_export(used, growers, weights, yields, days, text.len());
-    if n != 0 {
-        return Written {
-            refusal: n,
-            bytes: 0,
-        };
-    }
-    let m = used as usize;
+    let records = check_export(used, slices, text.len())?;
     let start = csv_lines::put_header(text);
-    let e = csv_lines::put_rows(
+    let end = csv_lines::put_rows(
         text,
         start,
-        &growers[..m],
-        &weights[..m],
-        &yields[..m],
-        &days[..m],
+        records.growers,
+        records.weights,
+        records.yields,
+        records.days,
     );
-    Written {
-        refusal: 0,
-        bytes: e as u64,
-    }
+    Ok(end as u64)
 }
