@@ -117,7 +117,7 @@ pub extern "C" fn meltusk_insert(
         oil_yield,
         day,
     };
-    column::insert(directory, growers, weights, yields, days, d)
+    column::insert(directory, growers, weights, yields, days, d).into()
 }
 
 // Deletes a delivery.
@@ -142,7 +142,7 @@ pub extern "C" fn meltusk_delete(
         oil_yield,
         day,
     };
-    column::delete(directory, growers, weights, yields, days, d)
+    column::delete(directory, growers, weights, yields, days, d).into()
 }
 
 // Moves a delivery to a new grower.
@@ -168,7 +168,7 @@ pub extern "C" fn meltusk_move(
         oil_yield,
         day,
     };
-    column::move_delivery(directory, growers, weights, yields, days, d, new_grower)
+    column::move_delivery(directory, growers, weights, yields, days, d, new_grower).into()
 }
 
 // The smallest grower at or above the given one who has records.
@@ -210,7 +210,7 @@ pub extern "C" fn meltusk_partition(
 ) -> PartitionSlice
     ensures { result ≡ partition_call block_limit directory.now growers.now grower }
 {
-    column::partition(directory, growers, grower)
+    column::partition(directory, growers, grower).into()
 }
 
 // Records a find.

@@ -1,6 +1,6 @@
 -- A call's answer by its checks: refused by the first "no", or accepted. Assumes nothing.
 use Prim.Native.Nat.{ℕ}
-use mathlib.Core.Path.{◌≡◌, refl, sym}
+use mathlib.Core.Path.{◌≡◌, refl, sym, ◌∙◌}
 use mathlib.Core.Bool.{Bool, true, false}
 use mathlib.Core.List.{List, [], ◌∷◌, ◌++◌}
 use native.Mathlib.Omega.{arith}
@@ -14,7 +14,13 @@ use Rattle.model.specs.Column.{Column}
 use Rattle.model.specs.Accesses.{no_counts, call_counts, miss_counts, scan_near}
 use Rattle.model.specs.Questions.{lent_checks, call_checks, column_checks}
 use Rattle.model.specs.ColumnCalls.{Called, column_refusal, refused_counts, call_totals, column_after, column_call}
-use Rattle.column.specs.Answers.{without_totals}
+use Rattle.std.specs.Prelude.{Err}
+use Rattle.model.specs.declared.refusal.Refusal.{Refusal}
+use Rattle.model.specs.declared.answers.Refused.{Refused}
+use Rattle.model.specs.Refusals.{refusal_number}
+use Rattle.model.specs.Answers.{refused_ahead, answer_of}
+use Rattle.model.proofs.Refusals.{refusal_some}
+use Rattle.column.specs.Answers.{without_totals, RefusedBy}
 
 -- what follows three checks
 three : (p q r : Bool) (cs : List Check) → first_failed (ask 2 p ∷ ask 3 q ∷ ask 6 r ∷ []) ≡ 0 → first_failed (ask 2 p ∷ ask 3 q ∷ ask 6 r ∷ cs) ≡ first_failed cs
@@ -62,6 +68,21 @@ module _ (L : ℕ) where
     lent_no n e h =
         let r = lent_refusal n e h in
         refused_call n r.0 h r.1
+
+    -- what a refused call reports and leaves
+    pub refused_by : (x : Refused) → RefusedBy L c k x → ◌≡◌ {A = Called} (record { answer = answer_of (Err x); column = c }) (column_call L c k)
+    unfolding column_call
+    refused_by x r = rw (r.counts, r.number, ne_eqb (column_refusal L c k) 0 (λ e. refusal_some x.refusal (r.number ∙ e)))
+
+    -- refused ahead of any scan
+    pub refused_ahead_by : (r : Refusal) (x : Refused) → x ≡ refused_ahead r → column_refusal L c k ≡ refusal_number r → (refusal_number r ≡ 13 → ⊥) → RefusedBy L c k x
+    unfolding refused_counts
+    refused_ahead_by r x w e f = rw w (record { number = sym e; counts = rw (e, ne_eqb (refusal_number r) 13 f) })
+
+    pub refused_lent : (r : Refusal) (x : Refused) → x ≡ refused_ahead r → refusal_number r ≡ first_failed (lent_checks L c) → RefusedBy L c k x
+    refused_lent r x w e =
+        let q = lent_refusal (refusal_number r) e (refusal_some r) in
+        refused_ahead_by r x w q.0 q.1
 
     -- an accepted call has passed 2, 3 and 6
     pub accepted_lent : column_refusal L c k ≡ 0 → first_failed (lent_checks L c) ≡ 0

@@ -12,22 +12,28 @@ use Rattle.model.specs.declared.Delivery.{Delivery}
 use Rattle.model.specs.declared.Counts.{Counts}
 use Rattle.model.specs.Lists.{sum_of, every}
 use Rattle.model.specs.Checks.{first_failed}
-use Rattle.model.specs.Deliveries.{each_slice, rows, in_range, day_ok, among, first_match}
+use Rattle.model.specs.Lent.{slices_part}
+use Rattle.model.specs.Deliveries.{Slices, rows, in_range, day_ok, among, first_match}
 use Rattle.model.specs.Calls.{delete}
 use Rattle.model.specs.Partitions.{start_of}
 use Rattle.model.specs.Directory.{directory_of}
 use Rattle.model.specs.Column.{Column, slots, lengths_of, target, records_near, scanned_ok, scanned_days_ok, has_delivery}
-use Rattle.model.specs.Accesses.{no_counts, blocks_of, reads_of, blocks_scanned, scan_counts, scan_near}
+use Rattle.model.specs.Accesses.{blocks_of, reads_of, blocks_scanned, scan_counts, scan_near, miss_counts}
 use Rattle.model.specs.Questions.{lent_checks, call_checks}
-use Rattle.model.specs.ColumnCalls.{column_refusal}
+use Rattle.model.specs.ColumnCalls.{column_refusal, refused_counts}
 use Rattle.model.proofs.AccessLaws.{blocks_none}
 use Rattle.model.proofs.Parts.{between_one, length_part}
 use Rattle.model.proofs.Deliveries.{first_among}
 use Rattle.scan.specs.Scans.{all_fit}
 use Rattle.scan.proofs.Scanning.{lent_part_lem}
-use Rattle.column.specs.declared.Located.{Located}
-use Rattle.column.specs.Answers.{not_located, searched_of, located_of}
-use Rattle.column.proofs.Answering.{lent_yes, lent_refusal}
+use Rattle.model.specs.declared.refusal.Refusal.{Refusal}
+use Rattle.model.specs.declared.refusal.Refusal.TheVariants.{Values, Days, Absent}
+use Rattle.model.specs.declared.answers.Refused.{Refused}
+use Rattle.model.specs.Refusals.{refusal_number}
+use Rattle.model.specs.Answers.{refused_ahead}
+use Rattle.column.specs.declared.Sought.{Sought}
+use Rattle.column.specs.Answers.{part_checks, IsSought, NotSought, IsLocated, RefusedBy}
+use Rattle.column.proofs.Answering.{lent_yes, refused_ahead_by}
 use Rattle.column.proofs.Reading.{lengths_fit, target_there}
 
 -- a delivery is held just if the first match is inside
@@ -36,70 +42,65 @@ among_match d ds = sym (first_among d ds)
 
 -- In one partition.
 
-module _ (b t a : ℕ) (d : Delivery) (ds : List Delivery) where
-  pub search_bad : every in_range ds ≡ false → not_located 8 no_counts ≡ searched_of b t a d ds
-  unfolding searched_of
-  search_bad e = rw e
+module _ (b : ℕ) (d : Delivery) (ds : List Delivery) where
+  part_refusal : (s t u : Bool) → every in_range ds ≡ s → day_ok d && every day_ok ds ≡ t → among d ds ≡ u → first_failed (part_checks d ds) ≡ cond s (cond t (cond u 0 13) 19) 8
+  unfolding first_failed
+  part_refusal s t u e f g = rw (e, f, g)
 
-  pub search_undated : every in_range ds ≡ true → day_ok d && every day_ok ds ≡ false → not_located 19 no_counts ≡ searched_of b t a d ds
-  unfolding searched_of
-  search_undated e f = rw (e, f)
+  -- refused ahead of the scan's counts
+  ahead : (r : Refusal) (x : Refused) → x ≡ refused_ahead r → first_failed (part_checks d ds) ≡ refusal_number r → (refusal_number r ≡ 13 → ⊥) → NotSought b d ds x
+  ahead r x w e f = rw w (record { number = sym e; counts = rw (e, ne_eqb (refusal_number r) 13 f) })
+
+  pub search_bad : (x : Refused) → x ≡ refused_ahead Values → every in_range ds ≡ false → NotSought b d ds x
+  search_bad x w e = ahead Values x w (part_refusal false _ _ e refl refl) (λ z. omega arith)
+
+  pub search_undated : (x : Refused) → x ≡ refused_ahead Days → every in_range ds ≡ true → day_ok d && every day_ok ds ≡ false → NotSought b d ds x
+  search_undated x w e f = ahead Days x w (part_refusal true false _ e f refl) (λ z. omega arith)
 
   -- values in range, but not all days: of the records, or of the delivery
-  pub search_late : all_fit ds ≡ false → every in_range ds ≡ true → not_located 19 no_counts ≡ searched_of b t a d ds
-  search_late e f = search_undated f (go (day_ok d) (every day_ok ds) (sym (rw f) ∙ e))
+  pub search_late : (x : Refused) → x ≡ refused_ahead Days → all_fit ds ≡ false → every in_range ds ≡ true → NotSought b d ds x
+  search_late x w e f = search_undated x w f (go (day_ok d) (every day_ok ds) (sym (rw f) ∙ e))
     where
       go : (x y : Bool) → y ≡ false → x && y ≡ false
       go true y h = h
       go false y h = refl
 
   module _ (e : every in_range ds ≡ true) (f : day_ok d && every day_ok ds ≡ true) (i : ℕ) (k : Counts) (m : i ≡ first_match d ds) (n : k ≡ reads_of (blocks_of b (length ds))) where
-    pub search_found : i < length ds → ◌≡◌ {A = Located} (record { refusal = 0; target = t; start = a; slot = i; counts = k }) (searched_of b t a d ds)
-    unfolding searched_of
-    search_found h = rw (e, f, ← m, lt-ltb i (length ds) h, n)
+    pub search_found : i < length ds → IsSought b d ds (record { slot = i; counts = k })
+    search_found h = record {
+      passed = part_refusal true true true e f (among_match d ds ∙ rw (← m) (lt-ltb i (length ds) h));
+      slot = m;
+      inside = h;
+      counts = n;
+    }
 
-    pub search_missing : length ds ≤ i → not_located 13 k ≡ searched_of b t a d ds
-    unfolding searched_of
-    search_missing h = rw (e, f, ← m, le-ltb i (length ds) h, n)
+    pub search_missing : length ds ≤ i → NotSought b d ds (record { refusal = Absent; counts = k })
+    search_missing h =
+        let z : first_failed (part_checks d ds) ≡ 13 = part_refusal true true false e f (among_match d ds ∙ rw (← m) (le-ltb i (length ds) h)) in
+        record { number = sym z; counts = rw z n }
 
-  -- an empty partition: no delivery is there, and no block is read
-  pub search_empty : (k : Counts) → 1 ≤ b → k ≡ reads_of 0 → length ds ≡ 0 → day_ok d ≡ true → not_located 13 k ≡ searched_of b t a d ds
-  unfolding searched_of every first_match
-  search_empty k h n e f = go ds e
-    where
-      go : (l : List Delivery) → length l ≡ 0 → not_located 13 k ≡ searched_of b t a d l
-      go [] z = rw f (ap (not_located 13) (n ∙ ap reads_of (sym (blocks_none b h))))
-      go (x ∷ l) z = absurd (omega arith)
+-- an empty partition: no delivery is there, and no block is read
+pub search_empty : (b : ℕ) (d : Delivery) (ds : List Delivery) (x : Refused) → x ≡ refused_ahead Absent → 1 ≤ b → length ds ≡ 0 → day_ok d ≡ true → NotSought b d ds x
+unfolding every among reads_of
+search_empty b d [] x w h e f =
+    let z : first_failed (part_checks d []) ≡ 13 = part_refusal b d [] true true false refl (rw f) refl in
+    rw w (record { number = sym z; counts = rw (z, blocks_none b h) refl })
+search_empty b d (y ∷ ds) x w h e f = absurd (omega arith)
 
-  pub empty_undated : length ds ≡ 0 → day_ok d ≡ false → not_located 19 no_counts ≡ searched_of b t a d ds
-  unfolding searched_of every
-  empty_undated e f = go ds e
-    where
-      go : (l : List Delivery) → length l ≡ 0 → not_located 19 no_counts ≡ searched_of b t a d l
-      go [] z = rw f
-      go (x ∷ l) z = absurd (omega arith)
+pub empty_undated : (b : ℕ) (d : Delivery) (ds : List Delivery) (x : Refused) → x ≡ refused_ahead Days → length ds ≡ 0 → day_ok d ≡ false → NotSought b d ds x
+unfolding every
+empty_undated b d [] x w e f = search_undated b d [] x w refl (rw f)
+empty_undated b d (y ∷ ds) x w e f = absurd (omega arith)
 
 -- In the column.
 
 module _ (L : ℕ) where
   module _ (c : Column) (d : Delivery) where
-    -- refused by 2, 3 or 6
-    pub located_lent : (n : ℕ) → n ≡ first_failed (lent_checks L c) → (n ≡ 0 → ⊥) → not_located n no_counts ≡ located_of L c d
-    unfolding located_of
-    located_lent n e h =
-        let r = lent_refusal L c (delete d) n e h in
-        rw (r.0, ne_eqb n 0 h, ne_eqb n 13 r.1)
-
     module _ (h : first_failed (lent_checks L c) ≡ 0) where
-      pub refusal_is : (s t u : Bool) → in_range d && scanned_ok L c d.grower d.grower ≡ s → day_ok d && scanned_days_ok L c d.grower d.grower ≡ t → has_delivery L c d ≡ u
-          → column_refusal L c (delete d) ≡ cond s (cond t (cond u 0 13) 19) 8
-      unfolding call_checks first_failed
-      refusal_is s t u e f g = lent_yes L c (delete d) h ∙ rw (e, f, g)
-
       -- refused by 8
-      pub located_range : in_range d ≡ false → not_located 8 no_counts ≡ located_of L c d
-      unfolding located_of
-      located_range e = rw (refusal_is false _ (has_delivery L c d) (rw e) refl refl)
+      pub located_range : (x : Refused) → x ≡ refused_ahead Values → in_range d ≡ false → RefusedBy L c (delete d) x
+      unfolding call_checks first_failed
+      located_range x w e = refused_ahead_by L c (delete d) Values x w (lent_yes L c (delete d) h ∙ rw e) (λ z. omega arith)
 
       there : target L c d.grower < length (lengths_of L c)
       there = target_there L c h d.grower
@@ -118,30 +119,37 @@ module _ (L : ℕ) where
           = rw (one, drop-cons ns t 0 there) (omega arith) in
           ap (λ (n : ℕ). reads_of (blocks_of (get_or c.directory 0 0) n)) near_length ∙ ap reads_of (sym e)
 
-      pub located_searched : in_range d ≡ true
-          → searched_of (get_or c.directory 0 0) (target L c d.grower) (start_of (lengths_of L c) (target L c d.grower)) d (records_near L c d.grower) ≡ located_of L c d
-      unfolding searched_of located_of scanned_ok scanned_days_ok has_delivery
-      located_searched e = go (every in_range near) (day_ok d && every day_ok near) (ltb (first_match d near) (length near)) refl refl refl
-        where
-          near : List Delivery
-          near = records_near L c d.grower
+      -- the checks put in the partition are the call's
+      module _ (e : in_range d ≡ true) where
+        part_is : first_failed (part_checks d (records_near L c d.grower)) ≡ column_refusal L c (delete d)
+        unfolding call_checks scanned_ok scanned_days_ok has_delivery
+        part_is = sym (lent_yes L c (delete d) h ∙ rw e)
 
-          unfolded : (s : Bool) → every in_range near ≡ s → in_range d && scanned_ok L c d.grower d.grower ≡ s
-          unfolded s f = rw (e, f)
+        -- the block length and the records are those of the grower's partition
+        module _ (b : ℕ) (ds : List Delivery) (eb : b ≡ get_or c.directory 0 0) (ed : ds ≡ records_near L c d.grower) where
+          pub located_not : (x : Refused) → NotSought b d ds x → RefusedBy L c (delete d) x
+          unfolding refused_counts miss_counts
+          located_not x n =
+              let m : NotSought (get_or c.directory 0 0) d (records_near L c d.grower) x = rw (eb, ed) at n in
+              record { number = m.number ∙ part_is; counts = m.counts ∙ rw (part_is, near_counts) }
 
-          held : (u : Bool) → ltb (first_match d near) (length near) ≡ u → has_delivery L c d ≡ u
-          held u f = among_match d near ∙ f
-
-          go : (s t u : Bool) → every in_range near ≡ s → day_ok d && every day_ok near ≡ t → ltb (first_match d near) (length near) ≡ u
-              → searched_of (get_or c.directory 0 0) (target L c d.grower) (start_of (lengths_of L c) (target L c d.grower)) d near ≡ located_of L c d
-          go true true true f g i = rw (f, g, i, refusal_is true true true (unfolded true f) g (held true i), near_counts)
-          go true true false f g i = rw (f, g, i, refusal_is true true false (unfolded true f) g (held false i), near_counts)
-          go true false u f g i = rw (f, g, refusal_is true false u (unfolded true f) g (held u i))
-          go false t u f g i = rw (f, refusal_is false t u (unfolded false f) g (held u i))
+          pub located_at : (s : Sought) → IsSought b d ds s → (t a : ℕ) → t ≡ target L c d.grower → a ≡ start_of (lengths_of L c) (target L c d.grower)
+              → IsLocated L c d (record { target = t; start = a; slot = s.slot; counts = s.counts })
+          located_at s n t a et ea =
+              let m : IsSought (get_or c.directory 0 0) d (records_near L c d.grower) s = rw (eb, ed) at n in
+              record {
+                accepted = sym part_is ∙ m.passed;
+                target_is = et;
+                start_is = ea;
+                slot_is = m.slot;
+                inside = omega (arith, m.inside, near_length);
+                counts_are = m.counts ∙ near_counts;
+              }
 
       -- the part that is lent is the grower's partition
-      pub near_part : (a n : ℕ) → a ≡ start_of (lengths_of L c) (target L c d.grower) → n ≡ get_or (lengths_of L c) (target L c d.grower) 0
-          → rows (each_slice (λ (l : List ℕ). take (a + n - a) (drop a l)) c.slices) ≡ records_near L c d.grower
-      near_part a n ea en =
-          lent_part_lem (lengths_of L c) (target L c d.grower) a n c.slices ea en
+      pub near_part : (a n : ℕ) → a ≡ start_of (lengths_of L c) (target L c d.grower) → n ≡ get_or (lengths_of L c) (target L c d.grower) 0 → (r : Slices) → r ≡ c.slices
+          → (p : Slices) → p ≡ slices_part a (a + n) r → rows p ≡ records_near L c d.grower
+      near_part a n ea en r er p ep =
+          ap rows (ep ∙ ap (slices_part a (a + n)) er)
+          ∙ lent_part_lem (lengths_of L c) (target L c d.grower) a n c.slices ea en
           ∙ sym (between_one (target L c d.grower) (lengths_of L c) (slots c) there)

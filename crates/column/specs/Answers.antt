@@ -1,52 +1,75 @@
--- A refusal, and where a delivery lies that delete or move names.
-use Rattle.std.specs.Prelude.{ℕ, ◌+◌, ◌*◌, ◌≤◌, ◌≡◌, cond, ◌&&◌, List, length, take, drop, ltb, eqb}
+-- Why a call is refused, and where a delivery lies that insert, delete or move names.
+use Rattle.std.specs.Prelude.{ℕ, ◌+◌, ◌*◌, ◌≤◌, ◌<◌, ◌≡◌, cond, ◌&&◌, List, [], ◌∷◌, length, get_or, take, drop, eqb}
 use Rattle.model.specs.declared.Delivery.{Delivery}
 use Rattle.model.specs.declared.Counts.{Counts}
 use Rattle.model.specs.declared.Answer.{Answer}
+use Rattle.model.specs.declared.answers.Refused.{Refused}
 use Rattle.model.specs.declared.PartitionSlice.{PartitionSlice}
+use Rattle.model.specs.Refusals.{refusal_number}
 use Rattle.model.specs.Lists.{sum_of, every}
-use Rattle.model.specs.Deliveries.{Even, in_range, day_ok, no_totals, first_match}
-use Rattle.model.specs.Calls.{insert, delete}
+use Rattle.model.specs.Checks.{Check, ask, first_failed}
+use Rattle.model.specs.Deliveries.{Even, in_range, day_ok, among, no_totals, first_match}
+use Rattle.model.specs.Calls.{Call, insert, delete}
 use Rattle.model.specs.Partitions.{start_of, one_more, one_fewer}
 use Rattle.model.specs.Moves.{inserted, deleted, moved}
 use Rattle.model.specs.Directory.{directory_of}
 use Rattle.model.specs.Column.{Column, lengths_of, target}
 use Rattle.model.specs.Accesses.{no_counts, blocks_of, reads_of, scan_near}
-use Rattle.model.specs.ColumnCalls.{column_refusal, slot_of, freed, move_slices}
-use Rattle.directory.specs.declared.Told.{Told}
-use Rattle.directory.specs.Judgements.{not_shaped}
+use Rattle.model.specs.ColumnCalls.{column_refusal, refused_counts, slot_of, freed, move_slices}
+use Rattle.directory.specs.declared.Place.{Place}
 use Rattle.directory.specs.Numbers.{HasPartition}
+use Rattle.ripple.specs.declared.records.RecordsMut.{RecordsMut}
+use Rattle.ripple.specs.Held.{slices_held}
+use Rattle.column.specs.declared.Sought.{Sought}
 use Rattle.column.specs.declared.Located.{Located}
 
 -- an answer that has no totals
 abbrev pub without_totals : ℕ → Counts → Answer
 without_totals n k = record { refusal = n; counts = k; totals = no_totals }
 
--- a refusal of delete or move that reports these counts
-abbrev pub not_located : ℕ → Counts → Located
-not_located n k = record { refusal = n; target = 0; start = 0; slot = 0; counts = k }
+-- the column of a directory and the slices that a write moves records in
+abbrev pub column_held : List ℕ → RecordsMut → Column
+column_held ns r = record { directory = ns; slices = slices_held r }
 
--- checks 8, 19 and 13 in a partition t that starts at a and holds the records ds
-unfoldable pub searched_of : ℕ → ℕ → ℕ → Delivery → List Delivery → Located
-searched_of b t a d ds =
-    let k : Counts = reads_of (blocks_of b (length ds)) in
-    cond (every in_range ds)
-    (cond (day_ok d && every day_ok ds)
-    (cond (ltb (first_match d ds) (length ds)) (record { refusal = 0; target = t; start = a; slot = first_match d ds; counts = k }) (not_located 13 k))
-    (not_located 19 no_counts))
-    (not_located 8 no_counts)
+-- checks 8, 19 and 13 of delete and move in a partition that holds the records ds
+abbrev pub part_checks : Delivery → List Delivery → List Check
+part_checks d ds = ask 8 (every in_range ds) ∷ ask 19 (day_ok d && every day_ok ds) ∷ ask 13 (among d ds) ∷ []
+
+-- b is the block length: the delivery's slot there, and the scan
+pub record IsSought (b : ℕ) (d : Delivery) (ds : List Delivery) (s : Sought) : Type 0 where
+  pub passed : first_failed (part_checks d ds) ≡ 0
+  pub slot : s.slot ≡ first_match d ds
+  pub inside : s.slot < length ds
+  pub counts : s.counts ≡ reads_of (blocks_of b (length ds))
+
+-- refused by the first of those checks that fails; "13 reports its scan"
+pub record NotSought (b : ℕ) (d : Delivery) (ds : List Delivery) (x : Refused) : Type 0 where
+  pub number : refusal_number x.refusal ≡ first_failed (part_checks d ds)
+  pub counts : x.counts ≡ cond (eqb (first_failed (part_checks d ds)) 13) (reads_of (blocks_of b (length ds))) no_counts
 
 -- L is the block limit
 module _ (L : ℕ) where
-  -- where a delivery lies in the column, or the refusal of its delete; a 13 has its scan
-  unfoldable pub located_of : Column → Delivery → Located
-  located_of c d =
-      let n : ℕ = column_refusal L c (delete d) in
-      let t : ℕ = target L c d.grower in
-      let k : Counts = scan_near (directory_of L c.directory) d.grower in
-      cond (eqb n 0)
-      (record { refusal = 0; target = t; start = start_of (lengths_of L c) t; slot = slot_of L c d; counts = k })
-      (not_located n (cond (eqb n 13) k no_counts))
+  -- what a refused call on the column reports
+  pub record RefusedBy (c : Column) (k : Call) (x : Refused) : Type 0 where
+    pub number : refusal_number x.refusal ≡ column_refusal L c k
+    pub counts : x.counts ≡ refused_counts L c k
+
+  -- where an accepted insert goes
+  pub record IsOpen (c : Column) (d : Delivery) (p : Place) : Type 0 where
+    pub accepted : column_refusal L c (insert d) ≡ 0
+    pub used_is : p.used ≡ sum_of (lengths_of L c)
+    pub target_is : p.target ≡ target L c d.grower
+    pub start_is : p.start ≡ start_of (lengths_of L c) (target L c d.grower)
+    pub free : p.used < length c.slices.growers
+
+  -- where a delivery lies that an accepted delete or move takes, and what its scan cost
+  pub record IsLocated (c : Column) (d : Delivery) (f : Located) : Type 0 where
+    pub accepted : column_refusal L c (delete d) ≡ 0
+    pub target_is : f.target ≡ target L c d.grower
+    pub start_is : f.start ≡ start_of (lengths_of L c) (target L c d.grower)
+    pub slot_is : f.slot ≡ slot_of L c d
+    pub inside : f.slot < get_or (lengths_of L c) (target L c d.grower) 0
+    pub counts_are : f.counts ≡ scan_near (directory_of L c.directory) d.grower
 
   -- a column of proper shape, and partition t of it, which starts at a
   pub record Ready (c : Column) (t a : ℕ) : Type 0 where
@@ -54,13 +77,6 @@ module _ (L : ℕ) where
     pub start : a ≡ start_of (lengths_of L c) t
     pub room : sum_of (lengths_of L c) ≤ length c.slices.growers
     pub even : Even c.slices
-
-  -- where an insert goes, or its refusal
-  unfoldable pub opened_of : Column → Delivery → Told
-  opened_of c d =
-      let n : ℕ = column_refusal L c (insert d) in
-      let t : ℕ = target L c d.grower in
-      cond (eqb n 0) (record { refusal = 0; used = sum_of (lengths_of L c); target = t; start = start_of (lengths_of L c) t }) (not_shaped n)
 
   -- the column after the slots and lengths of an insert, a delete and a move have changed
   abbrev pub put_of : Column → ℕ → Delivery → Column

@@ -3,29 +3,36 @@
 // No call trusts what it is lent: each puts its checks first, and a refused call writes to no slice.
 #![tactic(auto)]
 
-ghost use Rattle.std.specs.Prelude.{◌≡◌, ◌+◌, ◌-◌, ◌≤◌, ◌<◌, length, get_or, T};
+ghost use Rattle.std.specs.Prelude.{◌≡◌, ◌+◌, ◌-◌, ◌≤◌, ◌<◌, length, get_or, T, IfOk, MatchResult};
 ghost use Rattle.model.specs.Bounds.{block_limit, most_slots};
 ghost use Rattle.model.specs.Lists.{sum_of};
 ghost use Rattle.model.specs.Calendar.{span};
-ghost use Rattle.model.specs.Deliveries.{rows, Even};
+ghost use Rattle.model.specs.Deliveries.{rows, no_totals};
 ghost use Rattle.model.specs.Checks.{first_failed};
 ghost use Rattle.model.specs.Calls.{find, range, range_days, insert, delete, move};
 ghost use Rattle.model.specs.Place.{place};
 ghost use Rattle.model.specs.Partitions.{start_of};
-ghost use Rattle.model.specs.Moves.{moved};
 ghost use Rattle.model.specs.Directory.{partition_count, directory_of, directory_ok};
-ghost use Rattle.model.specs.Accesses.{no_counts, and_also, apart};
+ghost use Rattle.model.specs.Accesses.{no_counts, and_also};
 ghost use Rattle.model.specs.Questions.{lent_checks};
-ghost use Rattle.model.specs.ColumnCalls.{column_call, partition_call};
+ghost use Rattle.model.specs.ColumnCalls.{column_refusal, column_call, partition_call};
 ghost use Rattle.model.specs.Growers.{up, down};
 ghost use Rattle.model.specs.GrowerCalls.{grower_call};
-ghost use Rattle.model.specs.Lent.{column_of, column_in, column_out, slices_at, slices_in, column_in_mut};
+ghost use Rattle.model.specs.Refusals.{number_of};
+ghost use Rattle.model.specs.Answers.{answer_of, slice_answer_of};
+ghost use Rattle.model.specs.Lent.{records_given, column_given, column_of, column_in, column_out, column_in_mut};
 ghost use Rattle.growers.specs.Searches.{direction_of};
-ghost use Rattle.column.specs.Answers.{without_totals, not_located, searched_of, located_of, opened_of, part_of};
-ghost use Rattle.column.specs.Answers.{Ready, put_of, taken_of, shifted_of};
+ghost use Rattle.directory.specs.Numbers.{HasPartition};
+ghost use Rattle.ripple.specs.Held.{Keeps};
+ghost use Rattle.column.specs.Answers.{without_totals, RefusedBy, IsSought, NotSought, IsLocated, IsOpen, part_of};
+ghost use Rattle.column.specs.Answers.{Ready, column_held, put_of, taken_of, shifted_of};
 
-use directory::Told;
-use model::{Answer, Counts, Delivery, GrowerAnswer, MOST_DAY, PartitionSlice, Totals};
+use directory::Place;
+use model::{
+    Answer, Counts, Delivery, GrowerAnswer, LentSlices, MOST_DAY, PartitionPlace, PartitionSlice,
+    Records, Refusal, Refused, Report, Totals,
+};
+use ripple::RecordsMut;
 
 // An answer that has no totals: an accepted insert, delete or move, and every refusal.
 fn without_totals(refusal: u32, counts: Counts) -> Answer
@@ -184,177 +191,125 @@ pub fn find(
     range(directory, growers, weights, yields, days, grower, grower)
 }
 
+// Where a delivery lies in a partition, and what the scan of it cost.
+#[derive(Clone, Copy)]
+struct Sought {
+    slot: usize,
+    counts: Counts,
+}
+
+// Checks 8, 19 and 13 in a partition, of which it is handed its records.
+fn search_part(r: Records<'_>, block: u32, d: Delivery) -> Result<Sought, Refused>
+    requires { 1 ≤ block }
+    ensures { MatchResult result (IsSought block d (rows (records_given r.entry))) (NotSought block d (rows (records_given r.entry))) }
+{
+    let dated = checks::day_ok(d);
+    // of an empty partition no block is read
+    if r.len() == 0 {
+        if !dated {
+            return Err(Refusal::Days.into());
+        }
+        return Err(Refusal::Absent.into());
+    }
+    let f = scan::seek_all(r.growers, r.weights, r.yields, r.days, d);
+    if !f.good {
+        if checks::values_ok(r.weights, r.yields) {
+            return Err(Refusal::Days.into());
+        }
+        return Err(Refusal::Values.into());
+    }
+    if !dated {
+        return Err(Refusal::Days.into());
+    }
+    let found = Sought {
+        slot: f.slot,
+        counts: scan::reads_of(scan::blocks_of(r.len(), block)),
+    };
+    if found.slot < r.len() {
+        return Ok(found);
+    }
+    Err(Refused {
+        refusal: Refusal::Absent,
+        counts: found.counts,
+    })
+}
+
 // Where a delivery lies that delete or move names: its partition, where that starts, its slot there; and what the scan cost.
 #[derive(Clone, Copy)]
 struct Located {
-    refusal: u32,
     target: usize,
     start: usize,
     slot: usize,
     counts: Counts,
 }
 
-// A refusal of delete or move, and what its scan cost.
-fn not_located_after(refusal: u32, scanned: Counts) -> Located
-    ensures { result ≡ not_located refusal scanned }
-{
-    Located {
-        refusal,
-        target: 0,
-        start: 0,
-        slot: 0,
-        counts: scanned,
-    }
-}
-
-// A refusal of delete or move ahead of its scan.
-fn not_located(refusal: u32) -> Located
-    ensures { result ≡ not_located refusal no_counts }
-{
-    not_located_after(refusal, Counts::none())
-}
-
-// Checks 8, 19 and 13 in a partition, which begins at start, of which it is handed its part of each slice.
-fn search_part(
-    g: &[u32],
-    w: &[u32],
-    y: &[u32],
-    n: &[u32],
-    block: u32,
-    partition: usize,
-    start: usize,
-    d: Delivery,
-) -> Located
-    requires { (length g.now ≤ most_slots) × Even (slices_at g w y n) × (1 ≤ block) }
-    ensures { result ≡ searched_of block partition start d (rows (slices_in g w y n)) }
-{
-    let dated = checks::day_ok(d);
-    // of an empty partition no block is read
-    if g.len() == 0 {
-        if !dated {
-            return not_located(19);
-        }
-        return not_located_after(13, scan::reads_of(0));
-    }
-    let f = scan::seek_all(g, w, y, n, d);
-    if !f.good {
-        if checks::values_ok(w, y) {
-            return not_located(19);
-        }
-        return not_located(8);
-    }
-    if !dated {
-        return not_located(19);
-    }
-    let i = f.slot;
-    let counts = scan::reads_of(scan::blocks_of(g.len(), block));
-    if i < g.len() {
-        return Located {
-            refusal: 0,
-            target: partition,
-            start,
-            slot: i,
-            counts,
-        };
-    }
-    not_located_after(13, counts)
-}
-
 // Checks 2, 3, 6, 8, 19 and 13 of delete and move.
-fn locate(directory: &[u32], g: &[u32], w: &[u32], y: &[u32], n: &[u32], d: Delivery) -> Located
-    ensures { result ≡ located_of block_limit (column_in directory g w y n) d }
+fn locate(directory: &[u32], slices: LentSlices<'_>, d: Delivery) -> Result<Located, Refused>
+    ensures { MatchResult result (IsLocated block_limit (column_given directory.now slices.entry) d)
+        (RefusedBy block_limit (column_given directory.now slices.entry) (delete d)) }
 {
-    let shape = directory::judged_slices(directory, g, w, y, n, d.grower);
-    let refusal = shape.refusal;
-    if refusal != 0 {
-        return not_located(refusal);
-    }
+    let shape = directory::lent(directory, slices, d.grower)?;
     if !checks::in_range(d) {
-        return not_located(8);
+        return Err(Refusal::Values.into());
     }
-    let t = shape.target;
-    let a = shape.start;
-    let e = a + directory::length_of(directory, t);
-    search_part(
-        &g[a..e],
-        &w[a..e],
-        &y[a..e],
-        &n[a..e],
-        directory::block(directory),
-        t,
-        a,
-        d,
-    )
+    let target = shape.target;
+    let start = shape.start;
+    let end = start + directory::length_of(directory, target);
+    let part = shape.records.part(start, end);
+    let Sought { slot, counts } = search_part(part, directory::block(directory), d)?;
+    Ok(Located {
+        target,
+        start,
+        slot,
+        counts,
+    })
 }
 
 // Checks 2, 3, 6, 8, 19 and 12 of an insert: where it goes, or why it is refused.
-fn open(directory: &[u32], g: &[u32], w: &[u32], y: &[u32], n: &[u32], d: Delivery) -> Told
-    ensures { result ≡ opened_of block_limit (column_in directory g w y n) d }
+fn open(directory: &[u32], slices: LentSlices<'_>, d: Delivery) -> Result<Place, Refusal>
+    ensures refused { number_of result ≡ column_refusal block_limit (column_given directory.now slices.entry) (insert d) }
+    ensures accepted { IfOk result (IsOpen block_limit (column_given directory.now slices.entry) d) }
 {
-    let shape = directory::judged_slices(directory, g, w, y, n, d.grower);
-    let refusal = shape.refusal;
-    if refusal != 0 {
-        return directory::refused(refusal);
-    }
+    let shape = directory::lent(directory, slices, d.grower)?;
     if !checks::in_range(d) {
-        return directory::refused(8);
+        return Err(Refusal::Values);
     }
     if !checks::day_ok(d) {
-        return directory::refused(19);
+        return Err(Refusal::Days);
     }
-    if g.len() <= shape.used {
-        return directory::refused(12);
+    if shape.records.len() <= shape.used {
+        return Err(Refusal::Full);
     }
-    shape
+    Ok(Place {
+        used: shape.used,
+        target: shape.target,
+        start: shape.start,
+    })
 }
 
-// The slots and the length of an insert into a partition, which begins at start.
-fn put(
-    directory: &mut [u32],
-    g: &mut [u32],
-    w: &mut [u32],
-    y: &mut [u32],
-    n: &mut [u32],
-    partition: usize,
-    start: usize,
-    used: usize,
-    d: Delivery,
-)
-    requires { Ready block_limit (column_of directory.old g.old w.old y.old n.old) partition start
-        × (used ≡ sum_of (directory_of block_limit directory.old).lengths)
-        × (used < length g.old) }
-    ensures { column_out directory g w y n
-        ≡ put_of block_limit (column_in_mut directory g w y n) partition d }
+// The slots and the length of an insert into a partition.
+fn put(directory: &mut [u32], r: &mut RecordsMut<'_>, partition: usize, used: usize, d: Delivery)
+    requires { HasPartition block_limit directory.old partition × (used ≡ sum_of (directory_of block_limit directory.old).lengths)
+        × (used < length r.old.growers.now) }
+    ensures column { column_held directory.new r.new ≡ put_of block_limit (column_held directory.old r.old) partition d }
+    ensures keeps { Keeps r.old r.new }
 {
-    ripple::insert_slots(
-        g,
-        w,
-        y,
-        n,
-        directory::lengths(directory),
-        partition,
-        start,
-        used,
-        d,
-    );
+    ripple::insert_slots(r, directory::lengths(directory), partition, used, d);
     directory::grow(directory, partition);
 }
 
 // The slots and the length of a delete of a slot of a partition, which begins at start.
 fn take_out(
     directory: &mut [u32],
-    g: &mut [u32],
-    w: &mut [u32],
-    y: &mut [u32],
-    n: &mut [u32],
+    r: &mut RecordsMut<'_>,
     partition: usize,
     start: usize,
     slot: usize,
 )
-    requires { Ready block_limit (column_of directory.old g.old w.old y.old n.old) partition start
+    requires { Ready block_limit (column_held directory.old r.old) partition start
         × (slot < get_or (directory_of block_limit directory.old).lengths partition 0) }
-    ensures { column_out directory g w y n
-        ≡ taken_of block_limit (column_in_mut directory g w y n) partition slot }
+    ensures column { column_held directory.new r.new ≡ taken_of block_limit (column_held directory.old r.old) partition slot }
+    ensures keeps { Keeps r.old r.new }
 {
     let freed = Delivery {
         grower: 0,
@@ -363,10 +318,7 @@ fn take_out(
         day: 0,
     };
     ripple::delete_slots(
-        g,
-        w,
-        y,
-        n,
+        r,
         directory::lengths(directory),
         partition,
         start,
@@ -376,80 +328,35 @@ fn take_out(
     directory::shrink(directory, partition);
 }
 
-// The slots of a move: a slot's record goes from one partition to another, as d.
-fn shift_slots(
-    directory: &[u32],
-    g: &mut [u32],
-    w: &mut [u32],
-    y: &mut [u32],
-    n: &mut [u32],
-    from: usize,
-    from_start: usize,
-    slot: usize,
-    to: usize,
-    d: Delivery,
-)
-    requires { Ready block_limit (column_of directory.now g.old w.old y.old n.old) from from_start
-        × (slot < get_or (directory_of block_limit directory.now).lengths from 0)
-        × (to < partition_count block_limit directory.now) }
-    ensures { (g.new ≡ moved (directory_of block_limit directory.now).lengths from slot to d.grower g.old)
-        × (w.new ≡ moved (directory_of block_limit directory.now).lengths from slot to d.weight w.old)
-        × (y.new ≡ moved (directory_of block_limit directory.now).lengths from slot to d.oil_yield y.old)
-        × (n.new ≡ moved (directory_of block_limit directory.now).lengths from slot to d.day n.old) }
-{
-    if from <= to {
-        ripple::forward_slots(
-            g,
-            w,
-            y,
-            n,
-            directory::lengths(directory),
-            from,
-            from_start,
-            slot,
-            to,
-            d,
-        );
-        return;
-    }
-    let to_start = directory::start_of(directory, to);
-    ripple::backward_slots(
-        g,
-        w,
-        y,
-        n,
-        directory::lengths(directory),
-        from,
-        from_start,
-        slot,
-        to,
-        to_start,
-        d,
-    );
-}
-
-// The slots and the lengths of a move: a slot's record goes from one partition to another, as d.
+// The slots and the lengths of a move: a slot's record goes from one partition, which begins at start, to another, as d.
 fn shift(
     directory: &mut [u32],
-    g: &mut [u32],
-    w: &mut [u32],
-    y: &mut [u32],
-    n: &mut [u32],
+    r: &mut RecordsMut<'_>,
     from: usize,
-    from_start: usize,
+    start: usize,
     slot: usize,
     to: usize,
     d: Delivery,
 )
-    requires { Ready block_limit (column_of directory.old g.old w.old y.old n.old) from from_start
+    requires { Ready block_limit (column_held directory.old r.old) from start
         × (slot < get_or (directory_of block_limit directory.old).lengths from 0)
         × (to < partition_count block_limit directory.old) }
-    ensures { column_out directory g w y n
-        ≡ shifted_of block_limit (column_in_mut directory g w y n) from slot to d }
+    ensures column { column_held directory.new r.new ≡ shifted_of block_limit (column_held directory.old r.old) from slot to d }
+    ensures keeps { Keeps r.old r.new }
 {
-    shift_slots(directory, g, w, y, n, from, from_start, slot, to, d);
+    ripple::move_slots(r, directory::lengths(directory), from, start, slot, to, d);
     directory::shrink(directory, from);
     directory::grow(directory, to);
+}
+
+// What an accepted write reports: no totals.
+fn written(counts: Counts) -> Report
+    ensures { result ≡ record { counts = counts; totals = no_totals } }
+{
+    Report {
+        counts,
+        totals: Totals::none(),
+    }
 }
 
 // A scan's counts, and random reads and random writes more.
@@ -472,26 +379,31 @@ pub fn insert(
     yields: &mut [u32],
     days: &mut [u32],
     d: Delivery,
-) -> Answer
-    ensures { record { answer = result; column = column_out directory growers weights yields days }
+) -> Result<Report, Refused>
+    ensures { record { answer = answer_of result; column = column_out directory growers weights yields days }
         ≡ column_call block_limit (column_in_mut directory growers weights yields days) (insert d) }
 {
-    let o = open(directory, growers, weights, yields, days, d);
-    let n = o.refusal;
-    if n != 0 {
-        return refused(n);
-    }
-    let t = o.target;
-    let each = 1 + directory::onward(directory, t);
-    let counts = Counts {
+    let slices = LentSlices {
+        growers,
+        weights,
+        yields,
+        days,
+    };
+    let place = open(directory, slices, d)?;
+    let target = place.target;
+    let each = 1 + directory::onward(directory, target);
+    let mut records = RecordsMut {
+        growers,
+        weights,
+        yields,
+        days,
+    };
+    put(directory, &mut records, target, place.used, d);
+    Ok(written(Counts {
         rr: each,
         sr: 0,
         rw: each,
-    };
-    put(
-        directory, growers, weights, yields, days, t, o.start, o.used, d,
-    );
-    without_totals(0, counts)
+    }))
 }
 
 // Deletes the first equal delivery of its grower's partition.
@@ -502,32 +414,33 @@ pub fn delete(
     yields: &mut [u32],
     days: &mut [u32],
     d: Delivery,
-) -> Answer
-    ensures { record { answer = result; column = column_out directory growers weights yields days }
+) -> Result<Report, Refused>
+    ensures { record { answer = answer_of result; column = column_out directory growers weights yields days }
         ≡ column_call block_limit (column_in_mut directory growers weights yields days) (delete d) }
 {
-    let f = locate(directory, growers, weights, yields, days, d);
-    let s = f.counts;
-    if f.refusal != 0 {
-        return without_totals(f.refusal, s);
-    }
-    let t = f.target;
-    let n = directory::onward(directory, t);
-    let counts = with_more(s, n, 1 + n);
+    let slices = LentSlices {
+        growers,
+        weights,
+        yields,
+        days,
+    };
+    let found = locate(directory, slices, d)?;
+    let n = directory::onward(directory, found.target);
+    let counts = with_more(found.counts, n, 1 + n);
+    let mut records = RecordsMut {
+        growers,
+        weights,
+        yields,
+        days,
+    };
     take_out(
-        directory, growers, weights, yields, days, t, f.start, f.slot,
+        directory,
+        &mut records,
+        found.target,
+        found.start,
+        found.slot,
     );
-    without_totals(0, counts)
-}
-
-// The partitions from one to another, the first not counted.
-fn apart(from: usize, to: usize) -> u64
-    ensures { result ≡ apart from to }
-{
-    if from < to {
-        return (to - from) as u64;
-    }
-    (from - to) as u64
+    Ok(written(counts))
 }
 
 // Moves the first equal delivery of its grower's partition to a new grower.
@@ -539,19 +452,26 @@ pub fn move_delivery(
     days: &mut [u32],
     d: Delivery,
     new_grower: u32,
-) -> Answer
-    ensures { record { answer = result; column = column_out directory growers weights yields days }
+) -> Result<Report, Refused>
+    ensures { record { answer = answer_of result; column = column_out directory growers weights yields days }
         ≡ column_call block_limit (column_in_mut directory growers weights yields days) (move d new_grower) }
 {
-    let f = locate(directory, growers, weights, yields, days, d);
-    let s = f.counts;
-    if f.refusal != 0 {
-        return without_totals(f.refusal, s);
-    }
-    let t = f.target;
-    let u = directory::partition_of(directory, new_grower);
-    let n = apart(t, u);
-    let counts = with_more(s, 1 + n, 2 + n);
+    let slices = LentSlices {
+        growers,
+        weights,
+        yields,
+        days,
+    };
+    let found = locate(directory, slices, d)?;
+    let to = directory::partition_of(directory, new_grower);
+    let n = found.target.abs_diff(to) as u64;
+    let counts = with_more(found.counts, 1 + n, 2 + n);
+    let mut records = RecordsMut {
+        growers,
+        weights,
+        yields,
+        days,
+    };
     let moved = Delivery {
         grower: new_grower,
         weight: d.weight,
@@ -559,9 +479,15 @@ pub fn move_delivery(
         day: d.day,
     };
     shift(
-        directory, growers, weights, yields, days, t, f.start, f.slot, u, moved,
+        directory,
+        &mut records,
+        found.target,
+        found.start,
+        found.slot,
+        to,
+        moved,
     );
-    without_totals(0, counts)
+    Ok(written(counts))
 }
 
 // The first grower with deliveries at or past a given one, upward or downward.
@@ -623,35 +549,20 @@ pub fn previous_grower(
     neighbour(directory, growers, weights, yields, days, grower, false)
 }
 
-fn no_partition(refusal: u32) -> PartitionSlice
-    ensures { result ≡ record { refusal = refusal; start = 0; count = 0 } }
-{
-    PartitionSlice {
-        refusal,
-        start: 0,
-        count: 0,
-    }
-}
-
 // Where a grower's partition lies in the growers (01: the run call, by value).
-pub fn partition(directory: &[u32], growers: &[u32], grower: u32) -> PartitionSlice
-    ensures { result ≡ partition_call block_limit directory.now growers.now grower }
+pub fn partition(directory: &[u32], growers: &[u32], grower: u32) -> Result<PartitionPlace, Refusal>
+    ensures { slice_answer_of result ≡ partition_call block_limit directory.now growers.now grower }
 {
-    let shape = directory::judged_growers(directory, growers, grower);
-    let n = shape.refusal;
-    if n != 0 {
-        return no_partition(n);
-    }
-    let start = shape.start;
-    let count = directory::length_of(directory, shape.target);
-    PartitionSlice {
-        refusal: 0,
-        start: start as u32,
+    let place = directory::lent_growers(directory, growers, grower)?;
+    let count = directory::length_of(directory, place.target);
+    Ok(PartitionPlace {
+        start: place.start as u32,
         count: count as u32,
-    }
+    })
 }
 
-// A grower's partition as a part of the lent growers, empty at their start when refused; the refusal is left in a lent number (01: the run call).
+// A grower's partition as a part of the lent growers, empty at their start when refused. The refusal is left in a lent number and not in a Result:
+// the form is 01's own (the run call).
 pub fn partition_slice<'a>(
     directory: &[u32],
     growers: &'a [u32],
@@ -661,7 +572,7 @@ pub fn partition_slice<'a>(
     ensures { record { place = result.ref_ptr; part = result.now; refusal = refusal.new }
         ≡ part_of (partition_call block_limit directory.now growers.now grower) growers.entry.ref_ptr growers.now }
 {
-    let p = partition(directory, growers, grower);
+    let p = PartitionSlice::from(partition(directory, growers, grower));
     *refusal = p.refusal;
     let a = p.start as usize;
     let e = a + p.count as usize;

@@ -1,44 +1,24 @@
 -- How the calls are made of the two loops. Assumes nothing.
-use Prim.Native.Nat.{ℕ, ◌+◌, ◌-◌, ◌≤◌, ◌<◌}
+use Prim.Native.Nat.{ℕ, suc, ◌+◌, ◌-◌, ◌≤◌, ◌<◌}
 use mathlib.Core.Path.{◌≡◌, refl, sym, ap, ◌∙◌}
-use mathlib.Core.List.{List, [], ◌∷◌, ◌++◌, append_assoc, append-nil, flatten}
+use mathlib.Core.List.{List, [], ◌∷◌, ◌++◌, append_assoc, flatten}
 use native.Mathlib.Omega.{arith}
 use native.Mathlib.Numerals.{add-one}
-use lib.ListN.{length, get_or, take, drop, set, length-take, length-drop, take-append-drop, drop_of_length-le}
-use lib.Seq.{drop-cons, drop-drop, get_or-drop, get_or-take, take-take, take_all, slice_empty, take-set-le, drop-set-add, drop-append-le, length-take-le}
+use lib.ListN.{length, get_or, take, drop, set, length-set, length-drop, take-append-drop}
+use lib.Seq.{drop-cons, drop-drop, get_or-drop, get_or-take, take-take, take-add, slice_empty, take-set-le, drop-set-add, set_split, drop-append-le, length-take-le}
 use Rattle.model.specs.Lists.{sum_of}
-use Rattle.model.specs.Deliveries.{Slices, each_slice, Even}
 use Rattle.model.specs.Partitions.{parts, free, start_of, part}
 use Rattle.model.specs.Moves.{rotate_left, fill_from_front, insert_at, delete_at, move_forward, move_backward, move_within, inserted, deleted, moved}
 use Rattle.model.proofs.MoveCases.{move_at_forward, move_at_backward, move_at_within}
-use Rattle.model.proofs.ListLaws.{flatten-append, flatten-at, sum-take_next, sum-take_le, sum-span, drop-take}
+use Rattle.model.proofs.ListLaws.{flatten-append, flatten-at, sum-take_next, sum-take_le, sum_cut}
 use Rattle.model.proofs.Parts.{start_take, part-parts, flatten-take, take-parts, drop-parts, length-parts, free_cut, rest_of}
-use Rattle.ripple.proofs.Loops.{carry_up}
-
--- the part of a list from a on, as it is lent
-pub tail_part : {A : Type 0} (a : ℕ) (g : List A) → take (length g - a) (drop a g) ≡ drop a g
-tail_part a g = take_all (length g - a) (drop a g) (omega (arith, length-drop a g))
-
-pub first_left : (t : ℕ) (ns : List ℕ) → get_or (drop t ns) 0 0 ≡ get_or ns t 0
-first_left t ns =
-    let e : t + 0 ≡ t = omega arith in
-    get_or-drop t ns 0 0 ∙ rw e
+use Rattle.ripple.proofs.Loops.{carry_up, inserted_first, ups, Spot, Lifted, work, Lowered, lower_start, lower_end, spot_in}
 
 -- slot i of partition t is in the column that ends before u
 pub ready : (ns : List ℕ) (t a i u c : ℕ) → t < u → u ≤ length ns → a ≡ start_of ns t → i < get_or ns t 0 → sum_of ns ≤ c
     → (t < length (take u ns)) × (a ≡ start_of (take u ns) t) × (i < get_or (take u ns) t 0) × (sum_of (take u ns) ≤ c)
 ready ns t a i u c h k e l r =
     (omega (arith, length-take-le u ns k), e ∙ sym (start_take ns t u (omega arith)), rw (get_or-take u ns t 0 h) l, omega (arith, sum-take_le ns u))
-
--- the partitions from u on, ahead of t
-pub ahead : (ns : List ℕ) (u t b a i c : ℕ) → u < t → t < length ns → b ≡ start_of ns t → a ≡ start_of ns u → i < get_or ns t 0 → sum_of ns ≤ c
-    → (1 ≤ length (take (t - u) (drop u ns))) × (sum_of (take (t - u) (drop u ns)) ≡ b - a) × (b - a + i < c - a)
-unfolding start_of
-ahead ns u t b a i c h k eb ea l r =
-    let s = sum-span ns u t (omega arith) in
-    let n = sum-take_next ns t k in
-    let m = sum-take_le ns (t + 1) in
-    (simp (length-take, length-drop) (omega arith), omega arith, omega arith)
 
 module _ {A : Type 0} where
   part-drop : (t : ℕ) (ps : List (List A)) → part 0 (drop t ps) ≡ part t ps
@@ -111,7 +91,7 @@ module _ {A : Type 0} where
   drop_rest a n r h k = sym (drop-append-le a (take n r) (drop n r) (omega (arith, length-take-le n r k))) ∙ ap (drop a) (take-append-drop n r)
 
   -- a move backward is an insert into the column that ends before t, once t's first record has gone to slot i
-  backward_law : (d : A) (ns : List ℕ) (t i u : ℕ) (x : A) (s : List A) → u < t → t < length ns → i < get_or ns t 0 → sum_of ns ≤ length s
+  pub backward_law : (d : A) (ns : List ℕ) (t i u : ℕ) (x : A) (s : List A) → u < t → t < length ns → i < get_or ns t 0 → sum_of ns ≤ length s
       → moved ns t i u x s ≡ inserted (take t ns) u x (set s (sum_of (take t ns) + i) (get_or s (sum_of (take t ns)) d))
   unfolding moved move_backward inserted fill_from_front free start_of
   backward_law d ns t i u x s j h k l =
@@ -138,54 +118,54 @@ module _ {A : Type 0} where
         e₂,
       )
 
-  -- a column whose part from a on was lent, and has come back
-  tail_back : (a : ℕ) (g ys : List A) → take a g ++ (ys ++ drop (length g - a) (drop a g)) ≡ take a g ++ ys
-  tail_back a g ys =
-      let h : length (drop a g) ≤ length g - a = omega (arith, length-drop a g) in
-      rw (drop_of_length-le (drop a g) h, append-nil)
+  -- the end of an insert's loop: d's number x goes past the end of t
+  pub insert_end : (x : A) (lens : List ℕ) (t : ℕ) (s₀ s : List A) (p : ℕ) → t < length lens → p < length s₀ → Spot lens p (t + 1) → Lifted lens s₀ s p (t + 1)
+      → set s p x ≡ inserted lens t x s₀
+  insert_end x lens t s₀ s p h hp w m =
+      let a : ℕ = sum_of (take t lens) in
+      let n : ℕ = get_or lens t 0 in
+      let e : p ≡ a + n = w.at ∙ sum-take_next lens t h in
+      let k : drop t lens ≡ n ∷ drop (t + 1) lens = drop-cons lens t 0 h ∙ rw add-one in
+      let f : take p s₀ ≡ take a s₀ ++ take n (drop a s₀) = ap (λ (i : ℕ). take i s₀) e ∙ take-add a n s₀ in
+      let g : drop n (drop a s₀) ≡ drop p s₀ = drop-drop n a s₀ ∙ ap (λ (i : ℕ). drop i s₀) (sym e) in
+      let b : drop (suc p) s ≡ ups (drop (t + 1) lens) (drop p s₀) = ap (λ (i : ℕ). drop i s) (sym (add-one p)) ∙ m.back in
+      let r : inserted lens t x s₀ ≡ take a s₀ ++ (take n (drop a s₀) ++ x ∷ ups (drop (t + 1) lens) (drop p s₀))
+      = inserted_from lens t x s₀ ∙ rw (k, inserted_first, g) in
+      set_split s p x (omega (arith, m.len)) ∙ rw (m.front, b, f, append_assoc) (sym r)
 
-  pub put_law : (ns : List ℕ) (t a : ℕ) (x : A) (s l : List A) → a ≡ start_of ns t
-      → l ≡ inserted (take (length ns - t) (drop t ns)) 0 x (take (length s - a) (drop a s))
-      → take a s ++ (l ++ drop (length s - a) (drop a s)) ≡ inserted ns t x s
+  -- what is left to do from slot a and partition t on
+  work_from : (lens : List ℕ) (x : A) (s : List A) (a p t j : ℕ) → work lens x s (a + p) (t + j) ≡ take a s ++ work (drop t lens) x (drop a s) p j
+  unfolding work
+  work_from lens x s a p t j =
+      let e : a + (p + 1) ≡ a + p + 1 = omega arith in
+      rw (take-add, drop-drop j t lens, drop-drop (p + 1) a s, e, append_assoc)
+
+  -- where a delete's loop begins: slot i of t has t's last record
+  delete_start : (d : A) (lens : List ℕ) (t i : ℕ) (x : A) (s : List A) → t < length lens → i < get_or lens t 0 → sum_of lens ≤ length s
+      → work lens x (set s (sum_of (take t lens) + i) (get_or s (sum_of (take t lens) + (get_or lens t 0 - 1)) d)) (sum_of (take t lens) + (get_or lens t 0 - 1)) (t + 1)
+      ≡ deleted lens t i x s
+  delete_start d lens t i x s h k l =
+      let a : ℕ = sum_of (take t lens) in
+      let m : ℕ = get_or lens t 0 - 1 in
+      let v : A = get_or s (a + m) d in
+      let z : List A = set s (a + i) v in
+      let e : t + 0 ≡ t = omega arith in
+      let n : get_or (drop t lens) 0 0 ≡ get_or lens t 0 = get_or-drop t lens 0 0 ∙ rw e in
+      let f : take a z ≡ take a s = take-set-le a s (a + i) v (omega arith) in
+      let g : drop a z ≡ set (drop a s) i v = drop-set-add a s i v in
+      let w : get_or (drop a s) m d ≡ v = get_or-drop a s m d in
+      let c : sum_of lens ≡ a + sum_of (drop t lens) = sum_cut t lens in
+      let q : work (drop t lens) x (set (drop a s) i v) m 1 ≡ deleted (drop t lens) 0 i x (drop a s)
+      = rw (n, w) at (lower_start d (drop t lens) i x (drop a s) (omega (arith, length-drop t lens)) (omega arith) (omega (arith, length-drop a s))) in
+      work_from lens x z a m t 1 ∙ rw (f, g, q) (sym (deleted_from lens t i x s))
+
+  -- the end of a delete's loop
+  pub delete_end : (d : A) (lens : List ℕ) (t a i : ℕ) (x : A) (s₀ s₁ s : List A) (p₀ p j : ℕ) → t < length lens → a ≡ start_of lens t → i < get_or lens t 0 → sum_of lens ≤ length s₀
+      → p₀ ≡ a + get_or lens t 0 - 1 → s₁ ≡ set s₀ (a + i) (get_or s₀ p₀ d) → Spot lens (p + 1) j → length lens ≤ j → Lowered lens x s₁ p₀ (t + 1) s p j
+      → set s p x ≡ deleted lens t i x s₀
   unfolding start_of
-  put_law ns t a x s l e h = rw (tail_back a s l, h, tail_part t ns, tail_part a s, e) (sym (inserted_from ns t x s))
-
-  pub pull_law : (ns : List ℕ) (t a i : ℕ) (x : A) (s l : List A) → a ≡ start_of ns t
-      → l ≡ deleted (take (length ns - t) (drop t ns)) 0 i x (take (length s - a) (drop a s))
-      → take a s ++ (l ++ drop (length s - a) (drop a s)) ≡ deleted ns t i x s
-  unfolding start_of
-  pull_law ns t a i x s l e h = rw (tail_back a s l, h, tail_part t ns, tail_part a s, e) (sym (deleted_from ns t i x s))
-
-  pub back_law : (d : A) (ns : List ℕ) (t b i u a : ℕ) (x : A) (s l : List A) → u < t → t < length ns → i < get_or ns t 0 → sum_of ns ≤ length s
-      → b ≡ start_of ns t → a ≡ start_of ns u
-      → l ≡ inserted (take (t - u) (drop u ns)) 0 x (set (take (length s - a) (drop a s)) (b - a + i) (get_or (take (length s - a) (drop a s)) (b - a) d))
-      → take a s ++ (l ++ drop (length s - a) (drop a s)) ≡ moved ns t i u x s
-  unfolding start_of
-  back_law d ns t b i u a x s l h k m room eb ea el =
-      let n : ℕ = b - a in
-      let y : A = get_or s b d in
-      let le : a ≤ b = omega (arith, sum-span ns u t (omega arith)) in
-      let en : a + n ≡ b = omega arith in
-      let ei : a + (n + i) ≡ b + i = omega arith in
-      let et : u + (t - u) ≡ t = omega arith in
-      let g : get_or (drop a s) n d ≡ y = get_or-drop a s n d ∙ ap (λ (j : ℕ). get_or s j d) en in
-      let q : set (drop a s) (n + i) y ≡ drop a (set s (b + i) y) = sym (drop-set-add a s (n + i) y) ∙ ap (λ (j : ℕ). drop a (set s j y)) ei in
-      let f : take a (set s (b + i) y) ≡ take a s = take-set-le a s (b + i) y (omega arith) in
-      let v : take (t - u) (drop u ns) ≡ drop u (take t ns) = sym (drop-take u (t - u) ns) ∙ ap (λ (j : ℕ). drop u (take j ns)) et in
-      let w : sum_of (take u (take t ns)) ≡ a = ap sum_of (take-take u t ns (omega arith)) ∙ sym ea in
-      let z : moved ns t i u x s ≡ inserted (take t ns) u x (set s (b + i) y) = rw (sym eb) at (backward_law d ns t i u x s h k m room) in
-      let r : inserted (take t ns) u x (set s (b + i) y) ≡ take a s ++ inserted (drop u (take t ns)) 0 x (drop a (set s (b + i) y))
-      = rw (w, f) at (inserted_from (take t ns) u x (set s (b + i) y)) in
-      rw (tail_back a s l, el, tail_part a s, g, q, v) (sym (z ∙ r))
-
--- the parts from a on of even slices are even
-part_length : (a : ℕ) (l : List ℕ) → length (take (length l - a) (drop a l)) ≡ length l - a
-part_length a l = simp (length-take, length-drop) (omega arith)
-
-pub even_from : (a : ℕ) (s : Slices) → Even s → Even (each_slice (λ (l : List ℕ). take (length l - a) (drop a l)) s)
-even_from a s e =
-    record {
-      weights = part_length a s.weights ∙ ap (λ (k : ℕ). k - a) e.weights ∙ sym (part_length a s.growers);
-      yields = part_length a s.yields ∙ ap (λ (k : ℕ). k - a) e.yields ∙ sym (part_length a s.growers);
-      days = part_length a s.days ∙ ap (λ (k : ℕ). k - a) e.days ∙ sym (part_length a s.growers);
-    }
+  delete_end d lens t a i x s₀ s₁ s p₀ p j h ea k l ep es w q m =
+      let n : length s₁ ≡ length s₀ = ap length es ∙ length-set s₀ (a + i) _ in
+      let e : p₀ ≡ sum_of (take t lens) + (get_or lens t 0 - 1) = omega arith in
+      let r : work lens x s₁ p₀ (t + 1) ≡ deleted lens t i x s₀ = rw (es, ea, e) (delete_start d lens t i x s₀ h k l) in
+      lower_end lens x s p j (omega arith) (omega (arith, m.len, spot_in lens (p + 1) j w)) ∙ m.same ∙ r

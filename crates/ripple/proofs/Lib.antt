@@ -1,3 +1,4 @@
--- What a turn of each loop does to a slice, and how the calls are made of the two loops.
+-- What a turn of each loop does to a slice, how the calls are made of the two loops, and the same of the four slices at once.
 pub mod Loops
 pub mod Compose
+pub mod EachSlice

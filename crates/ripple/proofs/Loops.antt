@@ -8,7 +8,7 @@ use lib.ListN.{length, get_or, take, drop, set, length-drop, length-set, length-
 use lib.Seq.{take-suc, take-take, take-length, take-set-le, take-append-add, take-append_seam, drop-cons, drop-drop, drop-length, drop-set-lt, drop-append-le, drop-append_seam}
 use lib.Seq.{set_split, set-get_or, get_or-drop, length-take-le}
 use Rattle.model.specs.Lists.{sum_of}
-use Rattle.model.specs.Partitions.{parts, free}
+use Rattle.model.specs.Partitions.{parts, free, start_of}
 use Rattle.model.specs.Moves.{rotate_left, rotate_right, fill_from_end, insert_at, delete_at, inserted, deleted}
 use Rattle.model.proofs.ListLaws.{sum-take_next, sum-take_le, drop-take}
 
@@ -73,7 +73,7 @@ module _ {A : Type 0} where
   unfolding downs parts free sum_of flatten
   downs_cons n ns x s = rw (append_assoc, drop-drop (sum_of ns) n s)
 
-  inserted_first : (n : ℕ) (ns : List ℕ) (x : A) (s : List A) → inserted (n ∷ ns) 0 x s ≡ take n s ++ x ∷ ups ns (drop n s)
+  pub inserted_first : (n : ℕ) (ns : List ℕ) (x : A) (s : List A) → inserted (n ∷ ns) 0 x s ≡ take n s ++ x ∷ ups ns (drop n s)
   unfolding ups inserted insert_at parts free sum_of flatten
   inserted_first n ns x s = rw (append_assoc, append_assoc, drop-drop (sum_of ns) n s)
 
@@ -90,10 +90,10 @@ pub record Spot (lens : List ℕ) (p j : ℕ) : Type 0 where
 pub spot_last : (lens : List ℕ) (p : ℕ) → 1 ≤ length lens → sum_of lens ≡ p → Spot lens p (length lens)
 spot_last lens p h e = record { low = h; high = omega arith; at = rw take-length (sym e) }
 
-pub spot_first : (lens : List ℕ) (p : ℕ) → 1 ≤ length lens → get_or lens 0 0 ≡ p → Spot lens p 1
-unfolding sum_of
-spot_first [] p h e = absurd (omega arith)
-spot_first (n ∷ ns) p h e = record { low = omega arith; high = h; at = omega arith }
+-- past partition t
+pub spot_past : (lens : List ℕ) (t p : ℕ) → t < length lens → p ≡ start_of lens t + get_or lens t 0 → Spot lens p (t + 1)
+unfolding start_of
+spot_past lens t p h e = record { low = omega arith; high = omega arith; at = omega (arith, sum-take_next lens t h) }
 
 pub spot_sum : (lens : List ℕ) (p j : ℕ) → Spot lens p j → p ≡ sum_of (take (j - 1) lens) + get_or lens (j - 1) 0
 spot_sum lens p j h =
@@ -151,16 +151,7 @@ module _ {A : Type 0} where
         back = rw (c, g, m.back, k, ups_cons, b);
       }
 
-  pub lifted_end : (x : A) (lens : List ℕ) (s₀ s : List A) (p j : ℕ) → j ≤ 1 → p < length s₀ → Spot lens p j → Lifted lens s₀ s p j → set s p x ≡ inserted lens 0 x s₀
-  unfolding sum_of
-  lifted_end x [] s₀ s p j h hp w m = absurd (omega arith)
-  lifted_end x (n ∷ ns) s₀ s p j h hp w m =
-      let e : j ≡ 1 = omega arith in
-      let en : n ≡ p = omega (arith, w.at ∙ ap (λ (k : ℕ). sum_of (take k (n ∷ ns))) e) in
-      let b : drop (suc p) s ≡ ups ns (drop p s₀) = ap (λ (k : ℕ). drop k s) (sym (add-one p)) ∙ m.back ∙ rw e in
-      rw (inserted_first, en, set_split s p x (omega (arith, m.len)), m.front, b)
-
-  lower_start : (d : A) (lens : List ℕ) (i : ℕ) (x : A) (s : List A) → 1 ≤ length lens → i < get_or lens 0 0 → sum_of lens ≤ length s
+  pub lower_start : (d : A) (lens : List ℕ) (i : ℕ) (x : A) (s : List A) → 1 ≤ length lens → i < get_or lens 0 0 → sum_of lens ≤ length s
       → work lens x (set s i (get_or s (get_or lens 0 0 - 1) d)) (get_or lens 0 0 - 1) 1 ≡ deleted lens 0 i x s
   unfolding sum_of work fill_from_end
   lower_start d [] i x s h k l = absurd (omega arith)
@@ -183,7 +174,7 @@ module _ {A : Type 0} where
       let e : p + 1 + n ≡ p + n + 1 = omega arith in
       rw (carry_down d s p n r, drop-set-lt (p + n + 1) s p _ (omega arith), k, downs_cons, drop-drop, e, append_assoc)
 
-  lower_end : (lens : List ℕ) (x : A) (s : List A) (p j : ℕ) → j ≡ length lens → p < length s → set s p x ≡ work lens x s p j
+  pub lower_end : (lens : List ℕ) (x : A) (s : List A) (p j : ℕ) → j ≡ length lens → p < length s → set s p x ≡ work lens x s p j
   unfolding work downs parts free sum_of flatten
   lower_end lens x s p j h l = rw (h, drop-length, add-one, set_split s p x l)
 
@@ -193,13 +184,3 @@ module _ {A : Type 0} where
   pub lowered_turn : (d : A) (lens : List ℕ) (x : A) (s₀ : List A) (p₀ j₀ : ℕ) (s : List A) (p j : ℕ) → j < length lens → sum_of lens ≤ length s → Spot lens (p + 1) j
       → Lowered lens x s₀ p₀ j₀ s p j → Lowered lens x s₀ p₀ j₀ (set s p (get_or s (p + get_or lens j 0) d)) (p + get_or lens j 0) (j + 1)
   lowered_turn d lens x s₀ p₀ j₀ s p j h l w m = record { len = length-set s p _ ∙ m.len; same = lower_turn d lens x s p j h l w ∙ m.same }
-
-  -- s₁ is where the loop begins: slot i has the partition's last record
-  pub lowered_end : (d : A) (lens : List ℕ) (i : ℕ) (x : A) (s₀ s₁ s : List A) (p j : ℕ) → length lens ≤ j → i < get_or lens 0 0 → sum_of lens ≤ length s₀ → Spot lens (p + 1) j
-      → s₁ ≡ set s₀ i (get_or s₀ (get_or lens 0 0 - 1) d) → Lowered lens x s₁ (get_or lens 0 0 - 1) 1 s p j → set s p x ≡ deleted lens 0 i x s₀
-  lowered_end d lens i x s₀ s₁ s p j h k l w e m =
-      let n : length s₁ ≡ length s₀ = ap length e ∙ length-set s₀ i _ in
-      lower_end lens x s p j (omega arith) (omega (arith, m.len, spot_in lens (p + 1) j w))
-      ∙ m.same
-      ∙ ap (λ (r : List A). work lens x r (get_or lens 0 0 - 1) 1) e
-      ∙ lower_start d lens i x s₀ (omega arith) k l

@@ -1,0 +1,2 @@
+-- The slices that a write moves records in.
+pub mod Held
