@@ -1,17 +1,17 @@
 -- The first grower of records, some after the others: the first of the two parts' first growers, with his records in both. Assumes nothing.
-use Prim.Native.Nat.{ℕ, suc, ◌+◌, ◌≤◌, ◌<◌}
+use Prim.Native.Nat.{ℕ, suc, ◌+◌, ◌-◌, ◌≤◌, ◌<◌}
 use mathlib.Core.Path.{◌≡◌, refl, sym, ap, ◌∙◌, subst}
 use mathlib.Core.Bool.{Bool, true, false, cond, not, ◌&&◌, and-true, and-false, and_comm}
 use mathlib.Core.List.{List, [], ◌∷◌, ◌++◌, append-nil, map-append}
 use native.Mathlib.Omega.{arith}
 use native.Mathlib.Decide.{ℕ_discrete, dec_le}
 use lib.Dec.{leb, eqb}
-use lib.ListN.{length, get_or, take, drop, length-append, length-map, length-take, length-drop, drop_of_length-le}
+use lib.ListN.{length, get_or, take, drop, length-append, length-map, length-take, length-drop, drop_of_length-le, take-append-drop}
 use borrow.Author.Tests.{lt-leb, leb-true, lt-ltb, le-ltb, eq-eqb, ne_eqb, eqb-true, eqb-false}
 use Rattle.model.specs.declared.Delivery.{Delivery}
 use Rattle.model.specs.Bounds.{most_slots, most_number}
 use Rattle.model.specs.Lists.{every, keep}
-use Rattle.model.specs.Deliveries.{grower_of, Slices, each_slice, rows, Even, in_range}
+use Rattle.model.specs.Deliveries.{grower_of, Slices, rows, Even, in_range}
 use Rattle.model.specs.Growers.{Direction, up, down, at_or_past, nearer, nearest_from, nearest, GrowerCount, nearest_of, growers_of}
 use Rattle.model.specs.Laws.{IsNearest}
 use Rattle.model.proofs.Tests.{of_true, is_true, is_false, no_such}
@@ -21,11 +21,13 @@ use Rattle.model.proofs.MovesKeep.{All}
 use Rattle.model.proofs.GrowerLaws.{Before, before_past, past_self, past_trans, before_other, nearer_comm, nearer_swap, all_keep, all_imply, none_kept}
 use Rattle.model.proofs.GrowerLaws.{nearest-append, one_of, all_past, first_counted, nearest_is, none_left}
 use Rattle.slices.specs.Slices.{count_between}
-use Rattle.slices.proofs.Strides.{Strides, strides_next, BackStrides, back_strides_next}
-use Rattle.scan.proofs.Judging.{Answers, judged_on}
+use Rattle.slices.proofs.Strides.{Strides, strides_next, strides_end, BackStrides, back_strides_next, back_strides_end}
+use Rattle.std.specs.Prelude.{Option, Some, None}
+use Rattle.model.specs.Lent.{slices_part}
+use Rattle.growers.specs.Ways.{either, onward, lower}
 use Rattle.growers.specs.declared.Nearest.{Nearest}
 use Rattle.growers.specs.Searches.{last_number, nearest_or, from_to, none_from_to, last_wanted, joined_count}
-use Rattle.growers.specs.Searches.{bad_nearest, good_nearest, count_in, Fits, near_more, near_all}
+use Rattle.growers.specs.Searches.{nearest_as, Fits, near_more, near_all}
 use Rattle.growers.proofs.Nearing.{last_past, records_found, grower_found, records_most, holds_is}
 
 -- The order of growers on the way.
@@ -120,9 +122,6 @@ unfolding nearest_of
 nearest-joined w g a b = rw (keep_append (at_or_past w g) a b) (first_joined w (keep (at_or_past w g) a) (keep (at_or_past w g) b))
 
 -- A stride more: m is its first grower or the last number, and n of its growers are m.
-
-pub good_is : (s : Nearest) → s.good ≡ true → s ≡ good_nearest (count_in s)
-good_is s e = λ i. record { good = e i; grower = s.grower; records = s.records }
 
 -- n records of m, who comes no later than the grower so far
 module _ (w : Direction) (a : GrowerCount) (m n : ℕ) (h : 1 ≤ n) where
@@ -277,13 +276,16 @@ module _ (w : Direction) (g : ℕ) (gs : List ℕ) (fits : All (λ (x : ℕ). x 
     no_later : 1 ≤ a.records → at_or_past w m a.grower ≡ true
     no_later k = rw (last_found k, grower_found w g gs m n g-fits first count some) at (wanted e).1
 
-    pub first_joins : (r : Nearest) → (a.grower ≡ m → r ≡ record { good = true; grower = m; records = a.records + n })
-        → ((a.grower ≡ m → ⊥) → r ≡ record { good = true; grower = m; records = n }) → r ≡ good_nearest (joined_count w a his)
-    first_joins r same other = go (ℕ_discrete a.grower m)
+    -- a's records are before these where he is m
+    pub first_joins : (before : ℕ) → (a.grower ≡ m → before ≡ a.records) → ((a.grower ≡ m → ⊥) → before ≡ 0)
+        → ◌≡◌ {A = Nearest} (record { grower = m; records = before + n }) (nearest_as (joined_count w a his))
+    first_joins before same other = go (ℕ_discrete a.grower m)
       where
-        go : Dec (a.grower ≡ m) → r ≡ good_nearest (joined_count w a his)
-        go (yes q) = same q ∙ ap good_nearest (sym (rw found (join_same w a m n some q)))
-        go (no q) = other q ∙ ap good_nearest (sym (rw found (join_other w a m n some q no_later)))
+        go : Dec (a.grower ≡ m) → ◌≡◌ {A = Nearest} (record { grower = m; records = before + n }) (nearest_as (joined_count w a his))
+        go (yes q) = ap (λ (x : ℕ). record { grower = m; records = x + n }) (same q) ∙ ap nearest_as (sym (rw found (join_same w a m n some q)))
+        go (no q) =
+            let z : before + n ≡ n = omega (arith, other q) in
+            ap (λ (x : ℕ). record { grower = m; records = x }) z ∙ ap nearest_as (sym (rw found (join_other w a m n some q no_later)))
 
 -- Counts joined in the other order: where neither has a record they are to be equal.
 joined_comm : (w : Direction) (a b : GrowerCount) → (a.records < 1 → b.records < 1 → a ≡ b) → joined_count w a b ≡ joined_count w b a
@@ -317,70 +319,127 @@ nearest-behind w g a b =
 
 -- Strides.
 
-abbrev pub nears : Answers GrowerCount Nearest
-nears =
-    record {
-      flag = λ (s : Nearest). s.good;
-      value = count_in;
-      yes = good_nearest;
-      no = bad_nearest;
-      flag_yes = λ (n : GrowerCount). refl;
-      flag_no = refl;
-      value_yes = λ (n : GrowerCount). refl;
-    }
-
 module _ (d : Direction) (k : ℕ) where
-  pub near_start : (ss : Slices) → Strides (near_all d k) ss (record { good = true; grower = 0; records = 0 }) 0
+  -- a search that may have met a value out of range goes on
+  abbrev on : Option Nearest → List Delivery → Option Nearest
+  on None b = None
+  on (Some n) b = near_more d k n b
+
+  near_none : near_all d k [] ≡ Some (record { grower = 0; records = 0 })
   unfolding near_all every keep nearest_of nearest
-  near_start ss = record { at = omega arith; so_far = refl }
+  near_none = refl
 
-  near_joined : (a b : List Delivery) → near_all d k (a ++ b) ≡ near_more d k (near_all d k a) b
+  near_joined : (a b : List Delivery) → near_all d k (a ++ b) ≡ on (near_all d k a) b
   unfolding near_all near_more
-  near_joined a b =
-      rw (every-joined, map-append, nearest-joined)
-      (judged_on nears (every in_range a) (every in_range b) (nearest_of d k (growers_of a)) (λ (n : GrowerCount). joined_count d n (nearest_of d k (growers_of b))))
-
-  near_behind : (a b : List Delivery) → near_all d k (b ++ a) ≡ near_more d k (near_all d k a) b
-  unfolding near_all near_more
-  near_behind a b =
-      rw (every-joined, map-append, nearest-behind, and_comm (every in_range b) (every in_range a))
-      (judged_on nears (every in_range a) (every in_range b) (nearest_of d k (growers_of a)) (λ (n : GrowerCount). joined_count d n (nearest_of d k (growers_of b))))
-
-  near_fits : (ds : List Delivery) → length ds ≤ most_slots → Fits d k (near_all d k ds)
-  unfolding near_all
-  near_fits ds h = go (every in_range ds)
+  near_joined a b = rw (every-joined, map-append, nearest-joined) (go (every in_range a))
     where
-      go : (t : Bool) → Fits d k (cond t (good_nearest (nearest_of d k (growers_of ds))) bad_nearest)
-      go true =
-          record {
+      go : (t : Bool) → cond (t && every in_range b) (Some (nearest_as (joined_count d (nearest_of d k (growers_of a)) (nearest_of d k (growers_of b))))) None
+          ≡ on (cond t (Some (nearest_as (nearest_of d k (growers_of a)))) None) b
+      go true = refl
+      go false = refl
+
+  near_behind : (a b : List Delivery) → near_all d k (b ++ a) ≡ on (near_all d k a) b
+  unfolding near_all near_more
+  near_behind a b = rw (every-joined, map-append, nearest-behind, and_comm (every in_range b) (every in_range a)) (go (every in_range a))
+    where
+      go : (t : Bool) → cond (t && every in_range b) (Some (nearest_as (joined_count d (nearest_of d k (growers_of a)) (nearest_of d k (growers_of b))))) None
+          ≡ on (cond t (Some (nearest_as (nearest_of d k (growers_of a)))) None) b
+      go true = refl
+      go false = refl
+
+  near_fits : (ds : List Delivery) (s : Nearest) → length ds ≤ most_slots → Some s ≡ near_all d k ds → Fits d k s
+  unfolding near_all
+  near_fits ds s h e = go (every in_range ds) e
+    where
+      go : (t : Bool) → Some s ≡ cond t (Some (nearest_as (nearest_of d k (growers_of ds)))) None → Fits d k s
+      go true f =
+          let n : Fits d k (nearest_as (nearest_of d k (growers_of ds))) = record {
             few = omega (arith, records_most d k (growers_of ds), length-map ds grower_of);
             past = λ u. is_true _ ((nearest_is d k (growers_of ds)).there u).1;
-          }
-      go false = record { few = omega arith; past = λ u. absurd (omega arith) }
+          } in
+          let q : s ≡ nearest_as (nearest_of d k (growers_of ds)) = cc in
+          rw q n
+      go false f = cc
 
-  -- the loops over strides, from the front and from the back
-  module _ (ss : Slices) (p : Even ss) (h : length ss.growers ≤ most_slots) where
-    short : length (rows ss) ≤ most_slots
-    short = omega (arith, length-rows ss p)
+-- n records of the way are behind the search and it has found o: upward the first n, downward the last
+abbrev pub Onward : Direction → ℕ → Slices → Option Nearest → ℕ → Type 0
+Onward up k ss o n = Strides (near_all up k) ss o n
+Onward down k ss o n = (n ≤ length ss.growers) × BackStrides (near_all down k) ss o (length ss.growers - n)
 
-    module _ (s : Nearest) (i : ℕ) (t : Strides (near_all d k) ss s i) where
-      pub front_fits : Fits d k s
-      front_fits = subst (Fits d k) (sym t.so_far) (near_fits (take i (rows ss)) (omega (arith, length-take i (rows ss), short)))
+-- the edge between what is behind a search and what is ahead
+abbrev pub edge_of : Direction → ℕ → ℕ → ℕ
+edge_of d m n = onward d (either d 0 m) n
 
-      pub front_next : (n : ℕ) (r : Nearest) → i + n ≤ length ss.growers → r ≡ near_more d k s (rows (each_slice (λ (l : List ℕ). take n (drop i l)) ss))
-          → Strides (near_all d k) ss r (i + n)
-      front_next = strides_next (near_all d k) (λ (x : Nearest) (j : ℕ) (ds : List Delivery). near_more d k x ds) near_joined ss p s i t
+module _ (d : Direction) (k : ℕ) (ss : Slices) (p : Even ss) where
+  pub onward_start : Onward d k ss (Some (record { grower = 0; records = 0 })) 0
+  onward_start = go d
+    where
+      go : (v : Direction) → Onward v k ss (Some (record { grower = 0; records = 0 })) 0
+      go up = record { at = omega arith; so_far = sym (near_none up k) }
+      go down =
+          let z : drop (length ss.growers - 0) (rows ss) ≡ [] = drop_of_length-le (rows ss) {i = length ss.growers - 0} (omega (arith, length-rows ss p)) in
+          (omega arith, record { at = omega arith; so_far = rw z (sym (near_none down k)) })
 
-    module _ (s : Nearest) (e : ℕ) (t : BackStrides (near_all d k) ss s e) where
-      pub back_fits : Fits d k s
-      back_fits = subst (Fits d k) (sym t.so_far) (near_fits (drop e (rows ss)) (omega (arith, length-drop e (rows ss), short)))
+  -- the rest are its last
+  pub onward_end : (o : Option Nearest) (i : ℕ) → Onward d k ss o i → length ss.growers ≤ i → o ≡ near_all d k (rows ss)
+  onward_end o i t h = go d t
+    where
+      go : (v : Direction) → Onward v k ss o i → o ≡ near_all v k (rows ss)
+      go up w = strides_end (near_all up k) ss p o i w h
+      go down w =
+          let z : length ss.growers - i ≡ 0 = omega arith in
+          back_strides_end (near_all down k) ss o (rw z at w.1)
 
-      pub back_next : (n i : ℕ) (r : Nearest) → i + n ≡ e → r ≡ near_more d k s (rows (each_slice (λ (l : List ℕ). take n (drop i l)) ss))
-          → BackStrides (near_all d k) ss r i
-      back_next = back_strides_next (near_all d k) (near_more d k) near_behind ss s e t
+  -- a value out of range is not made good by what follows
+  pub onward_bad : (i : ℕ) → Onward d k ss None i → None ≡ near_all d k (rows ss)
+  onward_bad i t = go d t
+    where
+      go : (v : Direction) → Onward v k ss None i → None ≡ near_all v k (rows ss)
+      go up w =
+          ap (λ (o : Option Nearest). on up k o (drop i (rows ss))) w.so_far
+          ∙ sym (near_joined up k (take i (rows ss)) (drop i (rows ss))) ∙ ap (near_all up k) (take-append-drop i (rows ss))
+      go down w =
+          let e : ℕ = length ss.growers - i in
+          ap (λ (o : Option Nearest). on down k o (take e (rows ss))) w.1.so_far
+          ∙ sym (near_behind down k (drop e (rows ss)) (take e (rows ss))) ∙ ap (near_all down k) (take-append-drop e (rows ss))
 
-  pub back_start : (ss : Slices) → Even ss → BackStrides (near_all d k) ss (record { good = true; grower = 0; records = 0 }) (length ss.growers)
-  unfolding near_all every keep nearest_of nearest
-  back_start ss p =
-      let z : drop (length ss.growers) (rows ss) ≡ [] = drop_of_length-le (rows ss) {i = length ss.growers} (omega (arith, length-rows ss p)) in
-      record { at = omega arith; so_far = rw z }
+  module _ (s : Nearest) (i : ℕ) (t : Onward d k ss (Some s) i) where
+    pub onward_fits : length ss.growers ≤ most_slots → Fits d k s
+    onward_fits h = go d t
+      where
+        short : length (rows ss) ≤ most_slots
+        short = omega (arith, length-rows ss p)
+
+        go : (v : Direction) → Onward v k ss (Some s) i → Fits v k s
+        go up w = near_fits up k (take i (rows ss)) s (omega (arith, length-take i (rows ss), short)) w.so_far
+        go down w = near_fits down k (drop (length ss.growers - i) (rows ss)) s (omega (arith, length-drop (length ss.growers - i) (rows ss), short)) w.1.so_far
+
+    -- n records more, which are those next to the edge
+    onward_next : (n : ℕ) (o : Option Nearest) → i + n ≤ length ss.growers
+        → o ≡ near_more d k s (rows (slices_part (lower d (edge_of d (length ss.growers) i) n) (lower d (edge_of d (length ss.growers) i) n + n) ss))
+        → Onward d k ss o (i + n)
+    onward_next n o h e = go d t e
+      where
+        go : (v : Direction) → Onward v k ss (Some s) i
+            → o ≡ near_more v k s (rows (slices_part (lower v (edge_of v (length ss.growers) i) n) (lower v (edge_of v (length ss.growers) i) n + n) ss))
+            → Onward v k ss o (i + n)
+        go up w f =
+            let z : 0 + i ≡ i = omega arith in
+            let y : i + n - i ≡ n = omega arith in
+            strides_next (near_all up k) (λ (x : Option Nearest) (j : ℕ) (ds : List Delivery). on up k x ds) (near_joined up k) ss p (Some s) i w n o h
+            (rw (z, y) at f)
+        go down w f =
+            let a : ℕ = length ss.growers - (i + n) in
+            let z : length ss.growers - i - n ≡ a = omega arith in
+            let y : a + n - a ≡ n = omega arith in (
+              h,
+              back_strides_next (near_all down k) (on down k) (near_behind down k) ss (Some s) (length ss.growers - i) w.1 n a o
+                  (omega (arith, w.0)) (rw (z, y) at f),
+            )
+
+    -- the same as the code has it
+    pub onward_part : (m q n : ℕ) (first edge : ℕ) (part : Slices) (o : Option Nearest) → m ≡ length ss.growers → first ≡ either d 0 m → q ≡ i → edge ≡ onward d first q
+        → part ≡ slices_part (lower d edge n) (lower d edge n + n) ss → i + n ≤ m → o ≡ near_more d k s (rows part) → Onward d k ss o (i + n)
+    onward_part m q n first edge part o em ef eq ee ep h e =
+        let at : edge ≡ edge_of d (length ss.growers) i = ee ∙ rw (eq, ef, em) in
+        onward_next n o (omega arith) (rw at at (e ∙ ap (λ (x : Slices). near_more d k s (rows x)) ep))

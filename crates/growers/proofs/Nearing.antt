@@ -1,7 +1,7 @@
 -- The first of a stride's growers at or past another, and how many records he has. Assumes nothing.
 use Prim.Native.Nat.{ℕ, ◌+◌, ◌≤◌, ◌<◌}
 use mathlib.Core.Path.{◌≡◌, refl, sym, ap, ◌∙◌}
-use mathlib.Core.Bool.{Bool, true, false}
+use mathlib.Core.Bool.{Bool, true, false, cond}
 use mathlib.Core.List.{List, [], ◌∷◌, ◌++◌, append-nil}
 use native.Mathlib.Omega.{arith}
 use native.Mathlib.Numerals.{add-one}
@@ -52,38 +52,33 @@ pub nearing_start : (w : Direction) (g : ℕ) (s : List ℕ) → Nearing w g s (
 unfolding nearest_or keep
 nearing_start w g s = record { at = omega arith; fits = last_fits w; so_far = refl }
 
--- z is the grower at i, or the last number where he is not at or past g
-pub record Offered (w : Direction) (g : ℕ) (s : List ℕ) (i z : ℕ) : Type 0 where
-  pub at : i < length s
-  pub fits : get_or s i 0 ≤ most_number
-  pub past : at_or_past w g (get_or s i 0) ≡ true → z ≡ get_or s i 0
-  pub short : at_or_past w g (get_or s i 0) ≡ false → z ≡ last_number w
-
--- a turn
-module _ (w : Direction) (g : ℕ) (s : List ℕ) (m i z : ℕ) (v : Nearing w g s m i) (o : Offered w g s i z) where
-  turn : nearer w m z ≡ nearest_or w (last_number w) (keep (at_or_past w g) (take (i + 1) s))
+-- a turn: z is the grower at i, or the last number where he is not at or past g
+module _ (w : Direction) (g : ℕ) (s : List ℕ) (m i z : ℕ) (h : i < length s) (k : get_or s i 0 ≤ most_number) (v : Nearing w g s m i) where
+  turn : (t : Bool) → at_or_past w g (get_or s i 0) ≡ t → z ≡ cond t (get_or s i 0) (last_number w)
+      → nearer w m z ≡ nearest_or w (last_number w) (keep (at_or_past w g) (take (i + 1) s))
   unfolding keep
-  turn = go (at_or_past w g (get_or s i 0)) refl
+  turn true e f =
+      let kept : List ℕ = keep (at_or_past w g) (take i s) in
+      let one : keep (at_or_past w g) (take (i + 1) s) ≡ kept ++ get_or s i 0 ∷ [] = rw (keep_next (at_or_past w g) s i h, e) in
+      rw (one, or_next w (get_or s i 0) kept k, f, ← v.so_far)
+  turn false e f =
+      let kept : List ℕ = keep (at_or_past w g) (take i s) in
+      let none : keep (at_or_past w g) (take (i + 1) s) ≡ kept = rw (keep_next (at_or_past w g) s i h, e, append-nil) in
+      rw (none, f, last_past w m v.fits) v.so_far
+
+  nearer_fits : (a b : ℕ) → a ≤ most_number → b ≤ most_number → nearer w a b ≤ most_number
+  nearer_fits a b x y = go (at_or_past w a b)
     where
-      go : (t : Bool) → at_or_past w g (get_or s i 0) ≡ t → nearer w m z ≡ nearest_or w (last_number w) (keep (at_or_past w g) (take (i + 1) s))
-      go true e =
-          let kept : List ℕ = keep (at_or_past w g) (take i s) in
-          let one : keep (at_or_past w g) (take (i + 1) s) ≡ kept ++ get_or s i 0 ∷ [] = rw (keep_next (at_or_past w g) s i o.at, e) in
-          rw (one, or_next w (get_or s i 0) kept o.fits, o.past e, ← v.so_far)
-      go false e =
-          let kept : List ℕ = keep (at_or_past w g) (take i s) in
-          let none : keep (at_or_past w g) (take (i + 1) s) ≡ kept = rw (keep_next (at_or_past w g) s i o.at, e, append-nil) in
-          rw (none, o.short e, last_past w m v.fits) v.so_far
+      go : (t : Bool) → cond t a b ≤ most_number
+      go true = x
+      go false = y
 
-  pub nearing_taken : z ≤ most_number → at_or_past w m z ≡ false → Nearing w g s z (i + 1)
-  nearing_taken k e =
-      let first : nearer w m z ≡ z = rw e in
-      record { at = omega (arith, o.at); fits = k; so_far = sym first ∙ turn }
-
-  pub nearing_left : at_or_past w m z ≡ true → Nearing w g s m (i + 1)
-  nearing_left e =
-      let first : nearer w m z ≡ m = rw e in
-      record { at = omega (arith, o.at); fits = v.fits; so_far = sym first ∙ turn }
+  pub nearing_next : (t : Bool) → at_or_past w g (get_or s i 0) ≡ t → z ≡ cond t (get_or s i 0) (last_number w) → Nearing w g s (nearer w m z) (i + 1)
+  nearing_next t e f = record { at = omega arith; fits = nearer_fits m z v.fits (rw f (offered t)); so_far = turn t e f }
+    where
+      offered : (u : Bool) → cond u (get_or s i 0) (last_number w) ≤ most_number
+      offered true = k
+      offered false = last_fits w
 
 pub nearing_end : (w : Direction) (g : ℕ) (s : List ℕ) (m i : ℕ) → length s ≤ i → Nearing w g s m i → m ≡ nearest_or w (last_number w) (keep (at_or_past w g) s)
 nearing_end w g s m i h v = v.so_far ∙ ap (λ (l : List ℕ). nearest_or w (last_number w) (keep (at_or_past w g) l)) (take_all i s h)

@@ -1,2 +1,3 @@
--- What the search for a grower answers: in one partition, and from partition to partition.
+-- What a way is, and what searching answers.
+pub mod Ways
 pub mod Searches

@@ -1,5 +1,5 @@
 -- What the search for the next grower answers, in the model's terms.
-use Rattle.std.specs.Prelude.{ℕ, ◌+◌, ◌≤◌, ◌≡◌, Bool, true, false, cond, not, ◌&&◌, List, [], ◌∷◌, length, leb, ltb, eqb}
+use Rattle.std.specs.Prelude.{ℕ, ◌+◌, ◌≤◌, ◌≡◌, Bool, true, cond, not, ◌&&◌, List, [], ◌∷◌, length, leb, ltb, eqb, Option, Some, None}
 use Rattle.model.specs.declared.Delivery.{Delivery}
 use Rattle.model.specs.declared.GrowerAnswer.{GrowerAnswer}
 use Rattle.model.specs.Bounds.{most_slots, most_number}
@@ -10,11 +10,6 @@ use Rattle.model.specs.Accesses.{no_counts, blocks_of, reads_of}
 use Rattle.model.specs.Growers.{Direction, up, down, at_or_past, nearest_from, GrowerCount, nearest_of, growers_of, holds_one}
 use Rattle.model.specs.GrowerCalls.{grower_answer}
 use Rattle.growers.specs.declared.Nearest.{Nearest}
-
--- the direction that a flag names
-abbrev pub direction_of : Bool → Direction
-direction_of true = up
-direction_of false = down
 
 -- the last grower number on the way: no grower is past it
 abbrev pub last_number : Direction → ℕ
@@ -47,12 +42,9 @@ joined_count w a b =
     b)
     a
 
--- a search that met a value out of range, and one that met none
-abbrev pub bad_nearest : Nearest
-bad_nearest = record { good = false; grower = 0; records = 0 }
-
-abbrev pub good_nearest : GrowerCount → Nearest
-good_nearest n = record { good = true; grower = n.grower; records = n.records }
+-- the same in the code's struct
+abbrev pub nearest_as : GrowerCount → Nearest
+nearest_as n = record { grower = n.grower; records = n.records }
 
 abbrev pub count_in : Nearest → GrowerCount
 count_in s = record { grower = s.grower; records = s.records }
@@ -62,13 +54,13 @@ pub record Fits (w : Direction) (g : ℕ) (s : Nearest) : Type 0 where
   pub few : s.records ≤ most_slots
   pub past : 1 ≤ s.records → at_or_past w g s.grower ≡ true
 
--- a search that goes on to the records ds
-unfoldable pub near_more : Direction → ℕ → Nearest → List Delivery → Nearest
-near_more w g s ds = cond (s.good && every in_range ds) (good_nearest (joined_count w (count_in s) (nearest_of w g (growers_of ds)))) bad_nearest
+-- a search that goes on to the records ds, none of which is out of range
+unfoldable pub near_more : Direction → ℕ → Nearest → List Delivery → Option Nearest
+near_more w g s ds = cond (every in_range ds) (Some (nearest_as (joined_count w (count_in s) (nearest_of w g (growers_of ds))))) None
 
 -- a search of the records ds
-unfoldable pub near_all : Direction → ℕ → List Delivery → Nearest
-near_all w g ds = cond (every in_range ds) (good_nearest (nearest_of w g (growers_of ds))) bad_nearest
+unfoldable pub near_all : Direction → ℕ → List Delivery → Option Nearest
+near_all w g ds = cond (every in_range ds) (Some (nearest_as (nearest_of w g (growers_of ds)))) None
 
 -- an answer where the days are in range
 abbrev pub dated_answer : Bool → GrowerAnswer → GrowerAnswer
