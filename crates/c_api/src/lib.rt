@@ -183,7 +183,13 @@ pub extern "C" fn meltusk_next_grower(
 ) -> GrowerAnswer
     ensures { result ≡ grower_call block_limit (column_in directory growers weights yields days) up grower }
 {
-    column::next_grower(directory, growers, weights, yields, days, grower)
+    let slices = LentSlices {
+        growers,
+        weights,
+        yields,
+        days,
+    };
+    column::next_grower(directory, slices, grower).into()
 }
 
 // The largest grower at or below the given one who has records.
@@ -198,7 +204,13 @@ pub extern "C" fn meltusk_previous_grower(
 ) -> GrowerAnswer
     ensures { result ≡ grower_call block_limit (column_in directory growers weights yields days) down grower }
 {
-    column::previous_grower(directory, growers, weights, yields, days, grower)
+    let slices = LentSlices {
+        growers,
+        weights,
+        yields,
+        days,
+    };
+    column::previous_grower(directory, slices, grower).into()
 }
 
 // Where a grower's partition lies in the growers.

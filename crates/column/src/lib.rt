@@ -19,17 +19,17 @@ ghost use Rattle.model.specs.ColumnCalls.{column_refusal, column_call, partition
 ghost use Rattle.model.specs.Growers.{up, down};
 ghost use Rattle.model.specs.GrowerCalls.{grower_call};
 ghost use Rattle.model.specs.Refusals.{number_of};
-ghost use Rattle.model.specs.Answers.{answer_of, slice_answer_of};
+ghost use Rattle.model.specs.Answers.{answer_of, grower_answer_of, slice_answer_of};
 ghost use Rattle.model.specs.Lent.{records_given, column_given, column_of, column_in, column_out, column_in_mut};
-ghost use Rattle.growers.specs.Searches.{direction_of};
 ghost use Rattle.directory.specs.Numbers.{HasPartition};
 ghost use Rattle.ripple.specs.Held.{Keeps};
 ghost use Rattle.column.specs.Answers.{without_totals, RefusedBy, IsSought, NotSought, IsLocated, IsOpen, part_of};
 ghost use Rattle.column.specs.Answers.{Ready, column_held, put_of, taken_of, shifted_of};
 
 use directory::Place;
+use growers::{Downward, Upward, Way};
 use model::{
-    Answer, Counts, Delivery, GrowerAnswer, LentSlices, MOST_DAY, PartitionPlace, PartitionSlice,
+    Answer, Counts, Delivery, GrowerReport, LentSlices, MOST_DAY, PartitionPlace, PartitionSlice,
     Records, Refusal, Refused, Report, Totals,
 };
 use ripple::RecordsMut;
@@ -490,63 +490,45 @@ pub fn move_delivery(
     Ok(written(counts))
 }
 
-// The first grower with deliveries at or past a given one, upward or downward.
-fn neighbour(
+// The first grower with deliveries at or past a given one on the way.
+fn neighbour<W: Way>(
     directory: &[u32],
-    g: &[u32],
-    w: &[u32],
-    y: &[u32],
-    n: &[u32],
+    slices: LentSlices,
     grower: u32,
-    up: bool,
-) -> GrowerAnswer
-    ensures { result ≡ grower_call block_limit (column_in directory g w y n) (direction_of up) grower }
+) -> Result<GrowerReport, Refusal>
+    ensures { grower_answer_of result ≡ grower_call block_limit (column_given directory.now slices.entry) W.direction grower }
 {
-    let shape = directory::judged_slices(directory, g, w, y, n, grower);
-    let refusal = shape.refusal;
-    if refusal != 0 {
-        return growers::refused(refusal);
-    }
-    growers::search(
-        g,
-        w,
-        y,
-        n,
+    let shape = directory::lent(directory, slices, grower)?;
+    growers::search::<W>(
+        shape.records,
         directory::lengths(directory),
         shape.target,
         shape.start,
         directory::block(directory),
         grower,
-        up,
     )
 }
 
 // The smallest grower at or above the given one who has records, and how many.
 pub fn next_grower(
     directory: &[u32],
-    growers: &[u32],
-    weights: &[u32],
-    yields: &[u32],
-    days: &[u32],
+    slices: LentSlices,
     grower: u32,
-) -> GrowerAnswer
-    ensures { result ≡ grower_call block_limit (column_in directory growers weights yields days) up grower }
+) -> Result<GrowerReport, Refusal>
+    ensures { grower_answer_of result ≡ grower_call block_limit (column_given directory.now slices.entry) up grower }
 {
-    neighbour(directory, growers, weights, yields, days, grower, true)
+    neighbour::<Upward>(directory, slices, grower)
 }
 
 // The largest grower at or below the given one who has records, and how many.
 pub fn previous_grower(
     directory: &[u32],
-    growers: &[u32],
-    weights: &[u32],
-    yields: &[u32],
-    days: &[u32],
+    slices: LentSlices,
     grower: u32,
-) -> GrowerAnswer
-    ensures { result ≡ grower_call block_limit (column_in directory growers weights yields days) down grower }
+) -> Result<GrowerReport, Refusal>
+    ensures { grower_answer_of result ≡ grower_call block_limit (column_given directory.now slices.entry) down grower }
 {
-    neighbour(directory, growers, weights, yields, days, grower, false)
+    neighbour::<Downward>(directory, slices, grower)
 }
 
 // Where a grower's partition lies in the growers (01: the run call, by value).
