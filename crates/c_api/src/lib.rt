@@ -24,8 +24,8 @@ ghost use Rattle.dates.specs.DateCalls.{day_call, date_call, term_call};
 
 use dates::{DateAnswer, DayAnswer, TermAnswer};
 use model::{
-    Answer, Applied, Costed, Counts, Delivery, GrowerAnswer, Imported, LentSlices, Limits, Listed,
-    PartitionSlice, Planned, PriceCard, Tally, Written,
+    Answer, Applied, Costed, Counts, DaySpan, Delivery, GrowerAnswer, Imported, LentSlices, Limits,
+    Listed, PartitionSlice, Planned, PriceCard, Tally, Written,
 };
 
 // Applies a layout to an unpartitioned set.
@@ -56,7 +56,13 @@ pub extern "C" fn meltusk_find(
 ) -> Answer
     ensures { result ≡ (column_call block_limit (column_in directory growers weights yields days) (find grower)).answer }
 {
-    column::find(directory, growers, weights, yields, days, grower)
+    let slices = LentSlices {
+        growers,
+        weights,
+        yields,
+        days,
+    };
+    column::find(directory, slices, grower).into()
 }
 
 // The records of the growers lo to hi.
@@ -72,7 +78,13 @@ pub extern "C" fn meltusk_range(
 ) -> Answer
     ensures { result ≡ (column_call block_limit (column_in directory growers weights yields days) (range lo hi)).answer }
 {
-    column::range(directory, growers, weights, yields, days, lo, hi)
+    let slices = LentSlices {
+        growers,
+        weights,
+        yields,
+        days,
+    };
+    column::range(directory, slices, lo, hi).into()
 }
 
 // The records of the growers lo to hi on the days first to last.
@@ -90,9 +102,13 @@ pub extern "C" fn meltusk_range_days(
 ) -> Answer
     ensures { result ≡ (column_call block_limit (column_in directory growers weights yields days) (range_days lo hi (span first last))).answer }
 {
-    column::range_days(
-        directory, growers, weights, yields, days, lo, hi, first, last,
-    )
+    let slices = LentSlices {
+        growers,
+        weights,
+        yields,
+        days,
+    };
+    column::range_days(directory, slices, lo, hi, DaySpan { first, last }).into()
 }
 
 // Inserts a delivery.

@@ -11,7 +11,7 @@ use Rattle.model.specs.Calls.{Call, find, range}
 use Rattle.model.specs.Blocks.{slices_ok}
 use Rattle.model.specs.Directory.{directory_of, directory_block_ok, directory_ok}
 use Rattle.model.specs.Column.{Column}
-use Rattle.model.specs.Accesses.{no_counts, call_counts, miss_counts, scan_near}
+use Rattle.model.specs.Accesses.{call_counts, miss_counts, scan_near}
 use Rattle.model.specs.Questions.{lent_checks, call_checks, column_checks}
 use Rattle.model.specs.ColumnCalls.{Called, column_refusal, refused_counts, call_totals, column_after, column_call}
 use Rattle.std.specs.Prelude.{Err}
@@ -20,7 +20,7 @@ use Rattle.model.specs.declared.answers.Refused.{Refused}
 use Rattle.model.specs.Refusals.{refusal_number}
 use Rattle.model.specs.Answers.{refused_ahead, answer_of}
 use Rattle.model.proofs.Refusals.{refusal_some}
-use Rattle.column.specs.Answers.{without_totals, RefusedBy}
+use Rattle.column.specs.Answers.{RefusedBy}
 
 -- what follows three checks
 three : (p q r : Bool) (cs : List Check) → first_failed (ask 2 p ∷ ask 3 q ∷ ask 6 r ∷ []) ≡ 0 → first_failed (ask 2 p ∷ ask 3 q ∷ ask 6 r ∷ cs) ≡ first_failed cs
@@ -55,19 +55,10 @@ module _ (L : ℕ) where
     unfolding column_refusal column_checks
     lent_yes h = past_lent c (call_checks L c k) h
 
-    pub refused_call : (n : ℕ) → column_refusal L c k ≡ n → (n ≡ 0 → ⊥) → (n ≡ 13 → ⊥) → ◌≡◌ {A = Called} (record { answer = without_totals n no_counts; column = c }) (column_call L c k)
-    unfolding column_call refused_counts
-    refused_call n e h f = rw (e, ne_eqb n 0 h, ne_eqb n 13 f)
-
     -- refused by 2, 3 or 6
     pub lent_refusal : (n : ℕ) → n ≡ first_failed (lent_checks L c) → (n ≡ 0 → ⊥) → (column_refusal L c k ≡ n) × (n ≡ 13 → ⊥)
     unfolding column_refusal column_checks
     lent_refusal n e h = three_no (directory_block_ok L c.directory) (slices_ok c.slices) (directory_ok L (length c.slices.growers) c.directory) (call_checks L c k) n e h
-
-    pub lent_no : (n : ℕ) → n ≡ first_failed (lent_checks L c) → (n ≡ 0 → ⊥) → ◌≡◌ {A = Called} (record { answer = without_totals n no_counts; column = c }) (column_call L c k)
-    lent_no n e h =
-        let r = lent_refusal n e h in
-        refused_call n r.0 h r.1
 
     -- what a refused call reports and leaves
     pub refused_by : (x : Refused) → RefusedBy L c k x → ◌≡◌ {A = Called} (record { answer = answer_of (Err x); column = c }) (column_call L c k)

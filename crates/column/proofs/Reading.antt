@@ -7,7 +7,6 @@ use native.Mathlib.Omega.{arith}
 use lib.ListN.{length, get_or, take, drop}
 use borrow.Author.Tests.{le-leb, lt-leb}
 use Rattle.model.specs.declared.Delivery.{Delivery}
-use Rattle.model.specs.declared.Answer.{Answer}
 use Rattle.model.specs.declared.Counts.{Counts}
 use Rattle.model.specs.declared.Totals.{Totals}
 use Rattle.model.specs.Bounds.{most_slots}
@@ -19,7 +18,7 @@ use Rattle.model.specs.Calls.{range_days, span_ok}
 use Rattle.model.specs.Partitions.{start_of, between}
 use Rattle.model.specs.Directory.{directory_of}
 use Rattle.model.specs.Column.{Column, slots, lengths_of, fences_of, target, scanned_ok, scanned_days_ok}
-use Rattle.model.specs.Accesses.{no_counts, blocks_of, reads_of, scan_counts, blocks_scanned, call_counts}
+use Rattle.model.specs.Accesses.{blocks_of, reads_of, scan_counts, blocks_scanned, call_counts}
 use Rattle.model.specs.Questions.{lent_checks, call_checks}
 use Rattle.model.specs.ColumnCalls.{Called, column_refusal, call_totals, column_call}
 use Rattle.model.proofs.Places.{placed, placed_mono}
@@ -29,10 +28,16 @@ use Rattle.scan.specs.declared.Scan.{Scan}
 use Rattle.scan.specs.Scans.{all_fit, records_in, scan_of}
 use Rattle.scan.proofs.Judging.{judged_says, judged_value, first_holds, second_holds}
 use Rattle.scan.proofs.Scanning.{scans}
-use Rattle.column.specs.Answers.{without_totals}
+use Rattle.std.specs.Prelude.{Ok}
+use Rattle.model.specs.declared.refusal.Refusal.{Refusal}
+use Rattle.model.specs.declared.refusal.Refusal.TheVariants.{Range, Days}
+use Rattle.model.specs.declared.answers.Refused.{Refused}
+use Rattle.model.specs.Refusals.{refusal_number}
+use Rattle.model.specs.Answers.{refused_ahead, answer_of}
+use Rattle.column.specs.Answers.{RefusedBy}
 use Rattle.directory.specs.Numbers.{HasPartition}
 use Rattle.directory.proofs.LentColumns.{LentColumn, lent_column, count_lengths, count_fences, has_partition}
-use Rattle.column.proofs.Answering.{lent_yes, refused_call, accepted_call}
+use Rattle.column.proofs.Answering.{lent_yes, refused_ahead_by, accepted_call}
 
 -- what a scan that came out good or bad says
 module _ (b : ℕ) (ns : List ℕ) (p n lo hi : ℕ) (z : Span) (ds : List Delivery) (s : Scan) (e : s ≡ scan_of b ns p n lo hi z ds) where
@@ -72,6 +77,11 @@ and-false : (a : Bool) → a && false ≡ false
 and-false true = refl
 and-false false = refl
 
+-- a bad scan is refused by 8 or 19
+pub by_days : (b : Bool) (n : ℕ) → n ≡ cond b 19 8 → (n ≡ 8 → ⊥) → ◌≡◌ {A = ℕ} 19 (cond b 19 8)
+by_days true n e f = refl
+by_days false n e f = absurd (f e)
+
 module _ (L : ℕ) where
   module _ (c : Column) (h : first_failed (lent_checks L c) ≡ 0) where
     l : LentColumn L c
@@ -89,11 +99,21 @@ module _ (L : ℕ) where
         let one : 0 < length (fences_of L c) = omega (arith, count_fences L c l, l.shape.some) in
         placed_mono (fences_of L c) lo hi _ _ k (placed (fences_of L c) lo one) (placed (fences_of L c) hi one)
 
+    -- the scan that is asked for, in the column's terms
+    pub scan_is : (lo hi : ℕ) (z : Span) (lens : List ℕ) (from to b : ℕ) (ds : List Delivery) (s : Scan) → lens ≡ lengths_of L c → from ≡ target L c lo → to ≡ target L c hi
+        → b ≡ get_or c.directory 0 0 → ds ≡ slots c → s ≡ scan_of b lens from (to + 1 - from) lo hi z ds
+        → s ≡ scan_of (get_or c.directory 0 0) (lengths_of L c) (target L c lo) (target L c hi + 1 - target L c lo) lo hi z (slots c)
+    scan_is lo hi z lens from to b ds s el ef et eb ed e = rw (el, ef, et, eb, ed) at e
+
+    pub failed_is : (lo hi : ℕ) (lens : List ℕ) (from to : ℕ) (ds : List Delivery) (n : ℕ) → lens ≡ lengths_of L c → from ≡ target L c lo → to ≡ target L c hi → ds ≡ slots c
+        → n ≡ cond (every in_range (records_in lens from (to + 1 - from) ds)) 19 8
+        → n ≡ cond (every in_range (records_in (lengths_of L c) (target L c lo) (target L c hi + 1 - target L c lo) (slots c))) 19 8
+    failed_is lo hi lens from to ds n el ef et ed e = rw (el, ef, et, ed) at e
+
     -- refused by 7
-    pub range_backwards : (lo hi : ℕ) (z : Span) → hi < lo → without_totals 7 no_counts ≡ (column_call L c (range_days lo hi z)).answer
+    pub range_backwards : (lo hi : ℕ) (z : Span) (x : Refused) → x ≡ refused_ahead Range → hi < lo → RefusedBy L c (range_days lo hi z) x
     unfolding call_checks first_failed
-    range_backwards lo hi z k =
-        ap (λ (r : Called). r.answer) (refused_call L c (range_days lo hi z) 7 (lent_yes L c (range_days lo hi z) h ∙ rw (lt-leb lo hi k)) (λ e. omega arith) (λ e. omega arith))
+    range_backwards lo hi z x w k = refused_ahead_by L c (range_days lo hi z) Range x w (lent_yes L c (range_days lo hi z) h ∙ rw (lt-leb lo hi k)) (λ e. omega arith)
 
     module _ (lo hi : ℕ) (z : Span) (k : lo ≤ hi) (s : Scan)
         (e : s ≡ scan_of (get_or c.directory 0 0) (lengths_of L c) (target L c lo) (target L c hi + 1 - target L c lo) lo hi z (slots c)) where
@@ -106,18 +126,18 @@ module _ (L : ℕ) where
       scanned = records_in (lengths_of L c) (target L c lo) (target L c hi + 1 - target L c lo) (slots c)
 
       -- refused by 8, or else by 19
-      pub range_bad : s.good ≡ false → (n : ℕ) → n ≡ cond (every in_range scanned) 19 8 → without_totals n no_counts ≡ (column_call L c (range_days lo hi z)).answer
+      pub range_bad : s.good ≡ false → (r : Refusal) → refusal_number r ≡ cond (every in_range scanned) 19 8 → (x : Refused) → x ≡ refused_ahead r → RefusedBy L c (range_days lo hi z) x
       unfolding scanned_ok scanned_days_ok between
-      range_bad f n i = go (every in_range scanned) refl (bad_scan _ _ _ _ lo hi z (slots c) s e f)
+      range_bad f r i x w = go (every in_range scanned) refl (bad_scan _ _ _ _ lo hi z (slots c) s e f)
         where
-          go : (v : Bool) → every in_range scanned ≡ v → v && every day_ok scanned ≡ false → without_totals n no_counts ≡ (column_call L c (range_days lo hi z)).answer
+          go : (v : Bool) → every in_range scanned ≡ v → v && every day_ok scanned ≡ false → RefusedBy L c (range_days lo hi z) x
           go true j k =
-              let r : span_ok z && every day_ok scanned ≡ false = rw k (and-false (span_ok z)) in
-              ap (λ (m : ℕ). without_totals m no_counts) (i ∙ rw j)
-              ∙ ap (λ (x : Called). x.answer) (refused_call L c (range_days lo hi z) 19 (answered true false j r) (λ o. omega arith) (λ o. omega arith))
+              let n : refusal_number r ≡ 19 = i ∙ rw j in
+              let u : span_ok z && every day_ok scanned ≡ false = rw k (and-false (span_ok z)) in
+              refused_ahead_by L c (range_days lo hi z) r x w (answered true false j u ∙ sym n) (λ o. omega arith)
           go false j k =
-              ap (λ (m : ℕ). without_totals m no_counts) (i ∙ rw j)
-              ∙ ap (λ (x : Called). x.answer) (refused_call L c (range_days lo hi z) 8 (answered false _ j refl) (λ o. omega arith) (λ o. omega arith))
+              let n : refusal_number r ≡ 8 = i ∙ rw j in
+              refused_ahead_by L c (range_days lo hi z) r x w (answered false _ j refl ∙ sym n) (λ o. omega arith)
 
       -- check 19 of the days named
       module _ (f : s.good ≡ true) (v : Bool) (p : v ≡ span_ok z) where
@@ -126,19 +146,19 @@ module _ (L : ℕ) where
         dated = rw (good_scan _ _ _ _ lo hi z (slots c) s e f).days (and-true (span_ok z) ∙ sym p)
 
         -- refused by 19
-        pub range_undated : v ≡ false → without_totals 19 no_counts ≡ (column_call L c (range_days lo hi z)).answer
+        pub range_undated : (x : Refused) → x ≡ refused_ahead Days → v ≡ false → RefusedBy L c (range_days lo hi z) x
         unfolding scanned_ok between
-        range_undated i =
+        range_undated x w i =
             let g = good_scan _ _ _ _ lo hi z (slots c) s e f in
-            ap (λ (x : Called). x.answer) (refused_call L c (range_days lo hi z) 19 (answered true false g.values (dated ∙ i)) (λ j. omega arith) (λ j. omega arith))
+            refused_ahead_by L c (range_days lo hi z) Days x w (answered true false g.values (dated ∙ i)) (λ j. omega arith)
 
         -- accepted
         pub range_good : (n : Counts) → v ≡ true → n ≡ reads_of s.blocks
-            → ◌≡◌ {A = Answer} (record { refusal = 0; totals = s.totals; counts = n }) (column_call L c (range_days lo hi z)).answer
+            → answer_of (Ok (record { counts = n; totals = s.totals })) ≡ (column_call L c (range_days lo hi z)).answer
         unfolding scanned_ok between call_totals call_counts scan_counts blocks_scanned directory_of
         range_good n i j =
             let g = good_scan _ _ _ _ lo hi z (slots c) s e f in
-            ap₂ (λ (t : Totals) (m : Counts). record { refusal = 0; totals = t; counts = m }) g.totals (j ∙ ap reads_of g.blocks)
+            ap₂ (λ (t : Totals) (m : Counts). answer_of (Ok (record { counts = m; totals = t }))) g.totals (j ∙ ap reads_of g.blocks)
             ∙ ap (λ (x : Called). x.answer) (accepted_call L c (range_days lo hi z) (answered true true g.values (dated ∙ i)))
 
   -- a grower's partition, which the checks have found, lies in the slices

@@ -1,14 +1,12 @@
 -- Why a call is refused, and where a delivery lies that insert, delete or move names.
 use Rattle.std.specs.Prelude.{ℕ, ◌+◌, ◌*◌, ◌≤◌, ◌<◌, ◌≡◌, cond, ◌&&◌, List, [], ◌∷◌, length, get_or, take, drop, eqb}
 use Rattle.model.specs.declared.Delivery.{Delivery}
-use Rattle.model.specs.declared.Counts.{Counts}
-use Rattle.model.specs.declared.Answer.{Answer}
 use Rattle.model.specs.declared.answers.Refused.{Refused}
 use Rattle.model.specs.declared.PartitionSlice.{PartitionSlice}
 use Rattle.model.specs.Refusals.{refusal_number}
 use Rattle.model.specs.Lists.{sum_of, every}
 use Rattle.model.specs.Checks.{Check, ask, first_failed}
-use Rattle.model.specs.Deliveries.{Even, in_range, day_ok, among, no_totals, first_match}
+use Rattle.model.specs.Deliveries.{Even, in_range, day_ok, among, first_match}
 use Rattle.model.specs.Calls.{Call, insert, delete}
 use Rattle.model.specs.Partitions.{start_of, one_more, one_fewer}
 use Rattle.model.specs.Moves.{inserted, deleted, moved}
@@ -22,10 +20,6 @@ use Rattle.ripple.specs.declared.records.RecordsMut.{RecordsMut}
 use Rattle.ripple.specs.Held.{slices_held}
 use Rattle.column.specs.declared.Sought.{Sought}
 use Rattle.column.specs.declared.Located.{Located}
-
--- an answer that has no totals
-abbrev pub without_totals : ℕ → Counts → Answer
-without_totals n k = record { refusal = n; counts = k; totals = no_totals }
 
 -- the column of a directory and the slices that a write moves records in
 abbrev pub column_held : List ℕ → RecordsMut → Column

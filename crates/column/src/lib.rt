@@ -6,7 +6,6 @@
 ghost use Rattle.std.specs.Prelude.{◌≡◌, ◌+◌, ◌-◌, ◌≤◌, ◌<◌, length, get_or, T, IfOk, MatchResult};
 ghost use Rattle.model.specs.Bounds.{block_limit, most_slots};
 ghost use Rattle.model.specs.Lists.{sum_of};
-ghost use Rattle.model.specs.Calendar.{span};
 ghost use Rattle.model.specs.Deliveries.{rows, no_totals};
 ghost use Rattle.model.specs.Checks.{first_failed};
 ghost use Rattle.model.specs.Calls.{find, range, range_days, insert, delete, move};
@@ -20,38 +19,19 @@ ghost use Rattle.model.specs.Growers.{up, down};
 ghost use Rattle.model.specs.GrowerCalls.{grower_call};
 ghost use Rattle.model.specs.Refusals.{number_of};
 ghost use Rattle.model.specs.Answers.{answer_of, grower_answer_of, slice_answer_of};
-ghost use Rattle.model.specs.Lent.{records_given, column_given, column_of, column_in, column_out, column_in_mut};
+ghost use Rattle.model.specs.Lent.{records_given, span_given, column_given, column_out, column_in_mut};
 ghost use Rattle.directory.specs.Numbers.{HasPartition};
 ghost use Rattle.ripple.specs.Held.{Keeps};
-ghost use Rattle.column.specs.Answers.{without_totals, RefusedBy, IsSought, NotSought, IsLocated, IsOpen, part_of};
+ghost use Rattle.column.specs.Answers.{RefusedBy, IsSought, NotSought, IsLocated, IsOpen, part_of};
 ghost use Rattle.column.specs.Answers.{Ready, column_held, put_of, taken_of, shifted_of};
 
 use directory::Place;
 use growers::{Downward, Upward, Way};
 use model::{
-    Answer, Counts, Delivery, GrowerReport, LentSlices, MOST_DAY, PartitionPlace, PartitionSlice,
+    Counts, DaySpan, Delivery, GrowerReport, LentSlices, MOST_DAY, PartitionPlace, PartitionSlice,
     Records, Refusal, Refused, Report, Totals,
 };
 use ripple::RecordsMut;
-
-// An answer that has no totals: an accepted insert, delete or move, and every refusal.
-fn without_totals(refusal: u32, counts: Counts) -> Answer
-    ensures { result ≡ without_totals refusal counts }
-{
-    let totals = Totals::none();
-    Answer {
-        refusal,
-        counts,
-        totals,
-    }
-}
-
-// A refusal: totals and counts 0.
-fn refused(refusal: u32) -> Answer
-    ensures { result ≡ without_totals refusal no_counts }
-{
-    without_totals(refusal, Counts::none())
-}
 
 // hi's partition, the last that a read scans. A find's is the one that its checks found.
 fn last_scanned(directory: &[u32], from: usize, lo: u32, hi: u32) -> usize
@@ -64,131 +44,81 @@ fn last_scanned(directory: &[u32], from: usize, lo: u32, hi: u32) -> usize
     directory::partition_of(directory, hi)
 }
 
-// The partitions from lo's, which begins at start, to hi's, on the days first to last, once checks 2, 3, 6 and 7 are passed.
-fn read(
-    directory: &[u32],
-    g: &[u32],
-    w: &[u32],
-    y: &[u32],
-    n: &[u32],
-    from: usize,
-    start: usize,
-    lo: u32,
-    hi: u32,
-    first: u32,
-    last: u32,
-) -> Answer
-    requires { (first_failed (lent_checks block_limit (column_of directory.now g.now w.now y.now n.now)) ≡ 0) × (lo ≤ hi)
-        × (from ≡ place (directory_of block_limit directory.now).fences lo)
-        × (start ≡ start_of (directory_of block_limit directory.now).lengths from) }
-    ensures { result ≡ (column_call block_limit (column_in directory g w y n) (range_days lo hi (span first last))).answer }
-{
-    let to = last_scanned(directory, from, lo, hi);
-    let s = scan::scan_parts(
-        g,
-        w,
-        y,
-        n,
-        directory::lengths(directory),
-        from,
-        to,
-        start,
-        directory::block(directory),
-        lo,
-        hi,
-        first,
-        last,
-    );
-    if !s.good {
-        return refused(scan::failed_check(
-            g,
-            w,
-            y,
-            n,
-            directory::lengths(directory),
-            from,
-            to,
-            start,
-        ));
-    }
-    if !checks::span_ok(first, last) {
-        return refused(19);
-    }
-    let counts = scan::reads_of(s.blocks);
-    let totals = s.totals;
-    Answer {
-        refusal: 0,
-        totals,
-        counts,
-    }
-}
-
 // The records of the growers lo to hi on the days first to last, all four included; if last is earlier than first, none.
 pub fn range_days(
     directory: &[u32],
-    growers: &[u32],
-    weights: &[u32],
-    yields: &[u32],
-    days: &[u32],
+    slices: LentSlices<'_>,
     lo: u32,
     hi: u32,
-    first: u32,
-    last: u32,
-) -> Answer
-    ensures { result ≡ (column_call block_limit (column_in directory growers weights yields days) (range_days lo hi (span first last))).answer }
+    days: DaySpan,
+) -> Result<Report, Refused>
+    ensures { answer_of result ≡ (column_call block_limit (column_given directory.now slices.entry) (range_days lo hi (span_given days))).answer }
 {
-    let shape = directory::judged_slices(directory, growers, weights, yields, days, lo);
-    let n = shape.refusal;
-    if n != 0 {
-        return refused(n);
-    }
+    let shape = directory::lent(directory, slices, lo)?;
     if hi < lo {
-        return refused(7);
+        return Err(Refusal::Range.into());
     }
-    read(
-        directory,
-        growers,
-        weights,
-        yields,
-        days,
-        shape.target,
+    let r = shape.records;
+    let from = shape.target;
+    let to = last_scanned(directory, from, lo, hi);
+    let lens = directory::lengths(directory);
+    let block = directory::block(directory);
+    let s = scan::scan_parts(
+        r.growers,
+        r.weights,
+        r.yields,
+        r.days,
+        lens,
+        from,
+        to,
         shape.start,
+        block,
         lo,
         hi,
-        first,
-        last,
-    )
+        days.first,
+        days.last,
+    );
+    if !s.good {
+        let n = scan::failed_check(
+            r.growers,
+            r.weights,
+            r.yields,
+            r.days,
+            lens,
+            from,
+            to,
+            shape.start,
+        );
+        if n == 8 {
+            return Err(Refusal::Values.into());
+        }
+        return Err(Refusal::Days.into());
+    }
+    if !checks::span_ok(days.first, days.last) {
+        return Err(Refusal::Days.into());
+    }
+    Ok(Report {
+        counts: scan::reads_of(s.blocks),
+        totals: s.totals,
+    })
 }
 
 // The records of the growers lo to hi, both included, on any day.
-pub fn range(
-    directory: &[u32],
-    growers: &[u32],
-    weights: &[u32],
-    yields: &[u32],
-    days: &[u32],
-    lo: u32,
-    hi: u32,
-) -> Answer
-    ensures { result ≡ (column_call block_limit (column_in directory growers weights yields days) (range lo hi)).answer }
+pub fn range(directory: &[u32], slices: LentSlices<'_>, lo: u32, hi: u32) -> Result<Report, Refused>
+    ensures { answer_of result ≡ (column_call block_limit (column_given directory.now slices.entry) (range lo hi)).answer }
 {
-    range_days(
-        directory, growers, weights, yields, days, lo, hi, 0, MOST_DAY,
-    )
+    let days = DaySpan {
+        first: 0,
+        last: MOST_DAY,
+    };
+    range_days(directory, slices, lo, hi, days)
 }
 
 // The records of one grower.
-pub fn find(
-    directory: &[u32],
-    growers: &[u32],
-    weights: &[u32],
-    yields: &[u32],
-    days: &[u32],
-    grower: u32,
-) -> Answer
-    ensures { result ≡ (column_call block_limit (column_in directory growers weights yields days) (find grower)).answer }
+pub fn find(directory: &[u32], slices: LentSlices<'_>, grower: u32) -> Result<Report, Refused>
+    ensures { answer_of result ≡ (column_call block_limit (column_given directory.now slices.entry) (find grower)).answer }
 {
-    range(directory, growers, weights, yields, days, grower, grower)
+    range(directory, slices, grower, grower)
 }
 
 // Where a delivery lies in a partition, and what the scan of it cost.
