@@ -42,13 +42,17 @@ left_none gs is x h =
     (all_by (λ (n : ℕ). n < x) (growers_at gs is)
     (λ p k. subst (λ (n : ℕ). n < x) (sym (at_map (λ (i : ℕ). get_or gs i 0) is p (omega (arith, k, length-map is (λ (i : ℕ). get_or gs i 0))))) (h (get_or is p 0)))))
 
--- total growers are less than lo, and n are in the window
-pub record Counting (gs : List ℕ) (p : ℕ → Bool) (batch : List ℕ) (total lo n : ℕ) : Type 0 where
-  pub sum : total + length (left (held gs p) lo) ≡ length (each_once (held gs p))
-  pub window : Window gs p lo (length gs) batch n
+-- total growers are less than lo
+abbrev pub Counted : List ℕ → (ℕ → Bool) → ℕ → ℕ → Type 0
+Counted gs p total lo = total + length (left (held gs p) lo) ≡ length (each_once (held gs p))
 
-pub counting_start : {gs : List ℕ} {p : ℕ → Bool} {batch : List ℕ} {n : ℕ} → Window gs p 0 (length gs) batch n → Counting gs p batch 0 0 n
-counting_start {gs} {p} w = record { sum = omega (arith, ap length (left_all (held gs p))); window = w }
+pub counted_none : (gs : List ℕ) (p : ℕ → Bool) → Counted gs p 0 0
+counted_none gs p = omega (arith, ap length (left_all (held gs p)))
+
+-- and n are in the window
+pub record Counting (gs : List ℕ) (p : ℕ → Bool) (batch : List ℕ) (total lo n : ℕ) : Type 0 where
+  pub sum : Counted gs p total lo
+  pub window : Window gs p lo (length gs) batch n
 
 module _ {gs : List ℕ} {p : ℕ → Bool} {batch : List ℕ} {total lo n : ℕ} (c : Counting gs p batch total lo n) (long : n ≤ length batch) where
   in_window : growers_at gs (take n batch) ≡ take most_at_once (left (held gs p) lo)
@@ -88,11 +92,11 @@ module _ {gs : List ℕ} {p : ℕ → Bool} {batch : List ℕ} {total lo n : ℕ
     past =
         ap (λ (x : ℕ). length (left (held gs p) (x + 1))) last_left ∙ ap length (once_past lo (held gs p) 8191 (omega (arith, full, many))) ∙ length-drop most_at_once (left (held gs p) lo)
 
-    pub counting_less : length (left (held gs p) (last + 1)) < length (left (held gs p) lo)
-    counting_less = omega (arith, past, full, many)
+    pub counting_less : {x : ℕ} → x ≡ last + 1 → length (left (held gs p) x) < length (left (held gs p) lo)
+    counting_less e = omega (arith, past, full, many, ap (λ (x : ℕ). length (left (held gs p) x)) e)
 
-    pub counting_more : {after : List ℕ} {m : ℕ} → Window gs p (last + 1) (length gs) after m → Counting gs p after (total + n) (last + 1) m
-    counting_more w = record { sum = omega (arith, c.sum, past, full, many); window = w }
+    pub counting_more : {x : ℕ} → x ≡ last + 1 → Counted gs p (total + n) x
+    counting_more e = omega (arith, c.sum, past, full, many, ap (λ (x : ℕ). length (left (held gs p) x)) e)
 
     pub counting_last : ((p : ℕ) → get_or gs p 0 < last + 1) → total + n ≡ length (each_once (held gs p))
     counting_last h = omega (arith, c.sum, past, full, many, ap length (left_none gs (picked p (length gs)) (last + 1) h))

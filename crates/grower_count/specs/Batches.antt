@@ -1,7 +1,8 @@
 -- A batch of slots: filled, cut down to one slot for each grower, and what it holds when slots have been in it.
 use Rattle.std.specs.Prelude.{ℕ, ◌+◌, ◌≤◌, ◌≡◌, Bool, not, ◌&&◌, List, ◌++◌, length, get_or, take, T, leb, ltb, eqb}
 use Rattle.model.specs.Lists.{up_from, keep}
-use Rattle.model.specs.Calendar.{span, is_in}
+use Rattle.model.specs.Calendar.{is_in}
+use Rattle.model.specs.Lent.{span_given}
 use Rattle.model.specs.Sheet.{each_once}
 use Rattle.slot_order.specs.Passes.{slots_in, growers_at}
 use Rattle.grower_count.specs.declared.Wanted.{Wanted}
@@ -12,7 +13,7 @@ most_at_once = 8192
 
 -- is a slot's day one of those wanted?
 abbrev pub during : Wanted → List ℕ → ℕ → Bool
-during q ns i = is_in (span q.first q.last) (get_or ns i 0)
+during q ns i = is_in (span_given q.days) (get_or ns i 0)
 
 -- the growers that are at least lo, of the slots before slot i that pass a test p
 abbrev pub growers_before : List ℕ → (ℕ → Bool) → ℕ → ℕ → List ℕ

@@ -1,0 +1,8 @@
+-- The slots of the records of some days (02: Slip 7).
+use Rattle.std.specs.Prelude.{ℕ, List, length}
+use Rattle.model.specs.Calendar.{Span}
+use Rattle.model.specs.Deliveries.{Slices}
+use Rattle.model.specs.Sheet.{slots_during}
+
+abbrev pub span_slots : Span → Slices → List ℕ
+span_slots s x = slots_during s x.days (length x.growers)
