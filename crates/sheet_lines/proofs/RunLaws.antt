@@ -1,5 +1,5 @@
 -- A run of one grower's slots, summed: what was added, and what the slots of the run from place i on add, is the whole. Assumes nothing.
-use Prim.Native.Nat.{ℕ, ◌+◌, ◌-◌, ◌*◌, ◌≤◌, ◌<◌}
+use Prim.Native.Nat.{ℕ, ◌+◌, ◌*◌, ◌≤◌, ◌<◌}
 use mathlib.Core.Path.{◌≡◌, refl, ap}
 use mathlib.Core.List.{List, [], ◌∷◌, map}
 use native.Mathlib.Omega.{arith}
@@ -52,7 +52,8 @@ slots_light s m is h = record {
   little = omega (arith, oils_most s m is);
 }
 
-pub record RunLeft (s : Slices) (order : List ℕ) (first weight oil i : ℕ) : Type 0 where
+pub record RunLeft (s : Slices) (order : List ℕ) (first records weight oil i : ℕ) : Type 0 where
+  pub many : first + records ≡ i
   pub from : first ≤ i
   pub to : i ≤ length order
   pub counted : i + length (left s.growers order (grower_at s.growers order first) i) ≡ first + length (run_from s.growers first order)
@@ -61,20 +62,26 @@ pub record RunLeft (s : Slices) (order : List ℕ) (first weight oil i : ℕ) : 
   pub light : weight ≤ 100000 * i
   pub little : oil ≤ 1000000000 * i
 
--- the run ends at i, with these sums
-abbrev RunIs : Slices → List ℕ → ℕ → ℕ → ℕ → ℕ → Type 0
-RunIs s order first weight oil i =
-    (i ≡ first + length (run_from s.growers first order))
-    × (◌≡◌ {A = Totals} (record { records = i - first; weight = weight; oil = oil }) (totals_of (records_at s (run_from s.growers first order))))
+-- the run ends here, with these totals
+abbrev RunIs : Slices → List ℕ → ℕ → Totals → Type 0
+RunIs s order first t = t ≡ totals_of (records_at s (run_from s.growers first order))
 
-pub run_start : (s : Slices) (order : List ℕ) (first : ℕ) → first < length order → RunLeft s order first 0 0 first
+-- as many slots as records
+pub run_long : (s : Slices) (is : List ℕ) → (totals_of (records_at s is)).records ≡ length is
+unfolding totals_of
+run_long s is = length-map is (delivery_at s)
+
+pub run_start : (s : Slices) (order : List ℕ) (first : ℕ) → first < length order → RunLeft s order first 0 0 0 first
 unfolding left run_from
-run_start s order first h = record { from = omega arith; to = omega arith; counted = refl; weighed = omega arith; pressed = omega arith; light = omega arith; little = omega arith }
+run_start s order first h = record { many = omega arith; from = omega arith; to = omega arith; counted = refl; weighed = omega arith; pressed = omega arith; light = omega arith; little = omega arith }
 
-module _ {s : Slices} {order : List ℕ} {first weight oil i : ℕ} (l : RunLeft s order first weight oil i) where
+module _ {s : Slices} {order : List ℕ} {first records weight oil i : ℕ} (l : RunLeft s order first records weight oil i) where
+  abbrev sums : Totals
+  sums = record { records = records; weight = weight; oil = oil }
+
   -- the slot at i is of the run
   pub run_next : Measured s → i < length order → grower_at s.growers order i ≡ grower_at s.growers order first
-      → RunLeft s order first (weight + get_or s.weights (get_or order i 0) 0) (oil + get_or s.weights (get_or order i 0) 0 * get_or s.yields (get_or order i 0) 0) (i + 1)
+      → RunLeft s order first (records + 1) (weight + get_or s.weights (get_or order i 0) 0) (oil + get_or s.weights (get_or order i 0) 0 * get_or s.yields (get_or order i 0) 0) (i + 1)
   unfolding left slots_front sum_of
   run_next m h e =
       let k : ℕ = get_or order i 0 in
@@ -82,6 +89,7 @@ module _ {s : Slices} {order : List ℕ} {first weight oil i : ℕ} (l : RunLeft
       let o = modest s k m in
       let x : left s.growers order n i ≡ k ∷ left s.growers order n (i + 1) = rw (drop_next order i h, eq-eqb (get_or s.growers k 0) n e) in
       record {
+        many = omega (arith, l.many);
         from = omega (arith, l.from);
         to = omega arith;
         counted = omega (arith, ap length x, l.counted);
@@ -92,19 +100,16 @@ module _ {s : Slices} {order : List ℕ} {first weight oil i : ℕ} (l : RunLeft
       }
 
   -- where nothing of the run is left, it ends
-  run_over : left s.growers order (grower_at s.growers order first) i ≡ [] → RunIs s order first weight oil i
+  run_over : left s.growers order (grower_at s.growers order first) i ≡ [] → RunIs s order first sums
   unfolding totals_of sum_of
   run_over x =
-      let z : i ≡ first + length (run_from s.growers first order) = omega (arith, ap length x, l.counted) in (
-        z,
-        totals_by (omega (arith, length-map (run_from s.growers first order) (delivery_at s))) (omega (arith, ap (weights s) x, l.weighed))
-            (omega (arith, ap (oils s) x, l.pressed)),
-      )
+      totals_by (omega (arith, ap length x, l.counted, l.many, length-map (run_from s.growers first order) (delivery_at s))) (omega (arith, ap (weights s) x, l.weighed))
+      (omega (arith, ap (oils s) x, l.pressed))
 
-  pub run_stops : i < length order → (grower_at s.growers order i ≡ grower_at s.growers order first → ⊥) → RunIs s order first weight oil i
+  pub run_stops : i < length order → (grower_at s.growers order i ≡ grower_at s.growers order first → ⊥) → RunIs s order first sums
   unfolding left slots_front
   run_stops h o = run_over (rw (drop_next order i h, ne_eqb (grower_at s.growers order i) (grower_at s.growers order first) o))
 
-  pub run_ends : length order ≤ i → RunIs s order first weight oil i
+  pub run_ends : length order ≤ i → RunIs s order first sums
   unfolding left slots_front
   run_ends h = run_over (rw (drop_of_length-le order h))
