@@ -45,9 +45,6 @@ module _ (at : ℕ) (s : Totals) (t t₁ t₂ t₃ : List ℕ) (e₁ : t₁ ≡ 
   size₃ : length t₃ ≡ length t
   size₃ = field_size (at + 40) s.oil t₂ t₃ e₃ (omega (arith, size₂)) ∙ size₂
 
-  pub totals_size : length (set t₃ (at + 60) line_end) ≡ length t
-  totals_size = length-set t₃ (at + 60) line_end ∙ size₃
-
   pub totals_put : set t₃ (at + 60) line_end ≡ placed at (wide_line (totals_row s)) t
   totals_put =
       let u : List ℕ = set t₃ (at + 60) line_end in
