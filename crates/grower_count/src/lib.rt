@@ -10,7 +10,7 @@ ghost use Rattle.model.specs.Lists.{never_falls};
 ghost use Rattle.model.specs.Lent.{records_given, span_given};
 ghost use Rattle.model.specs.Sheet.{each_once};
 ghost use Rattle.slot_order.specs.Passes.{slots_in, growers_at};
-ghost use Rattle.slot_order.specs.Spans.{span_slots};
+ghost use Rattle.slot_order.specs.Spans.{slots_on};
 ghost use Rattle.grower_count.specs.Batches.{during, is_new, FilledUp, Cut, Smallest, Window};
 
 use model::{DaySpan, Records};
@@ -146,7 +146,7 @@ fn number_after(growers: &[u32], slot: u32) -> Option<u32>
 // How many growers there are in the records of these days.
 pub fn count(r: Records, days: DaySpan) -> usize
     ensures { result
-        ≡ length (each_once (growers_at r.entry.growers.now (span_slots (span_given days) (records_given r.entry)))) }
+        ≡ length (each_once (growers_at r.entry.growers.now (slots_on (span_given days) (records_given r.entry)))) }
 {
     let mut batch = [0u32; BATCH];
     let mut work = [0u32; BATCH];

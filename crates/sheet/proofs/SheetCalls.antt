@@ -3,6 +3,8 @@ use Prim.Native.Nat.{ℕ, zero, suc, ◌≤◌, ◌<◌}
 use mathlib.Core.Path.{◌≡◌, refl, sym, ap, ◌∙◌}
 use mathlib.Core.Bool.{Bool, true, false, cond, ◌&&◌}
 use mathlib.Core.List.{List, [], ◌∷◌, ◌++◌}
+use Rattle.std.specs.Prelude.{Option, Some, Result, Ok, Err}
+use Rattle.std.specs.Result.{result_ok}
 use native.Mathlib.Omega.{arith}
 use native.Mathlib.Decide.{ℕ_discrete}
 use borrow.Author.Tests.{ne_eqb, le-leb}
@@ -10,6 +12,9 @@ use lib.Dec.{T, leb, eqb, leb→le}
 use lib.ListN.{length, get_or, take}
 use lib.Seq.{get_or-take}
 use Rattle.model.specs.declared.Delivery.{Delivery}
+use Rattle.model.specs.declared.lent.DaySpan.{DaySpan}
+use Rattle.model.specs.declared.refusal.Refusal.{Refusal}
+use Rattle.model.proofs.Refusals.{refusal_some}
 use Rattle.model.specs.Bounds.{most_day}
 use Rattle.model.specs.Lists.{sum_of, up_from, every, keep}
 use Rattle.model.specs.Checks.{Check, ask, first_failed}
@@ -25,12 +30,13 @@ use Rattle.model.proofs.ListLaws.{length_up_from}
 use Rattle.model.proofs.GrowerLaws.{all_imply, keep_whole}
 use Rattle.checks.proofs.Answers.{failed_first, numbered, passed_first}
 use Rattle.dates.specs.declared.TermAnswer.{TermAnswer}
-use Rattle.dates.specs.DateCalls.{term_given, term_call}
+use Rattle.dates.specs.DateCalls.{term_given, term_call, term_answer_of}
 use Rattle.directory.proofs.LentColumns.{LentColumn}
-use Rattle.snapshot.specs.Answers.{sound_checks, checked_column}
-use Rattle.snapshot.proofs.WriteAnswers.{passed, days_there}
+use Rattle.snapshot.specs.Answers.{sound_checks}
+use Rattle.snapshot.proofs.WriteAnswers.{days_there}
 use Rattle.sheet.specs.Answers.{span_of, is_given, span_slots, span_text, span_call}
 use Rattle.sheet.proofs.PartOrder.{all_below}
+use Rattle.sheet.proofs.SheetAnswers.{sound_lent}
 
 -- all days
 abbrev always : Span
@@ -105,10 +111,6 @@ module _ (L : ℕ) (c : Column) (out order work : List ℕ) where
   same_parts : {k j : ℕ} {t u is js : List ℕ} (d : Bool) → k ≡ j → t ≡ u → is ≡ js → result d k t is ≡ result d j u js
   same_parts d p q r = λ i. result d (p i) (q i) (r i)
 
-  lent_there : first_failed (sound_checks L c) ≡ 0 → LentColumn L c
-  unfolding checked_column
-  lent_there p = (passed L c (checked_column L c) refl p).lent
-
   abbrev gs : List ℕ
   gs = c.slices.growers
 
@@ -121,24 +123,28 @@ module _ (L : ℕ) (c : Column) (out order work : List ℕ) where
       let is : List ℕ = span_slots L c always in
       not-dated (length is) used (span_text L c always) (sheet_text L c) (by_grower gs is) (slots_in_order gs used)
   whole_either (yes p) true e =
-      let s = whole_slots (lent_there p) e in
+      let s = whole_slots (sound_lent L c p) e in
       same_parts true (ap length s ∙ length_up_from 0 used) (ap sheet_of (keep_days (all_records L c) (of_true _ e))) (ap (by_grower gs) s)
 
-  pub whole_call : span_call L c (record { refusal = 0; first = 0; last = most_day }) out order work ≡ sheet_call L c out order work
+  pub whole_call : span_call L c (Some (record { first = 0; last = most_day })) out order work ≡ sheet_call L c out order work
   unfolding span_call sheet_call sheet_checks
   whole_call = whole_either (ℕ_discrete (first_failed (sound_checks L c)) 0) (every day_ok (all_records L c)) refl
 
-  -- what the answer of a day makes of it
-  abbrev answered : TermAnswer → SheetResult
+  -- what the days asked for make of it
+  abbrev answered : Option DaySpan → SheetResult
   answered t = result (is_given t && every day_ok (all_records L c)) (length (span_slots L c (span_of t))) (span_text L c (span_of t)) (by_grower gs (span_slots L c (span_of t)))
 
-  term_either : (s : Span) (b : Bool) → answered (cond b (term_given s) (record { refusal = 19; first = 0; last = 0 }))
-      ≡ result (b && every day_ok (all_records L c)) (length (span_slots L c s)) (span_text L c s) (by_grower gs (span_slots L c s))
-  term_either s true = refl
-  term_either s false =
+  term_either : (s : Span) (b : Bool) (t : Result DaySpan Refusal) → term_answer_of t ≡ cond b (term_given s) (record { refusal = 19; first = 0; last = 0 })
+      → answered (result_ok t) ≡ result (b && every day_ok (all_records L c)) (length (span_slots L c s)) (span_text L c s) (by_grower gs (span_slots L c s))
+  term_either s true (Ok d) e =
+      ap (λ (x : TermAnswer). result (every day_ok (all_records L c)) (length (span_slots L c (span x.first x.last))) (span_text L c (span x.first x.last))
+      (by_grower gs (span_slots L c (span x.first x.last)))) e
+  term_either s false (Ok d) e = let z : 0 ≡ 19 = ap (λ (x : TermAnswer). x.refusal) e in absurd (omega (arith, z))
+  term_either s true (Err r) e = absurd (refusal_some r (ap (λ (x : TermAnswer). x.refusal) e))
+  term_either s false (Err r) e =
       let none : Span = span 0 0 in
       not-dated (length (span_slots L c none)) (length (span_slots L c s)) (span_text L c none) (span_text L c s) (by_grower gs (span_slots L c none)) (by_grower gs (span_slots L c s))
 
-  pub term_call_lem : (day : ℕ) → span_call L c (term_call day) out order work ≡ term_sheet_call L c day out order work
+  pub term_call_lem : (day : ℕ) (t : Result DaySpan Refusal) → term_answer_of t ≡ term_call day → span_call L c (result_ok t) out order work ≡ term_sheet_call L c day out order work
   unfolding span_call term_sheet_call term_sheet_checks term_call
-  term_call_lem day = term_either (term_of day) (leb day most_day)
+  term_call_lem day t e = term_either (term_of day) (leb day most_day) t e

@@ -2,198 +2,128 @@
 // fits is known before anything is written, also to the slices that are sorted in, so that a refused call writes to no slice.
 #![tactic(auto)]
 
-ghost use Rattle.std.specs.Prelude.{◌≡◌, ◌+◌, ◌*◌, ◌≤◌, length, leb};
-ghost use Rattle.model.specs.Bounds.{block_limit, most_slots};
-ghost use Rattle.model.specs.Calendar.{span};
-ghost use Rattle.model.specs.Lent.{column_in};
-ghost use Rattle.model.specs.Sheet.{each_once, slots_during};
+ghost use Rattle.std.specs.Prelude.{◌≡◌, ◌+◌, ◌*◌, length, leb, IfOk};
+ghost use Rattle.model.specs.Bounds.{block_limit};
+ghost use Rattle.model.specs.Refusals.{number_of};
+ghost use Rattle.model.specs.Answers.{written_of};
+ghost use Rattle.model.specs.Lent.{records_given, span_given, column_given};
+ghost use Rattle.model.specs.Sheet.{each_once};
 ghost use Rattle.model.specs.SheetCalls.{sheet_call, term_sheet_call};
 ghost use Rattle.slot_order.specs.Passes.{growers_at};
-ghost use Rattle.sheet.specs.Answers.{sized_of, not_sized, span_call};
+ghost use Rattle.slot_order.specs.Spans.{slots_on};
+ghost use Rattle.sheet.specs.Answers.{span_refusal, IsSized, span_call};
 
-use dates::TermAnswer;
-use model::{MOST_DAY, Written};
+use model::{DaySpan, LentSlices, MOST_DAY, Records, Refusal};
 use sheet_lines::{LAST, LINE};
 
-// The refusals of a day, and of a text or an order that is too short (02: 19; 01: 15).
-const NO_DAY: u32 = 19;
-
-const TOO_SHORT: u32 = 15;
-
-// What checking a column finds: a refusal, or how many deliveries there are, and how many of the days asked for.
+// What checking a column finds: the records of its used slots, the days asked for, and how many of the records have one of them.
 #[derive(Clone, Copy)]
-struct Sized {
-    refusal: u32,
-    used: usize,
+struct Sized<'a> {
+    records: Records<'a>,
+    days: DaySpan,
     count: usize,
 }
 
-fn not_sized(n: u32) -> Sized
-    ensures { result ≡ not_sized n }
-{
-    Sized {
-        refusal: n,
-        used: 0,
-        count: 0,
-    }
-}
-
 // Whether the lines of the k slots of these days fit: a line for each slot does, or the growers are counted.
-fn lines_fit(growers: &[u32], days: &[u32], first: u32, last: u32, k: usize, room: usize) -> bool
-    requires { (length growers.now ≤ most_slots) × (length days.now ≡ length growers.now)
-        × (k ≡ length (slots_during (span first last) days.now (length growers.now))) }
+fn lines_fit(r: Records, days: DaySpan, k: usize, room: usize) -> bool
+    requires { k ≡ length (slots_on (span_given days) (records_given r)) }
     ensures { result
-        ≡ leb
-        (81 * length (each_once (growers_at growers.now (slots_during (span first last) days.now (length growers.now)))) + 61)
-        room }
+        ≡ leb (81 * length (each_once (growers_at r.entry.growers.now (slots_on (span_given days) (records_given r.entry)))) + 61) room }
 {
-    if LINE * k + LAST <= room {
-        return true;
-    }
-    LINE * grower_count::count(growers, days, first, last) + LAST <= room
+    LINE * k + LAST <= room || LINE * grower_count::count(r, days) + LAST <= room
 }
 
-// Checks 2, 3, 6, 6, 8, 19 and 15 of a sheet of the days that t gives.
-fn check_sheet(
+// Checks 2, 3, 6, 6, 8, 19 and 15 of a sheet of these days.
+fn check_sheet<'a>(
     directory: &[u32],
-    g: &[u32],
-    w: &[u32],
-    y: &[u32],
-    n: &[u32],
-    t: TermAnswer,
+    slices: LentSlices<'a>,
+    days: Option<DaySpan>,
     room: usize,
     order_room: usize,
     work_room: usize,
-) -> Sized
-    ensures { result ≡ sized_of block_limit (column_in directory g w y n) t room order_room work_room }
+) -> Result<Sized<'a>, Refusal>
+    ensures refused { number_of result ≡ span_refusal block_limit (column_given directory.now slices.entry) days room order_room work_room }
+    ensures accepted { IfOk result (IsSized block_limit (column_given directory.now slices.entry) days) }
 {
-    let c = snapshot::check_column(directory, g, w, y, n);
-    if c.refusal != 0 {
-        return not_sized(c.refusal);
+    let records = snapshot::checked_records(directory, slices)?;
+    let Some(days) = days else {
+        return Err(Refusal::Days);
+    };
+    if !checks::days_ok(records.days) {
+        return Err(Refusal::Days);
     }
-    if t.refusal != 0 {
-        return not_sized(NO_DAY);
+    let count = slot_order::count_during(records.days, days);
+    if order_room < count || work_room < count || !lines_fit(records, days, count, room) {
+        return Err(Refusal::Room);
     }
-    let m = c.used;
-    if !checks::days_ok(&n[..m]) {
-        return not_sized(NO_DAY);
-    }
-    let k = slot_order::count_during(&n[..m], t.first, t.last);
-    if order_room < k {
-        return not_sized(TOO_SHORT);
-    }
-    if work_room < k {
-        return not_sized(TOO_SHORT);
-    }
-    if !lines_fit(&g[..m], &n[..m], t.first, t.last, k, room) {
-        return not_sized(TOO_SHORT);
-    }
-    Sized {
-        refusal: 0,
-        used: m,
-        count: k,
-    }
+    Ok(Sized {
+        records,
+        days,
+        count,
+    })
 }
 
-// Writes the sheet of the days that t gives: how many bytes, or a refusal and the lent slices as they were.
+// Writes the sheet of these days: how many bytes. A refused call leaves the lent slices as they were.
 fn write(
     directory: &[u32],
-    growers: &[u32],
-    weights: &[u32],
-    yields: &[u32],
-    days: &[u32],
-    t: TermAnswer,
+    slices: LentSlices,
+    days: Option<DaySpan>,
     text: &mut [u8],
     order: &mut [u32],
     work: &mut [u32],
-) -> Written
-    ensures { record { answer = result; text = text.new; order = order.new; work = work.new }
-        ≡ span_call block_limit (column_in directory growers weights yields days) t text.old order.old work.old }
+) -> Result<u64, Refusal>
+    ensures { record { answer = written_of result; text = text.new; order = order.new; work = work.new }
+        ≡ span_call block_limit (column_given directory.now slices.entry) days text.old order.old work.old }
 {
-    let c = check_sheet(
-        directory,
-        growers,
-        weights,
-        yields,
-        days,
-        t,
-        text.len(),
-        order.len(),
-        work.len(),
-    );
-    let n = c.refusal;
-    if n != 0 {
-        return Written {
-            refusal: n,
-            bytes: 0,
-        };
-    }
-    let m = c.used;
-    let k = c.count;
+    let sized = check_sheet(directory, slices, days, text.len(), order.len(), work.len())?;
+    let count = sized.count;
     slot_order::arrange_during(
-        &growers[..m],
-        &days[..m],
-        t.first,
-        t.last,
-        &mut order[..k],
-        &mut work[..k],
+        sized.records,
+        sized.days,
+        &mut order[..count],
+        &mut work[..count],
     );
-    let e = sheet_lines::put_sheet(
-        text,
-        &order[..k],
-        &growers[..m],
-        &weights[..m],
-        &yields[..m],
-        &days[..m],
-    );
-    Written {
-        refusal: 0,
-        bytes: e as u64,
-    }
+    let bytes = sheet_lines::put_sheet(text, &order[..count], sized.records);
+    Ok(bytes as u64)
 }
 
-// Writes a column's settlement sheet: how many bytes, or a refusal and the lent slices as they were. The order is left with the used
-// slots in rising order of grower, the room to work in with zeros.
+// Writes a column's settlement sheet: how many bytes. The order is left with the used slots in rising order of grower, the room to work in
+// with zeros. A refused call leaves the lent slices as they were.
 pub fn write_sheet(
     directory: &[u32],
-    growers: &[u32],
-    weights: &[u32],
-    yields: &[u32],
-    days: &[u32],
+    slices: LentSlices,
     text: &mut [u8],
     order: &mut [u32],
     work: &mut [u32],
-) -> Written
-    ensures { record { answer = result; text = text.new; order = order.new; work = work.new }
-        ≡ sheet_call block_limit (column_in directory growers weights yields days) text.old order.old work.old }
+) -> Result<u64, Refusal>
+    ensures { record { answer = written_of result; text = text.new; order = order.new; work = work.new }
+        ≡ sheet_call block_limit (column_given directory.now slices.entry) text.old order.old work.old }
 {
-    let t = TermAnswer {
-        refusal: 0,
+    let days = DaySpan {
         first: 0,
         last: MOST_DAY,
     };
-    write(
-        directory, growers, weights, yields, days, t, text, order, work,
-    )
+    write(directory, slices, Some(days), text, order, work)
 }
 
 // The same for the term that holds a day, from that term's records alone: the order is left with their slots.
 pub fn write_term_sheet(
     directory: &[u32],
-    growers: &[u32],
-    weights: &[u32],
-    yields: &[u32],
-    days: &[u32],
+    slices: LentSlices,
     day: u32,
     text: &mut [u8],
     order: &mut [u32],
     work: &mut [u32],
-) -> Written
-    ensures { record { answer = result; text = text.new; order = order.new; work = work.new }
-        ≡ term_sheet_call block_limit (column_in directory growers weights yields days) day text.old order.old work.old }
+) -> Result<u64, Refusal>
+    ensures { record { answer = written_of result; text = text.new; order = order.new; work = work.new }
+        ≡ term_sheet_call block_limit (column_given directory.now slices.entry) day text.old order.old work.old }
 {
-    let t = TermAnswer::from(dates::term_of(day));
     write(
-        directory, growers, weights, yields, days, t, text, order, work,
+        directory,
+        slices,
+        dates::term_of(day).ok(),
+        text,
+        order,
+        work,
     )
 }

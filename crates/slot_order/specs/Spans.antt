@@ -4,5 +4,5 @@ use Rattle.model.specs.Calendar.{Span}
 use Rattle.model.specs.Deliveries.{Slices}
 use Rattle.model.specs.Sheet.{slots_during}
 
-abbrev pub span_slots : Span → Slices → List ℕ
-span_slots s x = slots_during s x.days (length x.growers)
+abbrev pub slots_on : Span → Slices → List ℕ
+slots_on s x = slots_during s x.days (length x.growers)
