@@ -547,7 +547,13 @@ pub extern "C" fn meltusk_write_sheet(
     ensures { record { answer = result; text = text.new; order = order.new; work = work.new }
         ≡ sheet_call block_limit (column_in directory growers weights yields days) text.old order.old work.old }
 {
-    sheet::write_sheet(directory, growers, weights, yields, days, text, order, work)
+    let slices = LentSlices {
+        growers,
+        weights,
+        yields,
+        days,
+    };
+    sheet::write_sheet(directory, slices, text, order, work).into()
 }
 
 // Writes the settlement sheet of the term that holds a day.
@@ -566,9 +572,13 @@ pub extern "C" fn meltusk_write_term_sheet(
     ensures { record { answer = result; text = text.new; order = order.new; work = work.new }
         ≡ term_sheet_call block_limit (column_in directory growers weights yields days) day text.old order.old work.old }
 {
-    sheet::write_term_sheet(
-        directory, growers, weights, yields, days, day, text, order, work,
-    )
+    let slices = LentSlices {
+        growers,
+        weights,
+        yields,
+        days,
+    };
+    sheet::write_term_sheet(directory, slices, day, text, order, work).into()
 }
 
 // Imports the rows of a weighbridge file into the slots.

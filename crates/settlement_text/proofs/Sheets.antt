@@ -1,7 +1,9 @@
 -- A column that a book was read into is sound and in range, and its sheet has no more lines than there are slots: the sheet is not refused,
 -- and it is the output. Assumes nothing.
 use Prim.Native.Nat.{ℕ, ◌≤◌}
-use mathlib.Core.Path.{◌≡◌, ap, ap₂, ◌∙◌, subst, sym}
+use Rattle.std.specs.Prelude.{Result, Ok, Err}
+use Rattle.std.specs.Result.{result_unwrap_or}
+use mathlib.Core.Path.{◌≡◌, refl, ap, ap₂, ◌∙◌, subst, sym}
 use mathlib.Core.List.{List, []}
 use mathlib.Core.Bool.{Bool, ◌&&◌}
 use native.Mathlib.Omega.{arith}
@@ -10,7 +12,8 @@ use lib.Dec.{T, leb, le→leb}
 use lib.ListN.{length, replicate, length-replicate, length-map}
 use Rattle.model.specs.declared.Delivery.{Delivery}
 use Rattle.model.specs.declared.Applied.{Applied}
-use Rattle.model.specs.declared.Written.{Written}
+use Rattle.model.specs.declared.refusal.Refusal.{Refusal}
+use Rattle.model.specs.Answers.{written_of}
 use Rattle.model.specs.Bounds.{block_limit, sheet_slots}
 use Rattle.model.specs.Lists.{sum_of, every}
 use Rattle.model.specs.Checks.{first_failed}
@@ -90,10 +93,15 @@ module _ (t : List ℕ) (a : Applied) (s : Slices) (e : result_of a s ≡ book_r
     unfolding settlement
     settled = rw (sym refusal_is ∙ ok) (ap (λ (r : ReadResult). sheet_text block_limit r.column) (sym e))
 
-    pub program_prints : (x : Written) (bytes order work : List ℕ) → record { answer = x; text = bytes; order = order; work = work } ≡ sheet_call block_limit col blank zeros zeros
-        → record { bytes = bytes; count = x.bytes } ≡ output_of (settlement t)
+    pub program_prints : (x : Result ℕ Refusal) (n : ℕ) (bytes order work : List ℕ)
+        → record { answer = written_of x; text = bytes; order = order; work = work } ≡ sheet_call block_limit col blank zeros zeros
+        → n ≡ result_unwrap_or x 0 → record { bytes = bytes; count = n } ≡ output_of (settlement t)
     unfolding output_of
-    program_prints x bytes order work q =
+    program_prints x n bytes order work q u =
         let r = q ∙ sheet_is in
-        ap₂ (λ (b : List ℕ) (k : ℕ). record { bytes = b; count = k }) (ap (λ (s : SheetResult). s.text) r) (ap (λ (s : SheetResult). s.answer.bytes) r)
+        ap₂ (λ (b : List ℕ) (k : ℕ). record { bytes = b; count = k }) (ap (λ (s : SheetResult). s.text) r) (u ∙ counted x ∙ ap (λ (s : SheetResult). s.answer.bytes) r)
         ∙ ap output_of (sym settled)
+      where
+        counted : (x : Result ℕ Refusal) → result_unwrap_or x 0 ≡ (written_of x).bytes
+        counted (Ok k) = refl
+        counted (Err e) = refl

@@ -7,6 +7,7 @@ ghost use Rattle.model.specs.SheetCalls.{settlement};
 ghost use Rattle.settlement_text.specs.Texts.{output_of};
 
 use lines::ONE;
+use model::LentSlices;
 use sheet_lines::{LAST, LINE};
 
 // The slots that a book is read into (02: 512), and the longest output: each delivery of another grower.
@@ -53,16 +54,19 @@ pub fn settlement_text(text: &[u8]) -> Output
     let mut bytes = [0u8; OUTPUT];
     let mut order = [0u32; SLOTS];
     let mut work = [0u32; SLOTS];
-    let w = sheet::write_sheet(
+    let slices = LentSlices {
+        growers: &growers[..],
+        weights: &weights[..],
+        yields: &yields[..],
+        days: &days[..],
+    };
+    let count = sheet::write_sheet(
         &directory[..],
-        &growers[..],
-        &weights[..],
-        &yields[..],
-        &days[..],
+        slices,
         &mut bytes[..],
         &mut order[..],
         &mut work[..],
-    );
-    let count = w.bytes as usize;
+    )
+    .unwrap_or(0) as usize;
     Output { bytes, count }
 }
