@@ -1,18 +1,19 @@
-// Scans of a column's partitions (01): each is handed only its partition's part of each slice.
+// Scans of a column's partitions (01): each is handed only its partition's records.
 #![tactic(auto)]
 
-ghost use Rattle.std.specs.Prelude.{◌≡◌, ◌+◌, ◌-◌, ◌≤◌, ◌<◌, length, true, cond, ◌&&◌};
+ghost use Rattle.std.specs.Prelude.{◌≡◌, ◌+◌, ◌-◌, ◌≤◌, ◌<◌, length, true, cond, ◌&&◌, T};
+ghost use Rattle.model.specs.declared.refusal.Refusal.TheVariants.{Values, Days};
 ghost use Rattle.model.specs.Bounds.{most_slots, most_day};
-ghost use Rattle.model.specs.Calendar.{span};
-ghost use Rattle.model.specs.Lent.{slices_at, slices_in};
+ghost use Rattle.model.specs.Calendar.{Span};
+ghost use Rattle.model.specs.Lent.{records_given, span_given};
 ghost use Rattle.model.specs.Lists.{sum_of, every};
-ghost use Rattle.model.specs.Deliveries.{rows, Even, LightTotals, in_range};
+ghost use Rattle.model.specs.Deliveries.{rows, LightTotals, in_range, day_ok, totals_during, first_match};
 ghost use Rattle.model.specs.Partitions.{start_of};
 ghost use Rattle.model.specs.Accesses.{blocks_of, reads_of};
-ghost use Rattle.scan.specs.Scans.{all_fit, every_day, bad_sum, sum_more, sum_all, bad_scan, scan_more};
-ghost use Rattle.scan.specs.Scans.{records_in, scan_of, Light, bad_sought, seek_more, seek_all};
+ghost use Rattle.slices.specs.Slices.{Measured};
+ghost use Rattle.scan.specs.Scans.{all_fit, if_fit, every_day, sought, records_in, scan_of};
 
-use model::{Counts, DaySpan, Delivery, MOST_DAY, Records, STRIDE, Totals};
+use model::{Counts, DaySpan, Delivery, MOST_DAY, Records, Refusal, STRIDE, Totals};
 
 // Records that a search judges and passes over at a time: with four slices it is bound by what a stride takes beside its loops.
 const LONG_STRIDE: usize = 2 * STRIDE;
@@ -22,7 +23,7 @@ pub fn blocks_of(records: usize, block: u32) -> u64
     requires { (1 ≤ block) × (records ≤ most_slots) }
     ensures { result ≡ blocks_of block records }
 {
-    let b = block as u64;
+    let b = u64::from(block);
     (records as u64 + (b - 1)) / b
 }
 
@@ -31,11 +32,7 @@ pub fn reads_of(blocks: u64) -> Counts
     ensures { result ≡ reads_of blocks }
 {
     if blocks == 0 {
-        return Counts {
-            rr: 0,
-            sr: 0,
-            rw: 0,
-        };
+        return Counts::none();
     }
     Counts {
         rr: 1,
@@ -44,258 +41,89 @@ pub fn reads_of(blocks: u64) -> Counts
     }
 }
 
-// Whether both hold.
-pub fn both(a: bool, b: bool) -> bool
-    ensures { result ≡ a && b }
-{
-    if a {
-        return b;
-    }
-    false
-}
-
-// Whether the days first to last are all that there are.
-fn is_every_day(first: u32, last: u32) -> bool
-    ensures { result ≡ true → (first ≡ 0) × (last ≡ most_day) }
-{
-    if first != 0 {
-        return false;
-    }
-    last == MOST_DAY
-}
-
 // Whether all records pass checks 8 and 19. The growers are lent to name the records.
-fn all_fit(g: &[u32], w: &[u32], y: &[u32], n: &[u32]) -> bool
-    requires { Even (slices_at g w y n) }
-    ensures { result ≡ all_fit (rows (slices_in g w y n)) }
+fn all_fit(r: Records) -> bool
+    ensures { result ≡ all_fit (rows (records_given r.entry)) }
 {
-    both(checks::values_ok(w, y), checks::days_ok(n))
+    checks::values_ok(r.weights, r.yields) && checks::days_ok(r.days)
 }
 
-// Do all records pass checks 8 and 19, and the totals of lo to hi on the days of a span.
+// The days that a sum asks for. Each kind has a loop of its own, short enough to be laid out in its caller.
+trait Days: Copy {
+    ghost span_asked: { Self → Span };
+
+    // The records whose grower is lo to hi, on the days.
+    fn total(self, r: Records, lo: u32, hi: u32) -> Totals
+        requires { Measured (records_given r) × T (every day_ok (rows (records_given r))) }
+        ensures { result ≡ totals_during lo hi (span_asked self) (rows (records_given r.entry)) };
+}
+
+// All days that there are: no record's day is tested twice.
 #[derive(Clone, Copy)]
-struct Sum {
-    good: bool,
-    totals: Totals,
+struct EveryDay;
+
+impl Days for EveryDay {
+    ghost span_asked = { λ days. every_day };
+
+    fn total(self, r: Records, lo: u32, hi: u32) -> Totals {
+        slices::total_stride(r, lo, hi)
+    }
 }
 
-fn bad_sum() -> Sum
-    ensures { result ≡ bad_sum }
+impl Days for DaySpan {
+    ghost span_asked = { λ days. span_given days };
+
+    fn total(self, r: Records, lo: u32, hi: u32) -> Totals {
+        slices::total_stride_days(r, lo, hi, self)
+    }
+}
+
+// Records judged, counted and added while they are at hand; nothing where one fails check 8 or 19.
+fn sum_stride<D: Days>(r: Records, lo: u32, hi: u32, days: D) -> Option<Totals>
+    ensures { result ≡ if_fit (rows (records_given r.entry)) (totals_during lo hi (D.span_asked days) (rows (records_given r.entry))) }
 {
-    let totals = Totals::none();
-    Sum {
-        good: false,
-        totals,
+    if all_fit(r) {
+        return Some(days.total(r, lo, hi));
     }
+    None
 }
 
-// A sum over all days goes on to more records. They are judged, counted and added while they are at hand; no day is tested twice.
-fn sum_more(s: Sum, g: &[u32], w: &[u32], y: &[u32], n: &[u32], lo: u32, hi: u32) -> Sum
-    requires { (length g.now ≤ most_slots) × Even (slices_at g w y n) × LightTotals most_slots s.totals }
-    ensures { result ≡ sum_more lo hi every_day s (rows (slices_in g w y n)) }
+// All records, a stride at a time.
+fn sum_all<D: Days>(r: Records, lo: u32, hi: u32, days: D) -> Option<Totals>
+    ensures { result ≡ if_fit (rows (records_given r.entry)) (totals_during lo hi (D.span_asked days) (rows (records_given r.entry))) }
 {
-    if !s.good {
-        return bad_sum();
+    let mut sum = Totals::none();
+    let strides = r.len() / STRIDE;
+    for n in 0..strides {
+        let i = n * STRIDE;
+        sum = sum.plus(sum_stride(r.part(i, i + STRIDE), lo, hi, days)?);
     }
-    if !all_fit(g, w, y, n) {
-        return bad_sum();
-    }
-    let more = slices::total_stride(
-        Records {
-            growers: g,
-            weights: w,
-            yields: y,
-            days: n,
-        },
-        lo,
-        hi,
-    );
-    let totals = s.totals.plus(more);
-    Sum { good: true, totals }
+    let i = strides * STRIDE;
+    let end = r.len();
+    Some(sum.plus(sum_stride(r.part(i, end), lo, hi, days)?))
 }
 
-// The records of the slices over all days, a stride at a time.
-fn sum_all(g: &[u32], w: &[u32], y: &[u32], n: &[u32], lo: u32, hi: u32) -> Sum
-    requires { (length g.now ≤ most_slots) × Even (slices_at g w y n) }
-    ensures { result ≡ sum_all lo hi every_day (rows (slices_in g w y n)) }
+// The records of one partition. Which of the two loops it takes is chosen once.
+fn sum_part(r: Records, lo: u32, hi: u32, days: DaySpan) -> Option<Totals>
+    ensures { result ≡ if_fit (rows (records_given r.entry)) (totals_during lo hi (span_given days) (rows (records_given r.entry))) }
 {
-    let none = Totals::none();
-    let mut s = Sum {
-        good: true,
-        totals: none,
-    };
-    let mut i = 0;
-    while STRIDE <= g.len() - i {
-        let e = i + STRIDE;
-        s = sum_more(s, &g[i..e], &w[i..e], &y[i..e], &n[i..e], lo, hi);
-        i = e;
+    if days.first == 0 && days.last == MOST_DAY {
+        return sum_all(r, lo, hi, EveryDay);
     }
-    let end = g.len();
-    sum_more(s, &g[i..end], &w[i..end], &y[i..end], &n[i..end], lo, hi)
+    sum_all(r, lo, hi, days)
 }
 
-// A sum over the days first to last goes on to more records.
-fn sum_more_during(
-    s: Sum,
-    g: &[u32],
-    w: &[u32],
-    y: &[u32],
-    n: &[u32],
-    lo: u32,
-    hi: u32,
-    first: u32,
-    last: u32,
-) -> Sum
-    requires { (length g.now ≤ most_slots) × Even (slices_at g w y n) × LightTotals most_slots s.totals }
-    ensures { result ≡ sum_more lo hi (span first last) s (rows (slices_in g w y n)) }
-{
-    if !s.good {
-        return bad_sum();
-    }
-    if !all_fit(g, w, y, n) {
-        return bad_sum();
-    }
-    let more = slices::total_stride_days(
-        Records {
-            growers: g,
-            weights: w,
-            yields: y,
-            days: n,
-        },
-        lo,
-        hi,
-        DaySpan { first, last },
-    );
-    let totals = s.totals.plus(more);
-    Sum { good: true, totals }
-}
-
-// The records of the slices over the days first to last, a stride at a time.
-fn sum_during(
-    g: &[u32],
-    w: &[u32],
-    y: &[u32],
-    n: &[u32],
-    lo: u32,
-    hi: u32,
-    first: u32,
-    last: u32,
-) -> Sum
-    requires { (length g.now ≤ most_slots) × Even (slices_at g w y n) }
-    ensures { result ≡ sum_all lo hi (span first last) (rows (slices_in g w y n)) }
-{
-    let none = Totals::none();
-    let mut s = Sum {
-        good: true,
-        totals: none,
-    };
-    let mut i = 0;
-    while STRIDE <= g.len() - i {
-        let e = i + STRIDE;
-        s = sum_more_during(
-            s,
-            &g[i..e],
-            &w[i..e],
-            &y[i..e],
-            &n[i..e],
-            lo,
-            hi,
-            first,
-            last,
-        );
-        i = e;
-    }
-    let to = g.len();
-    sum_more_during(
-        s,
-        &g[i..to],
-        &w[i..to],
-        &y[i..to],
-        &n[i..to],
-        lo,
-        hi,
-        first,
-        last,
-    )
-}
-
-// The records of one partition. Which of the two loops it takes is chosen once, so that each is short enough to be laid out in its caller.
-fn sum_part(
-    g: &[u32],
-    w: &[u32],
-    y: &[u32],
-    n: &[u32],
-    lo: u32,
-    hi: u32,
-    first: u32,
-    last: u32,
-) -> Sum
-    requires { (length g.now ≤ most_slots) × Even (slices_at g w y n) }
-    ensures { result ≡ sum_all lo hi (span first last) (rows (slices_in g w y n)) }
-{
-    if is_every_day(first, last) {
-        return sum_all(g, w, y, n, lo, hi);
-    }
-    sum_during(g, w, y, n, lo, hi, first, last)
-}
-
-// What a scan says: do all records pass checks 8 and 19, the totals of lo to hi on the days first to last, and the blocks.
+// What a scan says of records that all pass checks 8 and 19: the totals of lo to hi on the days asked for, and the blocks.
 #[derive(Clone, Copy)]
 pub struct Scan {
-    pub good: bool,
     pub totals: Totals,
     pub blocks: u64,
 }
 
-fn bad_scan() -> Scan
-    ensures { result ≡ bad_scan }
-{
-    let totals = Totals::none();
-    Scan {
-        good: false,
-        totals,
-        blocks: 0,
-    }
-}
-
-// A scan goes on to one more partition, of which it is handed its part of each slice.
-fn scan_more(
-    s: Scan,
-    g: &[u32],
-    w: &[u32],
-    y: &[u32],
-    n: &[u32],
-    block: u32,
-    lo: u32,
-    hi: u32,
-    first: u32,
-    last: u32,
-) -> Scan
-    requires { (length g.now ≤ most_slots) × Even (slices_at g w y n) × (1 ≤ block) × Light most_slots s }
-    ensures { result ≡ scan_more block lo hi (span first last) s (rows (slices_in g w y n)) }
-{
-    if !s.good {
-        return bad_scan();
-    }
-    let more = sum_part(g, w, y, n, lo, hi, first, last);
-    if !more.good {
-        return bad_scan();
-    }
-    let totals = s.totals.plus(more.totals);
-    let blocks = s.blocks + blocks_of(g.len(), block);
-    Scan {
-        good: true,
-        totals,
-        blocks,
-    }
-}
-
-// The partitions from one to another, one after the other; the first begins at start. An empty one is passed over.
+// The partitions from one to another, one after the other; the first begins at start. An empty one is passed over. Nothing where a record fails
+// check 8 or 19.
 pub fn scan_parts(
-    g: &[u32],
-    w: &[u32],
-    y: &[u32],
-    n: &[u32],
+    r: Records,
     lens: &[u32],
     from: usize,
     to: usize,
@@ -303,130 +131,66 @@ pub fn scan_parts(
     block: u32,
     lo: u32,
     hi: u32,
-    first: u32,
-    last: u32,
-) -> Scan
-    requires from_le_to { (from ≤ to) × (to < length lens.now) × (sum_of lens.now ≤ length g.now) × (1 ≤ block)
-        × (start ≡ start_of lens.now from) }
-    requires g_len_bound { (length g.now ≤ most_slots) × Even (slices_at g w y n) }
-    ensures { result ≡ scan_of block lens.now from (to + 1 - from) lo hi (span first last) (rows (slices_in g w y n)) }
+    days: DaySpan,
+) -> Option<Scan>
+    requires { (from ≤ to) × (to < length lens.now) × (sum_of lens.now ≤ length r.growers.now) × (1 ≤ block) × (start ≡ start_of lens.now from) }
+    ensures { result ≡ scan_of block lens.entry.now from (to + 1 - from) lo hi (span_given days) (rows (records_given r.entry)) }
 {
     let mut at = start;
-    let mut i = from;
-    let none = Totals::none();
-    let mut s = Scan {
-        good: true,
-        totals: none,
-        blocks: 0,
-    };
-    while i <= to {
+    let mut totals = Totals::none();
+    let mut blocks = 0;
+    for i in from..to + 1 {
         let k = lens[i] as usize;
-        i += 1;
         if 0 < k {
             let e = at + k;
-            s = scan_more(
-                s,
-                &g[at..e],
-                &w[at..e],
-                &y[at..e],
-                &n[at..e],
-                block,
-                lo,
-                hi,
-                first,
-                last,
-            );
+            totals = totals.plus(sum_part(r.part(at, e), lo, hi, days)?);
+            blocks += blocks_of(k, block);
             at = e;
         }
     }
-    s
+    Some(Scan { totals, blocks })
 }
 
 // Which check the partitions of a bad scan fail: 8 if a value is out of range anywhere in them, and else 19. They are one part of each slice.
-pub fn failed_check(
-    g: &[u32],
-    w: &[u32],
-    y: &[u32],
-    n: &[u32],
-    lens: &[u32],
-    from: usize,
-    to: usize,
-    start: usize,
-) -> u32
-    requires { (from ≤ to) × (to < length lens.now) × (length lens.now ≤ most_slots) × (sum_of lens.now ≤ length g.now)
-        × (start ≡ start_of lens.now from) × (length g.now ≤ most_slots) × Even (slices_at g w y n) }
-    ensures { result ≡ cond (every in_range (records_in lens.now from (to + 1 - from) (rows (slices_in g w y n)))) 19 8 }
+pub fn failed_check(r: Records, lens: &[u32], from: usize, to: usize, start: usize) -> Refusal
+    requires { (from ≤ to) × (to < length lens.now) × (length lens.now ≤ most_slots) × (sum_of lens.now ≤ length r.growers.now)
+        × (start ≡ start_of lens.now from) }
+    ensures { result ≡ cond (every in_range (records_in lens.entry.now from (to + 1 - from) (rows (records_given r.entry)))) Days Values }
 {
     let end = to + 1;
     let stop = start + slices::total(&lens[from..end]) as usize;
-    if checks::values_ok(&w[start..stop], &y[start..stop]) {
-        return 19;
+    let scanned = r.part(start, stop);
+    if checks::values_ok(scanned.weights, scanned.yields) {
+        return Refusal::Days;
     }
-    8
+    Refusal::Values
 }
 
-// Do all records pass checks 8 and 19, and the first record that is a delivery, or how many records there are.
-#[derive(Clone, Copy)]
-pub struct Sought {
-    pub good: bool,
-    pub slot: usize,
-}
-
-fn bad_sought() -> Sought
-    ensures { result ≡ bad_sought }
+// A search goes on to more records, which i records are before; found is the first match among those, or i. They are judged while they are at
+// hand, those after the match too.
+fn seek_stride(found: usize, r: Records, i: usize, d: Delivery) -> Option<usize>
+    requires { i ≤ most_slots }
+    ensures { result ≡ if_fit (rows (records_given r.entry)) (sought d found i (rows (records_given r.entry))) }
 {
-    Sought {
-        good: false,
-        slot: 0,
+    if !all_fit(r) {
+        return None;
     }
-}
-
-// A search goes on to more records, which i records are before. They are judged while they are at hand, those after the match too.
-fn seek_more(s: Sought, g: &[u32], w: &[u32], y: &[u32], n: &[u32], i: usize, d: Delivery) -> Sought
-    requires { (length g.now ≤ most_slots) × Even (slices_at g w y n) × (i ≤ most_slots) }
-    ensures { result ≡ seek_more d s i (rows (slices_in g w y n)) }
-{
-    if !s.good {
-        return bad_sought();
-    }
-    if !all_fit(g, w, y, n) {
-        return bad_sought();
-    }
-    let found = s.slot;
     if found < i {
-        return Sought {
-            good: true,
-            slot: found,
-        };
+        return Some(found);
     }
-    let slot = i
-        + slices::first_in_stride(
-            Records {
-                growers: g,
-                weights: w,
-                yields: y,
-                days: n,
-            },
-            d,
-        );
-    Sought { good: true, slot }
+    Some(i + slices::first_in_stride(r, d))
 }
 
-// The records of the slices, LONG_STRIDE at a time.
-pub fn seek_all(g: &[u32], w: &[u32], y: &[u32], n: &[u32], d: Delivery) -> Sought
-    requires { (length g.now ≤ most_slots) × Even (slices_at g w y n) }
-    ensures { result ≡ seek_all d (rows (slices_in g w y n)) }
+// The first record that is the delivery, or how many there are, LONG_STRIDE at a time; nothing where one fails check 8 or 19.
+pub fn seek_all(r: Records, d: Delivery) -> Option<usize>
+    ensures { result ≡ if_fit (rows (records_given r.entry)) (first_match d (rows (records_given r.entry))) }
 {
-    let mut s = Sought {
-        good: true,
-        slot: 0,
-    };
-    let mut i = 0;
-    while LONG_STRIDE <= g.len() - i {
-        let e = i + LONG_STRIDE;
-        s = seek_more(s, &g[i..e], &w[i..e], &y[i..e], &n[i..e], i, d);
-        i = e;
+    let mut found = 0;
+    let strides = r.len() / LONG_STRIDE;
+    for n in 0..strides {
+        let i = n * LONG_STRIDE;
+        found = seek_stride(found, r.part(i, i + LONG_STRIDE), i, d)?;
     }
-    let e = g.len();
-    seek_more(s, &g[i..e], &w[i..e], &y[i..e], &n[i..e], i, d)
+    let i = strides * LONG_STRIDE;
+    seek_stride(found, r.part(i, r.len()), i, d)
 }
