@@ -63,37 +63,9 @@ pub fn range_days(
     let to = last_scanned(directory, from, lo, hi);
     let lens = directory::lengths(directory);
     let block = directory::block(directory);
-    let s = scan::scan_parts(
-        r.growers,
-        r.weights,
-        r.yields,
-        r.days,
-        lens,
-        from,
-        to,
-        shape.start,
-        block,
-        lo,
-        hi,
-        days.first,
-        days.last,
-    );
-    if !s.good {
-        let n = scan::failed_check(
-            r.growers,
-            r.weights,
-            r.yields,
-            r.days,
-            lens,
-            from,
-            to,
-            shape.start,
-        );
-        if n == 8 {
-            return Err(Refusal::Values.into());
-        }
-        return Err(Refusal::Days.into());
-    }
+    let Some(s) = scan::scan_parts(r, lens, from, to, shape.start, block, lo, hi, days) else {
+        return Err(scan::failed_check(r, lens, from, to, shape.start).into());
+    };
     if !checks::span_ok(days.first, days.last) {
         return Err(Refusal::Days.into());
     }
@@ -141,18 +113,17 @@ fn search_part(r: Records<'_>, block: u32, d: Delivery) -> Result<Sought, Refuse
         }
         return Err(Refusal::Absent.into());
     }
-    let f = scan::seek_all(r.growers, r.weights, r.yields, r.days, d);
-    if !f.good {
+    let Some(slot) = scan::seek_all(r, d) else {
         if checks::values_ok(r.weights, r.yields) {
             return Err(Refusal::Days.into());
         }
         return Err(Refusal::Values.into());
-    }
+    };
     if !dated {
         return Err(Refusal::Days.into());
     }
     let found = Sought {
-        slot: f.slot,
+        slot,
         counts: scan::reads_of(scan::blocks_of(r.len(), block)),
     };
     if found.slot < r.len() {

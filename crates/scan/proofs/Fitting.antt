@@ -14,7 +14,7 @@ use Rattle.model.specs.Bounds.{most_slots}
 use Rattle.model.specs.Calendar.{Span}
 use Rattle.model.specs.Lent.{slices_part}
 use Rattle.model.specs.Lists.{sum_of, every, keep}
-use Rattle.model.specs.Deliveries.{Slices, each_slice, rows, Even, LightTotals, plus_totals, in_range, day_ok, no_totals, totals_of, totals_between, totals_during, first_match}
+use Rattle.model.specs.Deliveries.{Slices, rows, Even, LightTotals, plus_totals, in_range, day_ok, no_totals, totals_of, totals_between, totals_during, first_match}
 use Rattle.model.proofs.Tests.{and_fst, and_snd, of_true, is_true}
 use Rattle.model.proofs.ListLaws.{every-joined}
 use Rattle.model.proofs.Deliveries.{rows-part, length-rows, values_rows}
@@ -22,7 +22,7 @@ use Rattle.model.proofs.DayLaws.{every_day_lem}
 use Rattle.checks.specs.Values.{all_values_ok}
 use Rattle.slices.specs.Slices.{all_within, Measured}
 use Rattle.slices.proofs.Sums.{during-joined, during_light}
-use Rattle.slices.proofs.Matching.{first_joined, first_most}
+use Rattle.slices.proofs.Matching.{first_joined}
 use Rattle.scan.specs.Scans.{all_fit, if_fit, every_day, sought}
 
 -- What an answer says.

@@ -1,12 +1,11 @@
 -- A scan of partitions, one after the other. Assumes nothing.
 use Prim.Native.Nat.{ℕ, ◌+◌, ◌-◌, ◌≤◌, ◌<◌}
-use mathlib.Core.Path.{◌≡◌, refl, sym, ap, ◌∙◌, subst}
-use mathlib.Core.Bool.{Bool, true, false, cond, ◌&&◌}
-use Rattle.std.proofs.Common.{Option, Some, None}
+use mathlib.Core.Path.{◌≡◌, refl, sym, ap, ◌∙◌}
+use mathlib.Core.Bool.{true, false, ◌&&◌}
+use Rattle.std.proofs.Common.{Option, Some}
 use mathlib.Core.List.{List, [], ◌∷◌, ◌++◌, append-nil, map, map-append, flatten}
 use native.Mathlib.Omega.{arith}
 use native.Mathlib.Numerals.{add-one}
-use lib.Dec.{T}
 use lib.ListN.{length, get_or, take, drop, length-take, length-drop}
 use lib.Seq.{take-add, take-suc, get_or-drop}
 use Rattle.model.specs.declared.Delivery.{Delivery}
@@ -14,18 +13,17 @@ use Rattle.model.specs.declared.Totals.{Totals}
 use Rattle.model.specs.Bounds.{most_slots}
 use Rattle.model.specs.Lists.{sum_of, every, keep}
 use Rattle.model.specs.Calendar.{Span}
-use Rattle.model.specs.Deliveries.{Slices, each_slice, rows, Even, LightTotals, plus_totals, in_range, day_ok, no_totals, totals_of, totals_during}
+use Rattle.model.specs.Deliveries.{Slices, each_slice, rows, Even, LightTotals, plus_totals, in_range, no_totals, totals_of, totals_during}
 use Rattle.model.specs.Partitions.{parts, part, start_of}
 use Rattle.model.specs.Accesses.{blocks_of}
-use Rattle.model.proofs.Tests.{and_fst, of_true}
 use Rattle.model.proofs.AccessLaws.{blocks_none, blocks_most}
 use Rattle.model.proofs.ListLaws.{sum-append, sum_cut, sum-take_le, flatten-append}
-use Rattle.model.proofs.Parts.{flatten-parts, take-parts, drop-parts, part-parts, part_none, length-parts, length_part, start_next}
+use Rattle.model.proofs.Parts.{flatten-parts, take-parts, drop-parts, part-parts, part_none, length-parts, start_next}
 use Rattle.model.proofs.Deliveries.{rows-part, values_rows}
 use Rattle.scan.specs.declared.Scan.{Scan}
 use Rattle.checks.specs.Values.{all_values_ok}
-use Rattle.slices.proofs.Sums.{during-joined, during_light, even_part}
-use Rattle.scan.specs.Scans.{all_fit, records_in, scanned, scan_of}
+use Rattle.slices.proofs.Sums.{during-joined, even_part}
+use Rattle.scan.specs.Scans.{all_fit, records_in, scan_of}
 use Rattle.scan.proofs.Fitting.{fit_joined, fit_broken, fit_yes, totals_small}
 
 -- Partitions, one after the other.

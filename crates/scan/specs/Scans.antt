@@ -31,9 +31,9 @@ abbrev pub records_in : List ℕ → ℕ → ℕ → List Delivery → List Deli
 records_in ns p n ds = flatten (take n (drop p (parts ns ds)))
 
 -- the totals of n partitions from p on, of the lengths ns, and how many blocks they are
-abbrev pub scanned : ℕ → List ℕ → ℕ → ℕ → ℕ → ℕ → Span → List Delivery → Scan
-scanned b ns p n lo hi s ds = record { totals = totals_during lo hi s (records_in ns p n ds); blocks = sum_of (map (blocks_of b) (take n (drop p ns))) }
+abbrev pub found_in : ℕ → List ℕ → ℕ → ℕ → ℕ → ℕ → Span → List Delivery → Scan
+found_in b ns p n lo hi s ds = record { totals = totals_during lo hi s (records_in ns p n ds); blocks = sum_of (map (blocks_of b) (take n (drop p ns))) }
 
 -- a scan of these partitions
 abbrev pub scan_of : ℕ → List ℕ → ℕ → ℕ → ℕ → ℕ → Span → List Delivery → Option Scan
-scan_of b ns p n lo hi s ds = if_fit (records_in ns p n ds) (scanned b ns p n lo hi s ds)
+scan_of b ns p n lo hi s ds = if_fit (records_in ns p n ds) (found_in b ns p n lo hi s ds)

@@ -1,10 +1,8 @@
 -- The partitions are one part of each slice.
-use Rattle.std.proofs.Common.{◌≡◌, ◌+◌, ◌-◌, Bool, sym, ap, ◌∙◌, arith}
+use Rattle.std.proofs.Common.{◌+◌, ◌-◌, sym, ap, ◌∙◌, arith}
 use Rattle.model.specs.Lent.{records_given}
-use Rattle.model.specs.Lists.{every}
-use Rattle.model.specs.Deliveries.{Slices, rows, in_range}
+use Rattle.model.specs.Deliveries.{Slices}
 use Rattle.checks.specs.Values.{all_values_ok}
-use Rattle.scan.specs.Scans.{records_in}
 use Rattle.scan.proofs.Scanning.{parts_end, parts_values}
 use Rattle.scan.proofs.failed_check.Goals as goal
 

@@ -1,8 +1,7 @@
 -- A partition's sum and blocks go on from those of the partitions before it (`scanning_next`); an empty one adds none, and where a record fails,
 -- the whole does (`scanning_not`).
-use Rattle.std.proofs.Common.{◌≡◌, ◌+◌, ◌-◌, ◌<◌, ◌≤◌, length, get_or, ap, ◌∙◌, arith}
+use Rattle.std.proofs.Common.{◌+◌, ◌-◌, ◌≤◌, length, get_or, ap, ◌∙◌, arith}
 use Rattle.model.specs.Lent.{records_given, span_given}
-use Rattle.model.specs.Lists.{sum_of}
 use Rattle.model.specs.Deliveries.{rows, totals_during}
 use Rattle.model.proofs.AccessLaws.{blocks_most}
 use Rattle.model.proofs.Deliveries.{length-rows}

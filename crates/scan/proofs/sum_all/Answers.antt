@@ -1,7 +1,7 @@
 -- A stride's sum goes on from that of the strides before it (`sum_next`); where a record fails, the whole does (`stopped`).
 use Rattle.std.proofs.Common.{◌≡◌, ◌+◌, ◌*◌, ◌/◌, ◌∙◌, arith}
 use Rattle.model.specs.Lent.{records_given}
-use Rattle.model.specs.Deliveries.{rows, totals_during}
+use Rattle.model.specs.Deliveries.{totals_during}
 use Rattle.scan.proofs.Fitting.{sum_start, sum_next, sum_small, lent_small, stopped, ended}
 use Rattle.scan.proofs.sum_all.Goals as goal
 
