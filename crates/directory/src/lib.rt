@@ -199,16 +199,14 @@ pub fn lengths<'a>(directory: &'a [u32]) -> &'a [u32]
     requires { Numbered block_limit directory.now }
     ensures { result.now ≡ (directory_of block_limit directory.now).lengths }
 {
-    let e = LENGTHS + directory[COUNT] as usize;
-    &directory[LENGTHS..e]
+    &directory[LENGTHS..LENGTHS + count(directory)]
 }
 
 pub fn fences<'a>(directory: &'a [u32]) -> &'a [u32]
     requires { Numbered block_limit directory.now }
     ensures { result.now ≡ (directory_of block_limit directory.now).fences }
 {
-    let e = FENCES + directory[COUNT] as usize;
-    &directory[FENCES..e]
+    &directory[FENCES..FENCES + count(directory)]
 }
 
 // A grower's partition.
@@ -224,8 +222,7 @@ pub fn start_of(directory: &[u32], partition: usize) -> usize
     requires { HasPartition block_limit directory.now partition }
     ensures { result ≡ start_of (directory_of block_limit directory.now).lengths partition }
 {
-    let e = LENGTHS + partition;
-    slices::total(&directory[LENGTHS..e]) as usize
+    slices::total(&directory[LENGTHS..LENGTHS + partition]) as usize
 }
 
 // How many records a partition has.
@@ -241,7 +238,7 @@ pub fn onward(directory: &[u32], partition: usize) -> u64
     requires { HasPartition block_limit directory.now partition }
     ensures { result ≡ onward (directory_of block_limit directory.now) partition }
 {
-    (directory[COUNT] as usize - partition) as u64
+    (count(directory) - partition) as u64
 }
 
 // One more record in a partition.
@@ -250,8 +247,7 @@ pub fn grow(directory: &mut [u32], partition: usize)
     ensures { directory.new
         ≡ with_lengths (one_more partition (directory_of block_limit directory.old).lengths) directory.old }
 {
-    let i = LENGTHS + partition;
-    directory[i] = directory[i] + 1;
+    directory[LENGTHS + partition] += 1;
 }
 
 // One record fewer in a partition.
@@ -260,8 +256,7 @@ pub fn shrink(directory: &mut [u32], partition: usize)
     ensures { directory.new
         ≡ with_lengths (one_fewer partition (directory_of block_limit directory.old).lengths) directory.old }
 {
-    let i = LENGTHS + partition;
-    directory[i] = directory[i] - 1;
+    directory[LENGTHS + partition] -= 1;
 }
 
 // A directory of so many partitions, none of which is put yet.
@@ -280,8 +275,6 @@ pub fn put(directory: &mut [u32], partition: usize, records: u32, fence: u32)
     requires { (length directory.old ≡ directory_size block_limit) × (partition < block_limit) }
     ensures { directory.new ≡ with_partition block_limit partition records fence directory.old }
 {
-    let l = LENGTHS + partition;
-    let f = FENCES + partition;
-    directory[l] = records;
-    directory[f] = fence;
+    directory[LENGTHS + partition] = records;
+    directory[FENCES + partition] = fence;
 }
