@@ -9,6 +9,9 @@ use lib.Dec.{T}
 use lib.ListN.{length, get_or, take, drop, length-map}
 use lib.Seq.{length-take-le, take-suc, take_all, drop-cons}
 use Rattle.model.specs.declared.Applied.{Applied}
+use Rattle.model.specs.declared.refusal.Refusal.{Refusal}
+use Rattle.model.specs.Refusals.{refusal_number}
+use Rattle.model.proofs.Refusals.{refusal_some}
 use Rattle.model.specs.Checks.{first_failed}
 use Rattle.model.specs.Deliveries.{Slices}
 use Rattle.model.specs.Blocks.{Set, blocks, block_stop, last_grower}
@@ -25,7 +28,7 @@ use Rattle.model.proofs.Fresh.{length_lengths}
 use Rattle.directory.specs.Numbers.{blank, with_partition}
 use Rattle.directory.proofs.Putting.{parts_put, put_none, blank_size, put_size, put_next, put_all}
 use Rattle.sets.specs.Sized.{Sized}
-use Rattle.sets.proofs.Sets.{Whole, whole, set_first, blocks_most}
+use Rattle.sets.proofs.Sets.{set_first, blocks_most}
 
 -- the first numbers of a list, and the next one
 take_more : (l : List ℕ) (i x : ℕ) → i < length l → x ≡ get_or l i 0 → take i l ++ x ∷ [] ≡ take (i + 1) l
@@ -103,27 +106,22 @@ module _ (L : ℕ) where
 
   -- The answer.
 
-  -- check 6 looks at the growers alone
-  pub layout_same : (b m : ℕ) (s t : Slices) (ends : List ℕ) → s.growers ≡ t.growers → T (layout_ok (record { block = b; used = m; slices = s }) ends)
-      → T (layout_ok (record { block = b; used = m; slices = t }) ends)
-  unfolding layout_ok
-  layout_same b m s t ends e h = rw (sym e) h
-
   pub few_ends : (s : Set) (c : ℕ) (ends : List ℕ) → Sized L s.block s.used c → T (layout_ok s ends) → length ends ≤ L
   few_ends s c ends z t = omega (arith, cut_count 0 ends (blocks s) (laid s ends t).cut, blocks_most z)
 
   module _ (s : Set) (ends : List ℕ) where
-    pub accepted : first_failed (apply_checks L s ends) ≡ 0 → Whole L s × T (layout_ok s ends)
+    pub layout_accepted : 0 ≡ first_failed (apply_checks L s ends) → T (layout_ok s ends)
     unfolding apply_checks
-    accepted h =
-        let r = set_first L s _ h in
-        (whole L s r.0, (yes_first 5 (layout_ok s ends) _ r.1).0)
+    layout_accepted h =
+        let r = set_first L s _ (sym h) in
+        (yes_first 5 (layout_ok s ends) _ r.1).0
 
-    pub apply_refused : (n : ℕ) → (n ≡ 0 → ⊥) → n ≡ first_failed (apply_checks L s ends) → ◌≡◌ {A = Applied} (record { refusal = n; directory = no_directory L }) (apply_call L s ends)
+    pub apply_refused : (r : Refusal) → refusal_number r ≡ first_failed (apply_checks L s ends)
+        → ◌≡◌ {A = Applied} (record { refusal = refusal_number r; directory = no_directory L }) (apply_call L s ends)
     unfolding apply_call
-    apply_refused n h e = rw (sym e, ne_eqb n 0 h)
+    apply_refused r e = rw (sym e, ne_eqb (refusal_number r) 0 (refusal_some r))
 
-    pub apply_accepted : (n : ℕ) (d : List ℕ) → n ≡ 0 → n ≡ first_failed (apply_checks L s ends) → d ≡ directory_numbers L (directory_for s ends)
+    pub apply_accepted : (d : List ℕ) → 0 ≡ first_failed (apply_checks L s ends) → d ≡ directory_numbers L (directory_for s ends)
         → ◌≡◌ {A = Applied} (record { refusal = 0; directory = d }) (apply_call L s ends)
     unfolding apply_call
-    apply_accepted n d z e f = rw (sym e, z, f)
+    apply_accepted d e f = rw (sym e, f)

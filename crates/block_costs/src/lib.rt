@@ -3,16 +3,18 @@
 
 ghost use Rattle.std.specs.Prelude.{◌≡◌, ◌+◌, ◌*◌, ◌^◌, ◌≤◌, ◌<◌, length, get_or};
 ghost use Rattle.model.specs.Bounds.{block_limit, most_count, most_price};
+ghost use Rattle.histograms.specs.Numbers.{histogram_number};
 ghost use Rattle.layout_search.specs.RunningSums.{sums_per_place};
 ghost use Rattle.block_costs.specs.Terms.{fixed_of, per_block_before_of, per_block_after_of, per_partition_added_of, per_partition_saved_of, term_of};
 ghost use Rattle.block_costs.specs.Terms.{PricesPass, Counted, Cleared, Summed, Loaded};
 ghost use Rattle.block_costs.specs.Price.{PriceIs01, SumsFit};
 
+use histograms::Histogram::{self, De, In, Pq, Re, Rs, Sc, Udb, Udf, Utb, Utf};
 use layout_search::{
     FIXED, PER_BLOCK_AFTER, PER_BLOCK_BEFORE, PER_PARTITION_ADDED, SUMS_PER_PLACE, WEIGHTED_AFTER,
     WEIGHTED_BEFORE,
 };
-use model::{DE, IN, PQ, PriceCard, RE, RS, SC, UDB, UDF, UTB, UTF};
+use model::PriceCard;
 
 fn wide(x: u32) -> u64
     ensures { result ≡ x }
@@ -20,21 +22,21 @@ fn wide(x: u32) -> u64
     x as u64
 }
 
-// The count of histogram j at block i, and that of two histograms.
-fn count(h: &[u32], j: usize, i: usize) -> u64
+// The count of a histogram at block i, and that of two histograms.
+fn count(h: &[u32], j: Histogram, i: usize) -> u64
     requires counted { Counted block_limit h.now }
-    requires j_bound { (j < 10) × (i < block_limit) }
-    ensures value { result ≡ get_or h.now (j * block_limit + i) 0 }
+    requires i_bound { i < block_limit }
+    ensures value { result ≡ get_or h.now (histogram_number j * block_limit + i) 0 }
     ensures small { result ≤ most_count }
 {
-    let x = histograms::slot(j, i);
+    let x = j.slot(i);
     wide(h[x])
 }
 
-fn counts(h: &[u32], j: usize, k: usize, i: usize) -> u64
+fn counts(h: &[u32], j: Histogram, k: Histogram, i: usize) -> u64
     requires counted { Counted block_limit h.now }
-    requires j_bound { (j < 10) × (k < 10) × (i < block_limit) }
-    ensures value { result ≡ get_or h.now (j * block_limit + i) 0 + get_or h.now (k * block_limit + i) 0 }
+    requires i_bound { i < block_limit }
+    ensures value { result ≡ get_or h.now (histogram_number j * block_limit + i) 0 + get_or h.now (histogram_number k * block_limit + i) 0 }
     ensures small { result ≤ 2 * most_count }
 {
     count(h, j, i) + count(h, k, i)
@@ -57,10 +59,10 @@ fn fixed(card: PriceCard, h: &[u32], i: usize) -> u64
     ensures { result ≡ fixed_of block_limit card h.now i }
 {
     let both = card.rr + card.rw;
-    let reads = product(card.rr, counts(h, PQ, RS, i));
-    let scans = product(card.sr, counts(h, RE, SC, i));
-    let writes = product(both, counts(h, IN, DE, i));
-    let moves = product(both, counts(h, UDF, UDB, i));
+    let reads = product(card.rr, counts(h, Pq, Rs, i));
+    let scans = product(card.sr, counts(h, Re, Sc, i));
+    let writes = product(both, counts(h, In, De, i));
+    let moves = product(both, counts(h, Udf, Udb, i));
     reads + scans + writes + 2 * moves
 }
 
@@ -70,7 +72,7 @@ fn per_block_before(card: PriceCard, h: &[u32], i: usize) -> u64
     requires i_lt_block_limit { i < block_limit }
     ensures { result ≡ per_block_before_of block_limit card h.now i }
 {
-    let c = counts(h, PQ, RS, i) + count(h, DE, i) + counts(h, UDF, UDB, i);
+    let c = counts(h, Pq, Rs, i) + count(h, De, i) + counts(h, Udf, Udb, i);
     product(card.sr, c)
 }
 
@@ -80,7 +82,7 @@ fn per_block_after(card: PriceCard, h: &[u32], i: usize) -> u64
     requires i_lt_block_limit { i < block_limit }
     ensures { result ≡ per_block_after_of block_limit card h.now i }
 {
-    let c = counts(h, PQ, RE, i) + count(h, DE, i) + counts(h, UDF, UDB, i);
+    let c = counts(h, Pq, Re, i) + count(h, De, i) + counts(h, Udf, Udb, i);
     product(card.sr, c)
 }
 
@@ -90,7 +92,7 @@ fn per_partition_added(card: PriceCard, h: &[u32], i: usize) -> u64
     requires i_lt_block_limit { i < block_limit }
     ensures { result ≡ per_partition_added_of block_limit card h.now i }
 {
-    let c = counts(h, IN, DE, i) + counts(h, UDF, UTB, i);
+    let c = counts(h, In, De, i) + counts(h, Udf, Utb, i);
     product(card.rr + card.rw, c)
 }
 
@@ -100,7 +102,7 @@ fn per_partition_saved(card: PriceCard, h: &[u32], i: usize) -> u64
     requires i_lt_block_limit { i < block_limit }
     ensures { result ≡ per_partition_saved_of block_limit card h.now i }
 {
-    let c = counts(h, UTF, UDB, i);
+    let c = counts(h, Utf, Udb, i);
     product(card.rr + card.rw, c)
 }
 

@@ -16,7 +16,7 @@ ghost use Rattle.model.specs.GrowerCalls.{grower_call};
 ghost use Rattle.model.specs.CsvCalls.{import_call, export_call};
 ghost use Rattle.model.specs.SnapshotCalls.{write_call, read_call};
 ghost use Rattle.model.specs.SheetCalls.{sheet_call, term_sheet_call};
-ghost use Rattle.model.specs.Lent.{column_in, column_out, set_in, slices_in, slices_out, column_in_mut, slices_in_mut};
+ghost use Rattle.model.specs.Lent.{column_in, column_out, set_in, set_given, slices_in, slices_out, column_in_mut, slices_in_mut};
 ghost use Rattle.model.specs.Accesses.{counts};
 ghost use Rattle.model.specs.Tallies.{tally, add_call};
 ghost use Rattle.snapshot.specs.Answers.{read_out};
@@ -24,9 +24,32 @@ ghost use Rattle.dates.specs.DateCalls.{day_call, date_call, term_call};
 
 use dates::{DateAnswer, DayAnswer, TermAnswer};
 use model::{
-    Answer, Applied, Costed, Counts, DaySpan, Delivery, GrowerAnswer, Imported, LentSlices, Limits,
-    Listed, PartitionSlice, Planned, PriceCard, Tally, Written,
+    Answer, Applied, Costed, Counts, DaySpan, Delivery, GrowerAnswer, Imported, LentSet,
+    LentSlices, Limits, Listed, PartitionSlice, Planned, PriceCard, Tally, Written, number_of,
 };
+
+// An unpartitioned set of lent slices.
+fn set_of<'a>(
+    block: u32,
+    used: u32,
+    growers: &'a [u32],
+    weights: &'a [u32],
+    yields: &'a [u32],
+    days: &'a [u32],
+) -> LentSet<'a>
+    ensures { set_given result ≡ set_in block used growers weights yields days }
+{
+    LentSet {
+        block,
+        used,
+        slices: LentSlices {
+            growers,
+            weights,
+            yields,
+            days,
+        },
+    }
+}
 
 // Applies a layout to an unpartitioned set.
 #[unsafe(no_mangle)]
@@ -41,7 +64,8 @@ pub extern "C" fn meltusk_apply_layout(
 ) -> Applied
     ensures { result ≡ apply_call block_limit (set_in block used growers weights yields days) ends.now }
 {
-    apply::apply_layout(block, used, growers, weights, yields, days, ends)
+    let set = set_of(block, used, growers, weights, yields, days);
+    apply::apply_layout(set, ends).into()
 }
 
 // The records of one grower.
@@ -256,9 +280,8 @@ pub extern "C" fn meltusk_record_find(
     ensures { record { refusal = result; histograms = histograms.new }
         ≡ record_call block_limit (set_in block used growers weights yields days) histograms.old (find grower) }
 {
-    recorder::record_find(
-        histograms, block, used, growers, weights, yields, days, grower,
-    )
+    let set = set_of(block, used, growers, weights, yields, days);
+    number_of(recorder::record_find(histograms, set, grower))
 }
 
 // Records a range.
@@ -277,9 +300,8 @@ pub extern "C" fn meltusk_record_range(
     ensures { record { refusal = result; histograms = histograms.new }
         ≡ record_call block_limit (set_in block used growers weights yields days) histograms.old (range lo hi) }
 {
-    recorder::record_range(
-        histograms, block, used, growers, weights, yields, days, lo, hi,
-    )
+    let set = set_of(block, used, growers, weights, yields, days);
+    number_of(recorder::record_range(histograms, set, lo, hi))
 }
 
 // Records a range over days.
@@ -300,9 +322,9 @@ pub extern "C" fn meltusk_record_range_days(
     ensures { record { refusal = result; histograms = histograms.new }
         ≡ record_call block_limit (set_in block used growers weights yields days) histograms.old (range_days lo hi (span first last)) }
 {
-    recorder::record_range_days(
-        histograms, block, used, growers, weights, yields, days, lo, hi, first, last,
-    )
+    let set = set_of(block, used, growers, weights, yields, days);
+    let named = DaySpan { first, last };
+    number_of(recorder::record_range_days(histograms, set, lo, hi, named))
 }
 
 // Records an insert.
@@ -324,13 +346,14 @@ pub extern "C" fn meltusk_record_insert(
         ≡ record_call block_limit (set_in block used growers weights yields days) histograms.old
         (insert (delivery grower weight oil_yield day)) }
 {
+    let set = set_of(block, used, growers, weights, yields, days);
     let d = Delivery {
         grower,
         weight,
         oil_yield,
         day,
     };
-    recorder::record_insert(histograms, block, used, growers, weights, yields, days, d)
+    number_of(recorder::record_insert(histograms, set, d))
 }
 
 // Records a delete.
@@ -352,13 +375,14 @@ pub extern "C" fn meltusk_record_delete(
         ≡ record_call block_limit (set_in block used growers weights yields days) histograms.old
         (delete (delivery grower weight oil_yield day)) }
 {
+    let set = set_of(block, used, growers, weights, yields, days);
     let d = Delivery {
         grower,
         weight,
         oil_yield,
         day,
     };
-    recorder::record_delete(histograms, block, used, growers, weights, yields, days, d)
+    number_of(recorder::record_delete(histograms, set, d))
 }
 
 // Records a move.
@@ -381,15 +405,14 @@ pub extern "C" fn meltusk_record_move(
         ≡ record_call block_limit (set_in block used growers weights yields days) histograms.old
         (move (delivery grower weight oil_yield day) new_grower) }
 {
+    let set = set_of(block, used, growers, weights, yields, days);
     let d = Delivery {
         grower,
         weight,
         oil_yield,
         day,
     };
-    recorder::record_move(
-        histograms, block, used, growers, weights, yields, days, d, new_grower,
-    )
+    number_of(recorder::record_move(histograms, set, d, new_grower))
 }
 
 // The cost of a layout.
@@ -410,10 +433,9 @@ pub extern "C" fn meltusk_cost(
     ensures { result
         ≡ cost_call block_limit (prices rr sr «rw») (set_in block used growers weights yields days) ends.now histograms.now }
 {
+    let set = set_of(block, used, growers, weights, yields, days);
     let card = PriceCard { rr, sr, rw };
-    planner::cost(
-        card, block, used, growers, weights, yields, days, ends, histograms,
-    )
+    planner::cost(card, set, ends, histograms).into()
 }
 
 // The cheapest permitted layout.
@@ -437,11 +459,10 @@ pub extern "C" fn meltusk_plan(
         ≡ plan_call block_limit (prices rr sr «rw») (limits read insert) (set_in block used growers weights yields days)
         histograms.now ends.old }
 {
+    let set = set_of(block, used, growers, weights, yields, days);
     let card = PriceCard { rr, sr, rw };
     let limits = Limits { read, insert };
-    planner::plan(
-        card, limits, block, used, growers, weights, yields, days, histograms, ends,
-    )
+    planner::plan(card, limits, set, histograms, ends).into()
 }
 
 // Every permitted layout of a small set, as text.
@@ -465,11 +486,10 @@ pub extern "C" fn meltusk_list_layouts(
         ≡ list_call block_limit (prices rr sr «rw») (limits read insert) (set_in block used growers weights yields days)
         histograms.now text.old }
 {
+    let set = set_of(block, used, growers, weights, yields, days);
     let card = PriceCard { rr, sr, rw };
     let limits = Limits { read, insert };
-    listing::list_layouts(
-        card, limits, block, used, growers, weights, yields, days, histograms, text,
-    )
+    listing::list_layouts(card, limits, set, histograms, text).into()
 }
 
 // Adds a report's counts to the three lent numbers of a tally; 10 leaves them alone.

@@ -161,6 +161,10 @@ module _ (L : ℕ) where
     pub from : f ≡ 3 * L + (a + 1)
     pub stop : t ≡ 3 * L + b
 
+  pub the_span : {hs : List ℕ} {a b j k f t : ℕ} → a < b → b < L → length hs ≡ histograms_size L → j ≡ 1 * L + a → k ≡ 2 * L + b → f ≡ 3 * L + (a + 1) → t ≡ 3 * L + b
+      → Span hs a b j k f t
+  the_span r l n i k f t = record { rises = r; below = l; long = n; first = i; last = k; from = f; stop = t }
+
   module _ {hs : List ℕ} {a b j k f t : ℕ} (w : Span hs a b j k f t) where
     pub span_inside : (j < length hs) × (j < k) × (k < length hs) × (f ≤ t) × (t ≤ length hs)
     span_inside = omega (arith, w.rises, w.below, w.long, w.first, w.last, w.from, w.stop)

@@ -1,2 +1,3 @@
--- Counts that are raised together.
+-- Where each histogram stands, and counts that are raised together.
+pub mod Numbers
 pub mod Raising

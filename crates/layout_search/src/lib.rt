@@ -8,9 +8,10 @@ ghost use Rattle.layout_search.specs.RunningSums.{sums_per_place, sum_at, sum_ov
 ghost use Rattle.layout_search.specs.RunningSums.{LocalPrice, Priced, EndPriced, Laid, Numbered};
 ghost use Rattle.layout_search.specs.Table.{Best, Offer, Chose, val_of, Row, Rows, Kept, LocalPrices, LocalRow, Tail, Tails, Small, LeastOf};
 ghost use Rattle.layout_search.specs.Table.{Lowest, Written};
-ghost use Rattle.layout_search.specs.Answer.{answer, Answered};
+ghost use Rattle.layout_search.specs.Answer.{Answered};
+ghost use Rattle.model.specs.Answers.{planned_of};
 
-use model::Planned;
+use model::{Plan, Refusal};
 
 // The running sums at each place, in their order: what does not depend on the layout; for each block before a block in its partition, and the same
 // times the block's number; for each after it, and the same times its number; for each partition from its own to the last, what is added and what is
@@ -487,17 +488,6 @@ fn lesser(x: usize, y: usize) -> usize
     if x < y { x } else { y }
 }
 
-// No layout, and why.
-pub fn refused(n: u32) -> Planned
-    ensures { result ≡ answer n 0 (pos 0) }
-{
-    Planned {
-        refusal: n,
-        count: 0,
-        cost: 0,
-    }
-}
-
 // The least layout of n blocks in at most `most` partitions, by their running sums, where an end may stand and the longest partition.
 pub fn cheapest(
     sums: &[u64],
@@ -507,28 +497,27 @@ pub fn cheapest(
     n: usize,
     table: &mut [u64],
     out: &mut [u32],
-) -> Planned
+) -> Result<Plan, Refusal>
     requires holds { Holds sums.now n }
     requires n_nonzero { (0 < n) × (n ≤ length fits.now) × (2 * (n * n) ≤ length table.old) }
-    ensures { Answered (task_of sums.now fits.now longest n) most out.old out.new result }
+    ensures { Answered (task_of sums.now fits.now longest n) most out.old out.new (planned_of result) }
 {
     let top = lesser(most, n);
     fill(sums, fits, longest, n, table, top);
     let k = fewest(table, n, top);
     let m = entry(table, n, k, 0);
     if m >= NONE {
-        return refused(11);
+        return Err(Refusal::NoLayout);
     }
     if out.len() < k {
-        return refused(15);
+        return Err(Refusal::Room);
     }
     write_ends(sums, fits, longest, n, table, k, out);
     let cost = unbiased(m);
-    Planned {
-        refusal: 0,
+    Ok(Plan {
         count: k as u32,
         cost,
-    }
+    })
 }
 
 // The number of a layout that is given: BASE and its cost.

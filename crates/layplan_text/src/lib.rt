@@ -7,7 +7,8 @@ ghost use Rattle.model.specs.Bounds.{block_limit, most_calls};
 ghost use Rattle.model.specs.Lists.{is_some};
 ghost use Rattle.model.specs.Recorder.{record_call};
 ghost use Rattle.model.specs.Program.{call_of, sizes_ok, record_until_refused, refusal_text, partition_texts, week_text, plan_text, layplan};
-ghost use Rattle.model.specs.Lent.{set_in, slices_in};
+ghost use Rattle.model.specs.Lent.{set_given, slices_in};
+ghost use Rattle.model.specs.Refusals.{number_of};
 ghost use Rattle.fields.specs.Writing.{placed};
 ghost use Rattle.lines.specs.Lines.{text_refusal, line_ok};
 ghost use Rattle.layplan_text.specs.Week.{call_at, calls_at, call_ok, calls_ok, head_ok, week_ok, card_in, limits_in, week_in, plan_in};
@@ -15,7 +16,10 @@ ghost use Rattle.layplan_text.specs.Texts.{output_of, ends_text, EndsFit};
 
 use fields::{Field, SIGNED_WIDTH, WIDTH};
 use lines::{NOT_A_TEXT, ONE, THREE, TWO};
-use model::{BLOCK_LIMIT, Delivery, HISTOGRAMS_SIZE, Limits, PriceCard};
+use model::{
+    BLOCK_LIMIT, Delivery, HISTOGRAMS_SIZE, LentSet, LentSlices, Limits, PriceCard, Refusal,
+    number_of,
+};
 
 // The kinds of calls (01: find, range, insert, delete, move).
 const FIND: u32 = 1;
@@ -205,20 +209,10 @@ fn judge_week(text: &[u8]) -> u32
 }
 
 // Records the call at a byte.
-fn record_at(
-    text: &[u8],
-    at: usize,
-    h: &mut [u32],
-    block: u32,
-    used: u32,
-    g: &[u32],
-    w: &[u32],
-    y: &[u32],
-    n: &[u32],
-) -> u32
+fn record_at(text: &[u8], at: usize, h: &mut [u32], set: LentSet) -> Result<(), Refusal>
     requires { (at ≤ 1000000) × T (line_ok 5 at text.now) }
-    ensures { record { refusal = result; histograms = h.new }
-        ≡ record_call block_limit (set_in block used g w y n) h.old (call_at at text.now) }
+    ensures { record { refusal = number_of result; histograms = h.new }
+        ≡ record_call block_limit (set_given set.entry) h.old (call_at at text.now) }
 {
     let kind = fields::spelled_at(text, at);
     let a = fields::spelled_at(text, at + WIDTH);
@@ -226,10 +220,10 @@ fn record_at(
     let b = fields::spelled_at(text, p);
     let c = fields::spelled_at(text, p + WIDTH);
     if kind == FIND {
-        return recorder::record_find(h, block, used, g, w, y, n, a);
+        return recorder::record_find(h, set, a);
     }
     if kind == RANGE {
-        return recorder::record_range(h, block, used, g, w, y, n, a, b);
+        return recorder::record_range(h, set, a, b);
     }
     let d = Delivery {
         grower: a,
@@ -238,43 +232,28 @@ fn record_at(
         day: 0,
     };
     if kind == INSERT {
-        return recorder::record_insert(h, block, used, g, w, y, n, d);
+        return recorder::record_insert(h, set, d);
     }
     if kind == DELETE {
-        return recorder::record_delete(h, block, used, g, w, y, n, d);
+        return recorder::record_delete(h, set, d);
     }
     let e = fields::spelled_at(text, p + WIDTH + WIDTH);
-    recorder::record_move(h, block, used, g, w, y, n, d, e)
+    recorder::record_move(h, set, d, e)
 }
 
 // Records q calls, from a byte on, up to the first that is refused.
-fn record_lines(
-    text: &[u8],
-    at: usize,
-    q: usize,
-    histograms: &mut [u32],
-    block: u32,
-    used: u32,
-    growers: &[u32],
-    weights: &[u32],
-    yields: &[u32],
-    days: &[u32],
-) -> u32
+fn record_lines(text: &[u8], at: usize, q: usize, histograms: &mut [u32], set: LentSet) -> u32
     requires { (at ≤ 100000) × (q ≤ most_calls) × T (calls_ok q at text.now) }
     ensures { record { refusal = result; histograms = histograms.new }
-        ≡ record_until_refused (set_in block used growers weights yields days) histograms.old (calls_at q at text.now) }
+        ≡ record_until_refused (set_given set.entry) histograms.old (calls_at q at text.now) }
 {
-    let mut i = 0;
     let mut e = at;
-    while i < q {
-        let n = record_at(
-            text, e, histograms, block, used, growers, weights, yields, days,
-        );
+    for i in 0..q {
+        let n = number_of(record_at(text, e, histograms, set));
         if n != 0 {
             return n;
         }
         e += FIVE;
-        i += 1;
     }
     0
 }
@@ -361,24 +340,23 @@ fn plan(
     let block = fields::spelled_at(text, SIZES_AT);
     let used = fields::spelled_at(text, USED_AT);
     let mut ends = [0u32; BLOCK_LIMIT];
-    let p = planner::plan(
-        card,
-        limits,
+    let set = LentSet {
         block,
         used,
-        growers,
-        weights,
-        yields,
-        days,
-        histograms,
-        &mut ends[..],
-    );
-    let refusal = p.refusal;
-    if refusal != 0 {
-        return refused(refusal);
+        slices: LentSlices {
+            growers,
+            weights,
+            yields,
+            days,
+        },
+    };
+    match planner::plan(card, limits, set, histograms, &mut ends[..]) {
+        Ok(p) => {
+            let k = p.count as usize;
+            planned(p.cost, &ends[..k])
+        }
+        Err(refusal) => refused(refusal.number()),
     }
-    let k = p.count as usize;
-    planned(p.cost, &ends[..k])
 }
 
 // Records the calls and plans, the deliveries in slices.
@@ -391,18 +369,17 @@ fn answer(text: &[u8], growers: &[u32], weights: &[u32], yields: &[u32], days: &
     let q = fields::spelled_at(text, COUNT_AT) as usize;
     let a = DELIVERIES_AT + THREE * used as usize;
     let mut histograms = [0u32; HISTOGRAMS_SIZE];
-    let stop = record_lines(
-        text,
-        a,
-        q,
-        &mut histograms[..],
+    let set = LentSet {
         block,
         used,
-        growers,
-        weights,
-        yields,
-        days,
-    );
+        slices: LentSlices {
+            growers,
+            weights,
+            yields,
+            days,
+        },
+    };
+    let stop = record_lines(text, a, q, &mut histograms[..], set);
     if stop != 0 {
         return refused(stop);
     }

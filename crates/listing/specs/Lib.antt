@@ -1,2 +1,2 @@
--- What checking a set for a listing finds.
+-- What the limits let a layout be.
 pub mod Answers

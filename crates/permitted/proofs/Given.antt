@@ -1,6 +1,6 @@
 -- What it says that the checks of a plan and of a cost are passed. Assumes nothing.
 use Prim.Native.Nat.{ℕ, ◌+◌, ◌-◌, ◌/◌, ◌≤◌, ◌<◌}
-use mathlib.Core.Path.{◌≡◌, refl, ap₂, ◌∙◌}
+use mathlib.Core.Path.{◌≡◌, refl, sym, ap₂, ◌∙◌, subst}
 use mathlib.Core.Bool.{Bool, true, false, not, ◌&&◌, and-true}
 use mathlib.Core.List.{List, [], ◌∷◌, ◌++◌}
 use native.Mathlib.Omega.{arith}
@@ -20,25 +20,11 @@ use Rattle.model.specs.Lent.{set_of}
 use Rattle.model.proofs.Tests.{and_fst, yes_first}
 use Rattle.checks.proofs.Answers.{failed_first, numbered, passed_first}
 use Rattle.sets.specs.Sized.{Sized, set_refusal_of, counted_checks}
-use Rattle.sets.proofs.Sets.{whole, set_first, blocks-least, blocks_most}
+use Rattle.sets.proofs.Sets.{sized, set_first, blocks-least, blocks_most}
 use Rattle.layout_search.proofs.RowLaws.{stored_more}
 use Rattle.block_costs.specs.Terms.{PricesPass, Counted}
 use Rattle.block_costs.proofs.TermLaws.{prices_pass, counted}
 use Rattle.permitted.specs.Given.{given_checks, Marked}
-
--- check 1, test by test
-module _ (p : PriceCard) where
-  pub rr_fails : price_ok p.rr ≡ false → false ≡ prices_ok p
-  unfolding prices_ok
-  rr_fails e = rw e
-
-  pub sr_fails : price_ok p.rr ≡ true → price_ok p.sr ≡ false → false ≡ prices_ok p
-  unfolding prices_ok
-  sr_fails e f = rw (e, f)
-
-  pub rw_left : price_ok p.rr ≡ true → price_ok p.sr ≡ true → price_ok p.«rw» ≡ prices_ok p
-  unfolding prices_ok
-  rw_left e f = rw (e, f)
 
 module _ (L : ℕ) (s : Set) where
   -- the set's checks of values and days, by their answers, and 9
@@ -58,7 +44,6 @@ module _ (L : ℕ) (s : Set) where
 -- what the checks of a plan and of a cost have in common
 pub record Given (L : ℕ) (p : PriceCard) (s : Set) (hs : List ℕ) : Type 0 where
   pub prices : PricesPass p
-  pub size : Sized L s.block s.used (length s.slices.growers)
   pub counts : Counted L hs
   pub some : 1 ≤ blocks s
   pub few : blocks s ≤ L
@@ -66,8 +51,8 @@ pub record Given (L : ℕ) (p : PriceCard) (s : Set) (hs : List ℕ) : Type 0 wh
 module _ (L : ℕ) (p : PriceCard) (s : Set) (hs : List ℕ) where
   given : T (prices_ok p) → set_refusal_of L s ≡ 0 → T (counts_ok L hs) → Given L p s hs
   given a e c =
-      let z = (whole L s e).sized in
-      record { prices = prices_pass p a; size = z; counts = counted L hs c; some = blocks-least z; few = blocks_most z }
+      let z = sized L s (sym e) in
+      record { prices = prices_pass p a; counts = counted L hs c; some = blocks-least z; few = blocks_most z }
 
   pub cost_given : (ends : List ℕ) → first_failed (cost_checks L p s ends hs) ≡ 0 → Given L p s hs × T (layout_ok s ends)
   unfolding cost_checks
@@ -111,11 +96,13 @@ module _ (p : PriceCard) (l : Limits) where
   unfolding longest_partition
   longest_none h = rw (lt-leb p.rr l.read h)
 
--- the flags, one after the other
-module _ (block used : ℕ) (growers : List ℕ) where
-  pub marked_start : (old : List Bool) → Marked block used growers 0 old old
+-- the flags, of the same set, and one after the other
+pub marked_same : {s t : Set} {old fits : List Bool} → s ≡ t → Marked s (blocks s) old fits → Marked t (blocks t) old fits
+marked_same {s} {t} {old} {fits} e m = subst (λ (u : Set). Marked u (blocks u) old fits) e m
+
+module _ (s : Set) where
+  pub marked_start : (old : List Bool) → Marked s 0 old old
   marked_start old = record { long = refl; here = λ x g. absurd (omega arith) }
 
-  pub marked_more : (i : ℕ) (v : Bool) (old fits : List Bool) → Marked block used growers i old fits → i < length old
-      → v ≡ separates_none (set_of block used growers [] [] []) i → Marked block used growers (i + 1) old (set fits i v)
+  pub marked_more : (i : ℕ) (v : Bool) (old fits : List Bool) → Marked s i old fits → i < length old → v ≡ separates_none s i → Marked s (i + 1) old (set fits i v)
   marked_more i v old fits l g e = record { long = length-set fits i v ∙ l.long; here = stored_more _ false v i fits (omega (arith, l.long)) e l.here }

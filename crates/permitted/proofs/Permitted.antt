@@ -32,8 +32,8 @@ pub record Flagged (s : Set) (fits : List Bool) : Type 0 where
   pub some : 1 ≤ blocks s
 
 -- `mark` leaves them so
-pub flagged : (s : Set) (n : ℕ) (old fits : List Bool) → n ≡ blocks s → 1 ≤ blocks s → Marked s.block s.used s.slices.growers n old fits → Flagged s fits
-flagged s n old fits e h m = record { marks = λ i g. m.here i (omega arith); some = h }
+pub flagged : (s : Set) (old fits : List Bool) → 1 ≤ blocks s → Marked s (blocks s) old fits → Flagged s fits
+flagged s old fits h m = record { marks = m.here; some = h }
 
 -- what is added up has no part in which layouts are allowed
 module _ (p : PriceCard) (l : Limits) (sums : List ℕ) {s : Set} {fits : List Bool} (w : Flagged s fits) where

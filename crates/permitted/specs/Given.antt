@@ -8,13 +8,12 @@ use Rattle.model.specs.Blocks.{Set, values_ok, days_ok}
 use Rattle.model.specs.Histograms.{counts_ok}
 use Rattle.model.specs.Layouts.{separates_none}
 use Rattle.model.specs.Questions.{set_checks}
-use Rattle.model.specs.Lent.{set_of}
 
 -- L is the block limit: 1 2 3 4 5 8 19 9, ahead of 11 and 15
 abbrev pub given_checks : ℕ → PriceCard → Limits → Set → List ℕ → List Check
 given_checks L p l s hs = ask 1 (prices_ok p && limits_ok l) ∷ set_checks L s ++ ask 8 (values_ok s) ∷ ask 19 (days_ok s) ∷ ask 9 (counts_ok L hs) ∷ []
 
--- the flags before block i say where an end may stand (the growers alone decide)
-pub record Marked (block used : ℕ) (growers : List ℕ) (i : ℕ) (old fits : List Bool) : Type 0 where
+-- the flags before block i say where an end may stand
+pub record Marked (s : Set) (i : ℕ) (old fits : List Bool) : Type 0 where
   pub long : length fits ≡ length old
-  pub here : (x : ℕ) → x < i → get_or fits x false ≡ separates_none (set_of block used growers [] [] []) x
+  pub here : (x : ℕ) → x < i → get_or fits x false ≡ separates_none s x

@@ -2,114 +2,91 @@
 // have and how many partitions there may be under the limits, and where an end may stand.
 #![tactic(auto)]
 
-ghost use Rattle.std.specs.Prelude.{◌≡◌, ◌&&◌, ◌≤◌, length};
+ghost use Rattle.std.specs.Prelude.{◌≡◌, ◌&&◌, ◌≤◌, length, IfOk};
+ghost use Rattle.model.specs.Blocks.{blocks};
 ghost use Rattle.model.specs.Checks.{first_failed};
 ghost use Rattle.model.specs.Prices.{price_ok, prices_ok, limits_ok};
 ghost use Rattle.model.specs.Layouts.{most_partitions, longest_partition};
 ghost use Rattle.model.specs.Bounds.{block_limit};
-ghost use Rattle.model.specs.Lent.{set_in};
-ghost use Rattle.sets.specs.Sized.{Sized};
+ghost use Rattle.model.specs.Lent.{set_given};
+ghost use Rattle.model.specs.Refusals.{number_of};
+ghost use Rattle.sets.specs.Checked.{checked_set};
 ghost use Rattle.block_costs.specs.Terms.{PricesPass};
 ghost use Rattle.permitted.specs.Given.{given_checks, Marked};
 
-use model::{Limits, MOST_LIMIT, MOST_PRICE, PriceCard};
+use model::{LentSet, Limits, MOST_LIMIT, MOST_PRICE, PriceCard, Refusal};
+use sets::CheckedSet;
 
 // Check 1 of one price, of the three, and of the limits.
 fn price_ok(p: u32) -> bool
     ensures { result ≡ price_ok p }
 {
-    if p < 1 {
-        return false;
-    }
-    p <= MOST_PRICE
+    1 <= p && p <= MOST_PRICE
 }
 
+#[tactic(auto, unfolding(model::specs::Prices::prices_ok))]
 pub fn prices_ok(card: PriceCard) -> bool
     ensures { result ≡ prices_ok card }
 {
-    if !price_ok(card.rr) {
-        return false;
-    }
-    if !price_ok(card.sr) {
-        return false;
-    }
-    price_ok(card.rw)
+    price_ok(card.rr) && price_ok(card.sr) && price_ok(card.rw)
 }
 
+#[tactic(auto, unfolding(model::specs::Prices::limits_ok))]
 fn limits_ok(limits: Limits) -> bool
     ensures { result ≡ limits_ok limits }
 {
-    if MOST_LIMIT < limits.read {
-        return false;
-    }
-    limits.insert <= MOST_LIMIT
+    limits.read <= MOST_LIMIT && limits.insert <= MOST_LIMIT
 }
 
 fn given_ok(card: PriceCard, limits: Limits) -> bool
     ensures { result ≡ prices_ok card && limits_ok limits }
 {
-    if !prices_ok(card) {
-        return false;
-    }
-    limits_ok(limits)
+    prices_ok(card) && limits_ok(limits)
 }
 
 // Checks 1, 2, 3, 4, 5, 8, 19 and 9 of the planner and of the listing.
-pub fn plan_refusal(
+pub fn check_plan<'a>(
     card: PriceCard,
     limits: Limits,
-    block: u32,
-    used: u32,
-    growers: &[u32],
-    weights: &[u32],
-    yields: &[u32],
-    days: &[u32],
+    set: LentSet<'a>,
     histograms: &[u32],
-) -> u32
-    ensures { result ≡ first_failed (given_checks block_limit card limits (set_in block used growers weights yields days)
-        histograms.now) }
+) -> Result<CheckedSet<'a>, Refusal>
+    ensures answer { number_of result ≡ first_failed (given_checks block_limit card limits (set_given set.entry) histograms.now) }
+    ensures accepted { IfOk result (λ s. checked_set s ≡ set_given set.entry) }
 {
     if !given_ok(card, limits) {
-        return 1;
+        return Err(Refusal::Prices);
     }
-    sets::counted_refusal(
-        histograms, block, used, growers, weights, yields, days, true, true, true,
-    )
+    sets::check_counted(histograms, set, true, true, true)
 }
 
 // How many blocks a partition may have under the read limit: its first is a random read, each other a sequential one.
+#[tactic(auto, unfolding(model::specs::Layouts::longest_partition))]
 pub fn longest_partition(card: PriceCard, limits: Limits) -> usize
     requires { PricesPass card }
     ensures { result ≡ longest_partition card limits }
 {
-    if card.rr <= limits.read {
-        return ((limits.read - card.rr) / card.sr) as usize + 1;
+    match limits.read.checked_sub(card.rr) {
+        Some(rest) => (rest / card.sr) as usize + 1,
+        None => 0,
     }
-    0
 }
 
 // How many partitions there may be under the insert limit.
+#[tactic(auto, unfolding(model::specs::Layouts::most_partitions))]
 pub fn most_partitions(card: PriceCard, limits: Limits) -> usize
     requires { PricesPass card }
     ensures { result ≡ most_partitions card limits }
 {
-    let x = limits.insert / (card.rr + card.rw);
-    if x == 0 {
-        return 0;
-    }
-    (x - 1) as usize
+    (limits.insert / (card.rr + card.rw)).saturating_sub(1) as usize
 }
 
-// Where an end may stand, for each of n blocks.
-pub fn mark(block: u32, used: u32, growers: &[u32], n: usize, fits: &mut [bool])
-    requires sized { Sized block_limit block used (length growers.now) }
-    requires n_le_block_limit { (n ≤ block_limit) × (n ≤ length fits.old) }
-    ensures { Marked block used growers.now n fits.old fits.new }
+// Where an end may stand, for each block of a set.
+pub fn mark(set: CheckedSet, fits: &mut [bool])
+    requires { blocks (checked_set set) ≤ length fits.old }
+    ensures { Marked (checked_set set.entry) (blocks (checked_set set.entry)) fits.old fits.new }
 {
-    let mut i = 0;
-    while i < n {
-        let v = sets::separates_none(block, used, growers, i as u32);
-        fits[i] = v;
-        i += 1;
+    for i in 0..set.block_count() {
+        fits[i as usize] = set.separates_none(i);
     }
 }

@@ -14,6 +14,9 @@ use Rattle.model.specs.declared.PriceCard.{PriceCard}
 use Rattle.model.specs.declared.Limits.{Limits}
 use Rattle.model.specs.declared.Costed.{Costed}
 use Rattle.model.specs.declared.Planned.{Planned}
+use Rattle.model.specs.declared.refusal.Refusal.{Refusal}
+use Rattle.model.specs.Refusals.{refusal_number}
+use Rattle.model.proofs.Refusals.{refusal_some}
 use Rattle.model.specs.Lists.{value_or}
 use Rattle.model.specs.Checks.{ask, first_failed}
 use Rattle.model.specs.Blocks.{Set, blocks}
@@ -70,12 +73,12 @@ module _ (L : ℕ) (p : PriceCard) (l : Limits) (s : Set) (hs out : List ℕ) wh
   ends_planned es e = ap (value_or []) e
 
   -- a refusal by the checks of what was given
-  pub plan_not_given : (n : ℕ) (r : Planned) → n ≡ first_failed (given_checks L p l s hs) → (n ≡ 0 → ⊥) → r ≡ answer n 0 (pos 0)
-      → ◌≡◌ {A = PlanResult} (record { answer = r; ends = out }) (plan_call L p l s hs out)
+  pub plan_not_given : (r : Refusal) → refusal_number r ≡ first_failed (given_checks L p l s hs)
+      → ◌≡◌ {A = PlanResult} (record { answer = answer (refusal_number r) 0 (pos 0); ends = out }) (plan_call L p l s hs out)
   unfolding planner_refusal
-  plan_not_given n r e h q =
-      let f = plan_refused n (sym (e ∙ plan_failed L p s hs l (length (planned_ends L p l s hs)) (length out) (λ f. h (e ∙ f)))) h in
-      subst (λ (v : Planned). ◌≡◌ {A = PlanResult} (record { answer = v; ends = out }) (plan_call L p l s hs out)) (sym q) f
+  plan_not_given r e =
+      let f = plan_failed L p s hs l (length (planned_ends L p l s hs)) (length out) (λ z. refusal_some r (e ∙ z)) in
+      plan_refused (refusal_number r) (sym (e ∙ f)) (refusal_some r)
 
   module _ (given : first_failed (given_checks L p l s hs) ≡ 0) where
     refusal_is : (n : ℕ) → cond (not (eqb (length (permitted_layouts p l s)) 0)) (cond (leb (length (planned_ends L p l s hs)) (length out)) 0 15) 11 ≡ n → planner_refusal L p l s hs (length out) ≡ n
@@ -112,10 +115,10 @@ module _ (L : ℕ) (p : PriceCard) (l : Limits) (s : Set) (hs out : List ℕ) wh
     -- the search's answer, where n, longest and most are what they must be
     pub answered_plan : (n longest most : ℕ) (sums : List ℕ) (were fits : List Bool) (new : List ℕ) (r : Planned)
         → n ≡ blocks s → longest ≡ longest_partition p l → most ≡ most_partitions p l → 1 ≤ blocks s
-        → Summed L p hs ((n + 1) * sums_per_place) sums → Marked s.block s.used s.slices.growers n were fits → Answered (task_of sums fits longest n) most out new r
+        → Summed L p hs ((n + 1) * sums_per_place) sums → Marked s (blocks s) were fits → Answered (task_of sums fits longest n) most out new r
         → ◌≡◌ {A = PlanResult} (record { answer = r; ends = new }) (plan_call L p l s hs out)
     answered_plan n longest most sums were fits new r a b c few added marks h =
-        let w : Ready L p s hs sums fits = record { summed = rw a at added; flagged = flagged s n were fits a few marks } in
+        let w : Ready L p s hs sums fits = record { summed = rw a at added; flagged = flagged s were fits few marks } in
         answered_task w new r (rw (a, b, c) at h)
 
 -- the cost of a layout
@@ -123,15 +126,16 @@ pub layout_covers_blocks : (s : Set) (ends : List ℕ) → T (layout_ok s ends) 
 layout_covers_blocks s ends t = cut_covers 0 ends (blocks s) (laid s ends t).cut
 
 module _ (L : ℕ) (p : PriceCard) (s : Set) (ends hs : List ℕ) where
-  pub cost_refused : (n : ℕ) → n ≡ first_failed (cost_checks L p s ends hs) → (n ≡ 0 → ⊥) → ◌≡◌ {A = Costed} (record { refusal = n; cost = pos 0 }) (cost_call L p s ends hs)
+  pub cost_refused : (r : Refusal) → refusal_number r ≡ first_failed (cost_checks L p s ends hs)
+      → ◌≡◌ {A = Costed} (record { refusal = refusal_number r; cost = pos 0 }) (cost_call L p s ends hs)
   unfolding cost_call
-  cost_refused n e h = rw (sym e, ne_eqb n 0 h)
+  cost_refused r e = rw (sym e, ne_eqb (refusal_number r) 0 (refusal_some r))
 
-  pub cost_answered : (n m : ℕ) (sums : List ℕ) (z : ℤ) → first_failed (cost_checks L p s ends hs) ≡ 0 → T (layout_ok s ends) → n ≡ blocks s
+  pub cost_answered : (n m : ℕ) (sums : List ℕ) (z : ℤ) → 0 ≡ first_failed (cost_checks L p s ends hs) → T (layout_ok s ends) → n ≡ blocks s
       → Summed L p hs ((n + 1) * sums_per_place) sums → Numbered sums ends m → z ≡ sub_ℕ m (2 ^ 60)
       → ◌≡◌ {A = Costed} (record { refusal = 0; cost = z }) (cost_call L p s ends hs)
   unfolding cost_call
   cost_answered n m sums z e t a added num f =
       let c = layout_cost L p hs (blocks s) sums (rw a at added) ends (laid s ends t).cut in
       let g : sub_ℕ m (2 ^ 60) ≡ cost_of L p (blocks s) ends hs = eq_is _ _ _ _ _ _ (is_sub m (2 ^ 60)) c (omega (arith, num.is)) in
-      rw (e, f, g)
+      rw (sym e, f, g)

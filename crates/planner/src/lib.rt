@@ -1,17 +1,21 @@
 // The cost of a given layout and the search for the cheapest permitted one (01: the bill; permitted layouts).
 #![tactic(auto)]
 
-ghost use Rattle.std.specs.Prelude.{◌≡◌, ◌≤◌, ◌<◌, length};
+ghost use Rattle.std.specs.Prelude.{◌≡◌, ◌≤◌, ◌<◌, length, IfOk};
 ghost use Rattle.model.specs.Checks.{first_failed};
 ghost use Rattle.model.specs.Questions.{cost_checks};
 ghost use Rattle.model.specs.Planner.{cost_call, plan_call};
 ghost use Rattle.model.specs.Bounds.{block_limit};
-ghost use Rattle.model.specs.Lent.{set_in};
+ghost use Rattle.model.specs.Lent.{set_given};
+ghost use Rattle.model.specs.Refusals.{number_of};
+ghost use Rattle.model.specs.Answers.{costed_of, planned_of};
+ghost use Rattle.sets.specs.Checked.{checked_set};
 ghost use Rattle.layout_search.specs.RunningSums.{Holds, task_of};
 ghost use Rattle.layout_search.specs.Answer.{Answered};
 
 use layout_search::SUMS_PER_PLACE;
-use model::{BLOCK_LIMIT, Costed, Limits, Planned, PriceCard};
+use model::{BLOCK_LIMIT, LentSet, Limits, Plan, PriceCard, Refusal};
+use sets::CheckedSet;
 
 // The running sums of all blocks.
 const SUMS: usize = (BLOCK_LIMIT + 1) * SUMS_PER_PLACE;
@@ -24,31 +28,23 @@ const FEW_BLOCKS: usize = 32;
 const SMALL_TABLE: usize = 2 * FEW_BLOCKS * FEW_BLOCKS;
 
 // Checks 1, 2, 3, 4, 5, 6, 8, 19 and 9 of a cost.
-fn cost_refusal(
+fn check_cost<'a>(
     card: PriceCard,
-    block: u32,
-    used: u32,
-    growers: &[u32],
-    weights: &[u32],
-    yields: &[u32],
-    days: &[u32],
+    set: LentSet<'a>,
     ends: &[u32],
     histograms: &[u32],
-) -> u32
-    ensures { result ≡ first_failed (cost_checks block_limit card (set_in block used growers weights yields days)
-        ends.now histograms.now) }
+) -> Result<CheckedSet<'a>, Refusal>
+    ensures answer { number_of result ≡ first_failed (cost_checks block_limit card (set_given set.entry) ends.now histograms.now) }
+    ensures accepted { IfOk result (λ s. checked_set s ≡ set_given set.entry) }
 {
     if !permitted::prices_ok(card) {
-        return 1;
+        return Err(Refusal::Prices);
     }
-    let n = sets::layout_refusal(block, used, growers, weights, yields, days, ends);
-    if n != 0 {
-        return n;
-    }
+    let checked = sets::check_layout(set, ends)?;
     if !histograms::counts_ok(histograms) {
-        return 9;
+        return Err(Refusal::Histograms);
     }
-    0
+    Ok(checked)
 }
 
 // The search with a table of its own: with few blocks a small one, since a table is cleared first.
@@ -59,10 +55,10 @@ fn searched(
     most: usize,
     n: usize,
     ends: &mut [u32],
-) -> Planned
+) -> Result<Plan, Refusal>
     requires holds { Holds sums.now n }
     requires n_nonzero { (0 < n) × (n ≤ block_limit) × (n ≤ length fits.now) }
-    ensures { Answered (task_of sums.now fits.now longest n) most ends.old ends.new result }
+    ensures { Answered (task_of sums.now fits.now longest n) most ends.old ends.new (planned_of result) }
 {
     if n <= FEW_BLOCKS {
         let mut small = [0u64; SMALL_TABLE];
@@ -76,60 +72,32 @@ fn searched(
 pub fn plan(
     card: PriceCard,
     limits: Limits,
-    block: u32,
-    used: u32,
-    growers: &[u32],
-    weights: &[u32],
-    yields: &[u32],
-    days: &[u32],
+    set: LentSet,
     histograms: &[u32],
     ends: &mut [u32],
-) -> Planned
-    ensures { record { answer = result; ends = ends.new }
-        ≡ plan_call block_limit card limits (set_in block used growers weights yields days)
-        histograms.now ends.old }
+) -> Result<Plan, Refusal>
+    ensures { record { answer = planned_of result; ends = ends.new }
+        ≡ plan_call block_limit card limits (set_given set.entry) histograms.now ends.old }
 {
-    let refusal = permitted::plan_refusal(
-        card, limits, block, used, growers, weights, yields, days, histograms,
-    );
-    if refusal != 0 {
-        return layout_search::refused(refusal);
-    }
-    let n = sets::block_count(block, used) as usize;
+    let checked = permitted::check_plan(card, limits, set, histograms)?;
+    let n = checked.block_count() as usize;
     let longest = permitted::longest_partition(card, limits);
     let most = permitted::most_partitions(card, limits);
     let mut sums = [0u64; SUMS];
     let mut fits = [false; BLOCK_LIMIT];
     block_costs::add_up(card, histograms, n, &mut sums[..]);
-    permitted::mark(block, used, growers, n, &mut fits[..]);
+    permitted::mark(checked, &mut fits[..]);
     searched(&sums[..], &fits[..], longest, most, n, ends)
 }
 
 // The cost of a given layout.
-pub fn cost(
-    card: PriceCard,
-    block: u32,
-    used: u32,
-    growers: &[u32],
-    weights: &[u32],
-    yields: &[u32],
-    days: &[u32],
-    ends: &[u32],
-    histograms: &[u32],
-) -> Costed
-    ensures { result ≡ cost_call block_limit card (set_in block used growers weights yields days)
-        ends.now histograms.now }
+pub fn cost(card: PriceCard, set: LentSet, ends: &[u32], histograms: &[u32]) -> Result<i64, Refusal>
+    ensures { costed_of result ≡ cost_call block_limit card (set_given set.entry) ends.now histograms.now }
 {
-    let refusal = cost_refusal(
-        card, block, used, growers, weights, yields, days, ends, histograms,
-    );
-    if refusal != 0 {
-        return Costed { refusal, cost: 0 };
-    }
-    let blocks = sets::block_count(block, used) as usize;
+    let checked = check_cost(card, set, ends, histograms)?;
+    let blocks = checked.block_count() as usize;
     let mut sums = [0u64; SUMS];
     block_costs::add_up(card, histograms, blocks, &mut sums[..]);
     let m = layout_search::layout_number(&sums[..], ends);
-    let cost = layout_search::unbiased(m);
-    Costed { refusal: 0, cost }
+    Ok(layout_search::unbiased(m))
 }

@@ -1,18 +1,20 @@
 -- What a recorder call answers: the checks ahead of 10, and the slots of each call. Assumes nothing.
 use Prim.Native.Nat.{ℕ, ◌+◌, ◌*◌, ◌≤◌, ◌<◌}
-use mathlib.Core.Path.{◌≡◌, refl, sym, ap, ◌∙◌}
+use mathlib.Core.Path.{◌≡◌, refl, sym, ap, ap₂, ◌∙◌}
 use mathlib.Core.Bool.{Bool, true, false, cond, ◌&&◌}
 use mathlib.Core.List.{List, [], ◌∷◌, ◌++◌, map}
 use native.Mathlib.Omega.{arith}
 use borrow.Author.Tests.{le-leb, lt-leb, eq-eqb, ne_eqb}
 use lib.Dec.{T, ltb, eqb}
 use lib.ListN.{length, take}
-use lib.Seq.{length-take-le}
 use Rattle.model.specs.declared.Delivery.{Delivery}
 use Rattle.model.specs.Calendar.{Span, span}
 use Rattle.model.specs.Bounds.{most_day}
+use Rattle.model.specs.declared.refusal.Refusal.{Refusal}
+use Rattle.model.specs.Refusals.{refusal_number}
+use Rattle.model.proofs.Refusals.{refusal_some}
 use Rattle.model.specs.Checks.{Check, ask, first_failed}
-use Rattle.model.specs.Deliveries.{Slices, rows, Even, first_slots, each_slice, among, first_match}
+use Rattle.model.specs.Deliveries.{Slices, rows, Even, each_slice, among, first_match}
 use Rattle.model.specs.Blocks.{Set, held, block_of, values_ok, days_ok}
 use Rattle.model.specs.Calls.{Call, find, range, range_days, insert, delete, move, ordered, offered_ok, offered_days_ok}
 use Rattle.model.specs.Histograms.{position, slot, histograms_size, raises, range_raises, move_raises, raise_all, counts_ok, room_to_raise}
@@ -26,34 +28,26 @@ use Rattle.histograms.specs.Raising.{recorded, raise_slots, room_at, raised_at, 
 use Rattle.histograms.proofs.Counts.{counts_long}
 use Rattle.histograms.proofs.Slots.{room_slots, raise-slots}
 use Rattle.sets.specs.Sized.{counted_checks}
-use Rattle.sets.proofs.Sets.{Whole, whole, set_first, blocks-least, blocks_most}
+use Rattle.sets.proofs.Sets.{sized, set_first, blocks-least, blocks_most}
 
--- The set has the delivery.
+-- The set has the delivery: the first match lies before the end just if there is one.
 
-pub has_law : (d : Delivery) (m n : ℕ) (s : Slices) → m ≤ length s.growers → Even s → n ≡ first_match d (rows (each_slice (take m) s)) → ltb n m ≡ among d (first_slots m s)
-has_law d m n s h v e =
-    let k : length (first_slots m s) ≡ m = length-take-le m (rows s) (omega (arith, length-rows s v)) in
-    ap (λ (j : ℕ). ltb j m) (e ∙ ap (first_match d) (rows-part m 0 s))
-    ∙ ap (ltb (first_match d (first_slots m s))) (sym k)
-    ∙ first_among d (first_slots m s)
+pub has_law : (d : Delivery) (n c : ℕ) (s : Set) (u : Slices) → Even u → u ≡ each_slice (take s.used) s.slices → n ≡ first_match d (rows u) → c ≡ length u.growers
+    → ltb n c ≡ among d (held s)
+has_law d n c s u v e f g =
+    let r : rows u ≡ held s = ap rows e ∙ rows-part s.used 0 s.slices in
+    ap₂ ltb (f ∙ ap (first_match d) r) (g ∙ sym (length-rows u v) ∙ ap length r) ∙ first_among d (held s)
 
 -- L is the block limit
 module _ (L : ℕ) where
   -- What holds once the checks ahead of 10 have all passed: 10 is left to the slots that the call raises.
 
   pub record Passed (s : Set) (hs : List ℕ) (c : Call) : Type 0 where
-    pub whole_set : Whole L s
     pub long : length hs ≡ histograms_size L
     pub in_order : T (ordered c)
     pub below : (g b : ℕ) → b ≡ block_of s g → b < L
     pub rising : (g h : ℕ) → g ≤ h → block_of s g ≤ block_of s h
     pub answers : (ks : List ℕ) → map (slot L) (raises s c) ≡ ks → raised_at hs ks ≡ record_call L s hs c
-
-  -- What the answer n of these checks decides.
-
-  pub record Decided (s : Set) (hs : List ℕ) (c : Call) (n : ℕ) : Type 0 where
-    pub refused : (n ≡ 0 → ⊥) → recorded n hs ≡ record_call L s hs c
-    pub passed : n ≡ 0 → Passed s hs c
 
   module _ (s : Set) (hs : List ℕ) (c : Call) where
     abbrev ahead : List Check
@@ -93,20 +87,25 @@ module _ (L : ℕ) where
         let c8 = yes_first 7 (values_ok s && offered_ok c) _ c7.1 in
         let c19 = yes_first 18 (days_ok s && offered_days_ok c) _ c8.1 in
         let c9 = yes_first 8 (counts_ok L hs) _ c19.1 in
-        let w = whole L s r.0 in
+        let w = sized L s (sym r.0) in
         record {
-          whole_set = w;
           long = counts_long L hs (is_true _ c9.0);
           in_order = c7.0;
-          below = λ g b e. omega (arith, e, (spot_of s (blocks-least w.sized) g).within, blocks_most w.sized);
-          rising = block_rises s (blocks-least w.sized);
+          below = λ g b e. omega (arith, e, (spot_of s (blocks-least w) g).within, blocks_most w);
+          rising = block_rises s (blocks-least w);
           answers = λ ks k. then_raised ks k (passed_first ahead (ten ∷ []) tt h);
         }
 
-    pub decided : (n : ℕ) (o v d : Bool) → o ≡ ordered c → v ≡ offered_ok c → d ≡ offered_days_ok c → n ≡ first_failed (counted_checks L s hs o v d) → Decided s hs c n
-    decided n o v d e f k h =
-        let g : n ≡ first_failed ahead = h ∙ (λ i. first_failed (counted_checks L s hs (e i) (f i) (k i))) in
-        record { refused = then_refused n g; passed = λ z. then_passed (sym g ∙ z) }
+    -- what the answer of these checks decides
+    module _ (o v d : Bool) (e : o ≡ ordered c) (f : v ≡ offered_ok c) (k : d ≡ offered_days_ok c) where
+      same_checks : counted_checks L s hs o v d ≡ ahead
+      same_checks = λ i. counted_checks L s hs (e i) (f i) (k i)
+
+      pub refused : (r : Refusal) → refusal_number r ≡ first_failed (counted_checks L s hs o v d) → recorded (refusal_number r) hs ≡ record_call L s hs c
+      refused r h = then_refused (refusal_number r) (h ∙ ap first_failed same_checks) (refusal_some r)
+
+      pub passed : 0 ≡ first_failed (counted_checks L s hs o v d) → Passed s hs c
+      passed h = then_passed (sym (h ∙ ap first_failed same_checks))
 
   -- The slots of each call.
 

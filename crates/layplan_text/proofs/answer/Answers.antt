@@ -1,0 +1,35 @@
+-- `layplan_text::answer` meets its contract: the first call that is refused is the answer, and else the plan is. Assumes nothing.
+use Rattle.std.proofs.Common.{arith}
+use Rattle.layplan_text.proofs.WeekLaws.{head, good}
+use Rattle.layplan_text.proofs.AnswerLaws.{Sizes, calls_start, calls_few, calls_good, answer_refused, answer-planned}
+use Rattle.layplan_text.proofs.answer.Goals as goal
+
+pub spelled_at-block-requires : goal.spelled_at-block-requires
+spelled_at-block-requires c = (head _ (good _ c.requires).first).block
+
+pub spelled_at-used-requires : goal.spelled_at-used-requires
+spelled_at-used-requires c = (head _ (good _ c.requires).first).used
+
+pub spelled_at-q-requires : goal.spelled_at-q-requires
+spelled_at-q-requires c = (head _ (good _ c.requires).first).count
+
+pub record_lines-stop-requires : goal.record_lines-stop-requires
+record_lines-stop-requires c =
+    let n : Sizes c.args.text.now c.spelled_at-block.result c.spelled_at-used.result c.spelled_at-q.result
+    = record { block = c.spelled_at-block.ensures; used = c.spelled_at-used.ensures; count = c.spelled_at-q.ensures } in
+    (calls_start n c.requires, calls_few n c.requires, calls_good n c.requires)
+
+pub returns-then-stop-ne0 : goal.returns-then-stop-ne0
+returns-then-stop-ne0 c =
+    let n : Sizes c.args.text.now c.spelled_at-block.result c.spelled_at-used.result c.spelled_at-q.result
+    = record { block = c.spelled_at-block.ensures; used = c.spelled_at-used.ensures; count = c.spelled_at-q.ensures } in
+    answer_refused _ n _ _ c.record_lines-stop.ensures _ (λ z. omega (arith, z)) c.refused.ensures
+
+pub plan-requires : goal.plan-requires
+plan-requires c = (good _ c.requires).first
+
+pub returns : goal.returns
+returns c =
+    let n : Sizes c.args.text.now c.spelled_at-block.result c.spelled_at-used.result c.spelled_at-q.result
+    = record { block = c.spelled_at-block.ensures; used = c.spelled_at-used.ensures; count = c.spelled_at-q.ensures } in
+    answer-planned _ n _ _ c.record_lines-stop.ensures _ (omega arith) c.plan.ensures
