@@ -8,8 +8,9 @@ ghost use Rattle.model.specs.ListingCalls.{listed, list_call};
 ghost use Rattle.block_costs.specs.Terms.{PricesPass};
 ghost use Rattle.listing.specs.Answers.{rules_of, checked_of};
 
+use block_costs::PricedCounts;
 use layout_lines::Rules;
-use layout_search::SUMS_PER_PLACE;
+use layout_search::{SUMS_PER_PLACE, Sums};
 use model::{Limits, Listed, MOST_LISTED_BLOCKS, PriceCard};
 
 // The refusals of more than 12 blocks, of a set without a permitted layout, and of a text that is too short (02: 23; 01: 11, 15).
@@ -125,8 +126,13 @@ pub fn list_layouts(
     let rules = rules_of(card, limits, n);
     let mut sums = [0u64; SUMS];
     let mut fits = [false; MOST_LISTED_BLOCKS];
-    block_costs::add_up(card, histograms, n, &mut sums[..]);
+    let counts = PricedCounts { card, histograms };
+    counts.add_up(n, &mut sums[..]);
     permitted::mark(block, used, growers, n, &mut fits[..]);
-    layout_lines::put_all(&sums[..], &fits[..], rules, text);
+    let given = Sums {
+        places: &sums[..],
+        blocks: n,
+    };
+    layout_lines::put_all(given, &fits[..], rules, text);
     checked
 }

@@ -7,11 +7,13 @@ ghost use Rattle.model.specs.Questions.{cost_checks};
 ghost use Rattle.model.specs.Planner.{cost_call, plan_call};
 ghost use Rattle.model.specs.Bounds.{block_limit};
 ghost use Rattle.model.specs.Lent.{set_in};
-ghost use Rattle.layout_search.specs.RunningSums.{Holds, task_of};
+ghost use Rattle.model.specs.Answers.{planned_of};
+ghost use Rattle.layout_search.specs.Given.{task_given};
 ghost use Rattle.layout_search.specs.Answer.{Answered};
 
-use layout_search::SUMS_PER_PLACE;
-use model::{BLOCK_LIMIT, Costed, Limits, Planned, PriceCard};
+use block_costs::PricedCounts;
+use layout_search::{SUMS_PER_PLACE, Sums, Task};
+use model::{BLOCK_LIMIT, Costed, Limits, Plan, Planned, PriceCard, Refusal};
 
 // The running sums of all blocks.
 const SUMS: usize = (BLOCK_LIMIT + 1) * SUMS_PER_PLACE;
@@ -52,24 +54,16 @@ fn cost_refusal(
 }
 
 // The search with a table of its own: with few blocks a small one, since a table is cleared first.
-fn searched(
-    sums: &[u64],
-    fits: &[bool],
-    longest: usize,
-    most: usize,
-    n: usize,
-    ends: &mut [u32],
-) -> Planned
-    requires holds { Holds sums.now n }
-    requires n_nonzero { (0 < n) × (n ≤ block_limit) × (n ≤ length fits.now) }
-    ensures { Answered (task_of sums.now fits.now longest n) most ends.old ends.new result }
+fn searched(task: Task, most: usize, ends: &mut [u32]) -> Result<Plan, Refusal>
+    requires { (0 < task.sums.blocks) × (task.sums.blocks ≤ block_limit) }
+    ensures { Answered (task_given task.entry) most ends.old ends.new (planned_of result) }
 {
-    if n <= FEW_BLOCKS {
+    if task.sums.blocks <= FEW_BLOCKS {
         let mut small = [0u64; SMALL_TABLE];
-        return layout_search::cheapest(sums, fits, longest, most, n, &mut small[..], ends);
+        return task.cheapest(most, &mut small[..], ends);
     }
     let mut table = [0u64; TABLE];
-    layout_search::cheapest(sums, fits, longest, most, n, &mut table[..], ends)
+    task.cheapest(most, &mut table[..], ends)
 }
 
 // The cheapest permitted layout: its ends go to the front of `ends`, and what lies past them stays.
@@ -93,16 +87,29 @@ pub fn plan(
         card, limits, block, used, growers, weights, yields, days, histograms,
     );
     if refusal != 0 {
-        return layout_search::refused(refusal);
+        return Planned {
+            refusal,
+            count: 0,
+            cost: 0,
+        };
     }
     let n = sets::block_count(block, used) as usize;
     let longest = permitted::longest_partition(card, limits);
     let most = permitted::most_partitions(card, limits);
     let mut sums = [0u64; SUMS];
     let mut fits = [false; BLOCK_LIMIT];
-    block_costs::add_up(card, histograms, n, &mut sums[..]);
+    let counts = PricedCounts { card, histograms };
+    counts.add_up(n, &mut sums[..]);
     permitted::mark(block, used, growers, n, &mut fits[..]);
-    searched(&sums[..], &fits[..], longest, most, n, ends)
+    let task = Task {
+        sums: Sums {
+            places: &sums[..],
+            blocks: n,
+        },
+        fits: &fits[..],
+        longest,
+    };
+    Planned::from(searched(task, most, ends))
 }
 
 // The cost of a given layout.
@@ -128,8 +135,13 @@ pub fn cost(
     }
     let blocks = sets::block_count(block, used) as usize;
     let mut sums = [0u64; SUMS];
-    block_costs::add_up(card, histograms, blocks, &mut sums[..]);
-    let m = layout_search::layout_number(&sums[..], ends);
+    let counts = PricedCounts { card, histograms };
+    counts.add_up(blocks, &mut sums[..]);
+    let given = Sums {
+        places: &sums[..],
+        blocks,
+    };
+    let m = given.layout_number(ends);
     let cost = layout_search::unbiased(m);
     Costed { refusal: 0, cost }
 }
