@@ -25,7 +25,7 @@ ghost use Rattle.ripple.specs.Held.{Keeps};
 ghost use Rattle.column.specs.Answers.{RefusedBy, IsSought, NotSought, IsLocated, IsOpen, part_of};
 ghost use Rattle.column.specs.Answers.{Ready, column_held, put_of, taken_of, shifted_of};
 
-use directory::Place;
+use slices::Place;
 use growers::{Downward, Upward, Way};
 use model::{
     Counts, DaySpan, Delivery, GrowerReport, LentSlices, MOST_DAY, PartitionPlace, PartitionSlice,

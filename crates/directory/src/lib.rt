@@ -18,16 +18,10 @@ ghost use Rattle.directory.specs.Numbers.{Numbered, HasPartition, blank, with_pa
 use model::{
     BLOCK, BLOCK_LIMIT, COUNT, DIRECTORY_SIZE, FENCES, LENGTHS, LentSlices, Records, Refusal,
 };
+use slices::Place;
 
-// What a directory that passes check 6 says: the slots that its partitions use, and of a grower his partition and where that starts.
-#[derive(Clone, Copy)]
-pub struct Place {
-    pub used: usize,
-    pub target: usize,
-    pub start: usize,
-}
-
-// The same of a directory and slices that pass checks 2, 3 and 6, and the records of the slices.
+// What a directory and slices that pass checks 2, 3 and 6 say: their records, the slots that the partitions use, and of a grower his
+// partition and where that starts.
 #[derive(Clone, Copy)]
 pub struct Shape<'a> {
     pub records: Records<'a>,
@@ -53,17 +47,13 @@ fn judged(directory: &[u32], c: usize, grower: u32) -> Result<Place, Refusal>
     if !slices::zeros(&directory[a..FENCES], &directory[f..DIRECTORY_SIZE]) {
         return Err(Refusal::Shape);
     }
-    let Some(s) = slices::surveyed(&directory[LENGTHS..a], &directory[FENCES..f], grower) else {
+    let Some(place) = slices::surveyed(&directory[LENGTHS..a], &directory[FENCES..f], grower) else {
         return Err(Refusal::Shape);
     };
-    if c < s.used {
+    if c < place.used {
         return Err(Refusal::Shape);
     }
-    Ok(Place {
-        used: s.used,
-        target: s.target,
-        start: s.start,
-    })
+    Ok(place)
 }
 
 // Check 2 of a directory's B; a slice of another length holds none.
