@@ -184,7 +184,7 @@ pub fn count(directory: &[u32]) -> usize
     directory[COUNT] as usize
 }
 
-// The partitions' lengths, and their fences.
+// The partitions' lengths, and their fences: one expression each, which a function of both would only move.
 pub fn lengths<'a>(directory: &'a [u32]) -> &'a [u32]
     requires { Numbered block_limit directory.now }
     ensures { result.now ≡ (directory_of block_limit directory.now).lengths }
@@ -231,7 +231,7 @@ pub fn onward(directory: &[u32], partition: usize) -> u64
     (count(directory) - partition) as u64
 }
 
-// One more record in a partition.
+// One more record in a partition. This and the next are two functions, since each is one line: a step that is handed in would be no plainer.
 pub fn grow(directory: &mut [u32], partition: usize)
     requires { HasPartition block_limit directory.old partition }
     ensures { directory.new
