@@ -1,20 +1,21 @@
 -- The terms of a block are small; their running sums, place by place, and that these are what the search asks of sums. Assumes nothing.
-use mathlib.Core.Path.{◌≡◌, refl, sym, ap, ◌∙◌, subst}
+use mathlib.Core.Path.{◌≡◌, refl, sym, ap, ap₂, ◌∙◌, subst}
 use mathlib.Core.Bool.{◌&&◌}
-use mathlib.Core.List.{List, [], ◌∷◌}
+use mathlib.Core.List.{List, [], ◌∷◌, ◌++◌}
 use Prim.Native.Nat.{ℕ, zero, suc, ◌+◌, ◌*◌, ◌^◌, ◌≤◌, ◌<◌}
 use native.Mathlib.Omega.{arith}
 use native.Mathlib.Nat.{mul-le-mul}
 use native.Mathlib.Decide.{ℕ_discrete}
 use native.Mathlib.Numerals.{add-one}
 use lib.Dec.{T, leb, eqb, leb→le}
-use lib.ListN.{length, get_or, set}
+use lib.ListN.{length, get_or, set, drop, replicate, length-set, length-append, length-drop, get_or-append}
 use lib.Seq.{get_or-set_same, get_or-set_other}
+use Rattle.std.proofs.lemmas.List.{get_or-replicate}
 use Rattle.model.specs.declared.PriceCard.{PriceCard}
 use Rattle.model.specs.Lists.{every}
 use Rattle.model.specs.Prices.{price_ok, prices_ok}
 use Rattle.model.specs.Histograms.{Histogram, pq, rs, re, sc, de, ins, udf, utf, udb, utb, at, count, slot, histograms_size, counts_ok}
-use Rattle.model.specs.Bounds.{most_count, most_price}
+use Rattle.model.specs.Bounds.{block_limit, most_count, most_price}
 use Rattle.model.proofs.Tests.{and_fst, and_snd, is_true}
 use Rattle.histograms.proofs.Counts.{counts_long}
 use Rattle.layout_search.specs.Sums.{sum}
@@ -23,7 +24,7 @@ use Rattle.layout_search.specs.RunningSums.{sums_per_place, fixed, per_block_bef
 use Rattle.layout_search.specs.RunningSums.{sum_at, part_of, Rising, Holds}
 use Rattle.layout_search.proofs.SumLaws.{sum_most}
 use Rattle.layout_search.proofs.PriceLaws.{small_product}
-use Rattle.block_costs.specs.Terms.{fixed_of, per_block_before_of, per_block_after_of, per_partition_added_of, per_partition_saved_of, term_of, running_sum, PricesPass, Counted, Cleared, Summed}
+use Rattle.block_costs.specs.Terms.{fixed_of, per_block_before_of, per_block_after_of, per_partition_added_of, per_partition_saved_of, term_of, running_sum, pick, PricesPass, Counted, Summed, Loaded}
 
 -- checks 1 and 9
 
@@ -117,9 +118,20 @@ module _ (L : ℕ) (c : PriceCard) (hs : List ℕ) (i : ℕ) (q : PricesPass c) 
   term_small (suc (suc (suc (suc (suc zero))))) g = omega (arith, added_small)
   term_small (suc (suc (suc (suc (suc (suc j)))))) g = omega (arith, saved_small)
 
--- the term of a sum by its number
-pub term_as : (L : ℕ) (c : PriceCard) (hs : List ℕ) (i q j : ℕ) → q ≡ j → term_of L c hs j i ≡ term_of L c hs q i
-term_as L c hs i q j e = ap (λ (r : ℕ). term_of L c hs r i) (sym e)
+-- a term times the block's number
+pub weighted_fits : (x i : ℕ) → x ≤ 2 ^ 33 → i < block_limit → x * i ≤ 2 ^ 33 * block_limit
+weighted_fits x i h g = mul-le-mul {n₂ = 2 ^ 33} {m₂ = block_limit} h (omega arith)
+
+-- the seven in a list
+pub picked : (a b c d e f g q : ℕ) → q < sums_per_place → get_or {A = ℕ} (a ∷ b ∷ c ∷ d ∷ e ∷ f ∷ g ∷ []) q 0 ≡ pick q a b c d e f g
+picked a b c d e f g zero h = refl
+picked a b c d e f g (suc zero) h = refl
+picked a b c d e f g (suc (suc zero)) h = refl
+picked a b c d e f g (suc (suc (suc zero))) h = refl
+picked a b c d e f g (suc (suc (suc (suc zero)))) h = refl
+picked a b c d e f g (suc (suc (suc (suc (suc zero))))) h = refl
+picked a b c d e f g (suc (suc (suc (suc (suc (suc zero)))))) h = refl
+picked a b c d e f g (suc (suc (suc (suc (suc (suc (suc q))))))) h = absurd (omega arith)
 
 module _ (L : ℕ) (c : PriceCard) (hs : List ℕ) where
   pub sum_first : (q : ℕ) → running_sum L c hs q 0 ≡ 0
@@ -136,9 +148,9 @@ module _ (L : ℕ) (c : PriceCard) (hs : List ℕ) where
 
   -- the sums, place by place
 
-  pub cleared_summed : (old sums : List ℕ) → Cleared sums_per_place old sums → Summed L c hs sums_per_place sums
+  pub first_summed : (sums : List ℕ) → ((x : ℕ) → x < sums_per_place → get_or sums x 0 ≡ 0) → Summed L c hs sums_per_place sums
   unfolding sum_at
-  cleared_summed old sums k = record { here = λ q j g h. let z : j ≡ 0 = omega arith in k.none (j * sums_per_place + q) h ∙ rw z (sym (sum_first q)) }
+  first_summed sums k = record { here = λ q j g h. let z : j ≡ 0 = omega arith in k (j * sums_per_place + q) h ∙ rw z (sym (sum_first q)) }
 
   pub summed_as : (x y : ℕ) (sums : List ℕ) → x ≡ y → Summed L c hs x sums → Summed L c hs y sums
   summed_as x y sums e s = subst (λ (v : ℕ). Summed L c hs v sums) e s
@@ -154,6 +166,32 @@ module _ (L : ℕ) (c : PriceCard) (hs : List ℕ) where
           let b : i ≡ j = omega arith in
           rw (z, a, b) (get_or-set_same sums y v 0 room ∙ f)
       go r i u w (no z) = get_or-set_other sums y (i * sums_per_place + r) v 0 z ∙ s.here r i u (omega arith)
+
+  -- the sums of a block's place, one by one: each is the one at the block before and its term
+  module _ (i q x : ℕ) (old sums : List ℕ) (s : Loaded L c hs ((i + 1) * sums_per_place + q) old sums) (g : q < sums_per_place) (e : x ≡ term_of L c hs q i) where
+    pub next_sum : get_or sums (i * sums_per_place + q) 0 + x ≡ running_sum L c hs q (i + 1)
+    unfolding sum_at
+    next_sum = ap₂ (λ (a b : ℕ). a + b) (s.summed.here q i g (omega arith)) e ∙ sym (sum_next q i)
+
+    pub next_fits : PricesPass c → Counted L hs → i < search_limit → get_or sums (i * sums_per_place + q) 0 + x ≤ 2 ^ 49
+    next_fits p k h = rw next_sum (sum_fits q (i + 1) p k (omega arith))
+
+    pub loaded_more : (i + 2) * sums_per_place ≤ length old
+        → Loaded L c hs ((i + 1) * sums_per_place + (q + 1)) old (set sums (i * sums_per_place + sums_per_place + q) (get_or sums (i * sums_per_place + q) 0 + x))
+    loaded_more room =
+        let y : i * sums_per_place + sums_per_place + q ≡ (i + 1) * sums_per_place + q = omega arith in
+        rw y
+        (record {
+          long = length-set sums _ _ ∙ s.long;
+          summed = summed_as _ _ _ (omega arith) (summed_more q (i + 1) _ _ sums s.summed g refl (omega (arith, s.long)) next_sum);
+        })
+
+  -- the sums of no block
+  pub first_loaded : (old zeros : List ℕ) (n : ℕ) → zeros ≡ replicate n 0 → n ≡ sums_per_place → sums_per_place ≤ length old → Loaded L c hs sums_per_place old (zeros ++ drop sums_per_place old)
+  first_loaded old zeros n e f h = rw (e, f) (record {
+    long = length-append (replicate sums_per_place 0) (drop sums_per_place old) ∙ omega (arith, length-drop sums_per_place old);
+    summed = first_summed _ (λ x g. get_or-append (replicate sums_per_place 0) (drop sums_per_place old) 0 x g ∙ get_or-replicate sums_per_place x 0 0 g);
+  })
 
   -- what was added up
   module _ (n : ℕ) (sums : List ℕ) (s : Summed L c hs ((n + 1) * sums_per_place) sums) where

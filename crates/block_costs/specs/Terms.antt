@@ -66,11 +66,6 @@ pub record Counted (L : ℕ) (hs : List ℕ) : Type 0 where
   pub long : length hs ≡ histograms_size L
   pub each : (x : ℕ) → get_or hs x 0 ≤ most_count
 
--- the first y are 0
-pub record Cleared (y : ℕ) (old sums : List ℕ) : Type 0 where
-  pub long : length sums ≡ length old
-  pub none : (x : ℕ) → x < y → get_or sums x 0 ≡ 0
-
 -- the first y of the running sums are in place
 pub record Summed (L : ℕ) (c : PriceCard) (hs : List ℕ) (y : ℕ) (sums : List ℕ) : Type 0 where
   pub here : (q j : ℕ) → q < sums_per_place → j * sums_per_place + q < y → sum_at sums q j ≡ running_sum L c hs q j

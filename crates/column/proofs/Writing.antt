@@ -30,7 +30,7 @@ use Rattle.model.specs.ColumnCalls.{Called, column_refusal, column_after, column
 use Rattle.model.proofs.DirectoryLaws.{Shaped, Kept, with_lengths_lem, shaped, shaped_passes, shaped_with, length_lengths}
 use Rattle.model.proofs.AccessLaws.{reads_small}
 use Rattle.model.proofs.MovesLengths.{sum-one_fewer}
-use Rattle.directory.specs.declared.Place.{Place}
+use Rattle.slices.specs.declared.Place.{Place}
 use Rattle.directory.specs.Numbers.{HasPartition}
 use Rattle.directory.proofs.LentColumns.{lent_column, has_partition, count_lengths}
 use Rattle.column.specs.declared.Located.{Located}

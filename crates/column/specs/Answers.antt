@@ -14,7 +14,7 @@ use Rattle.model.specs.Directory.{directory_of}
 use Rattle.model.specs.Column.{Column, lengths_of, target}
 use Rattle.model.specs.Accesses.{no_counts, blocks_of, reads_of, scan_near}
 use Rattle.model.specs.ColumnCalls.{column_refusal, refused_counts, slot_of, freed, move_slices}
-use Rattle.directory.specs.declared.Place.{Place}
+use Rattle.slices.specs.declared.Place.{Place}
 use Rattle.directory.specs.Numbers.{HasPartition}
 use Rattle.ripple.specs.declared.records.RecordsMut.{RecordsMut}
 use Rattle.ripple.specs.Held.{slices_held}

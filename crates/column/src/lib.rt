@@ -25,13 +25,13 @@ ghost use Rattle.ripple.specs.Held.{Keeps};
 ghost use Rattle.column.specs.Answers.{RefusedBy, IsSought, NotSought, IsLocated, IsOpen, part_of};
 ghost use Rattle.column.specs.Answers.{Ready, column_held, put_of, taken_of, shifted_of};
 
-use directory::Place;
 use growers::{Downward, Upward, Way};
 use model::{
     Counts, DaySpan, Delivery, GrowerReport, LentSlices, MOST_DAY, PartitionPlace, PartitionSlice,
     Records, Refusal, Refused, Report, Totals,
 };
 use ripple::RecordsMut;
+use slices::Place;
 
 // hi's partition, the last that a read scans. A find's is the one that its checks found.
 fn last_scanned(directory: &[u32], from: usize, lo: u32, hi: u32) -> usize

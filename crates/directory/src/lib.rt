@@ -18,16 +18,10 @@ ghost use Rattle.directory.specs.Numbers.{Numbered, HasPartition, blank, with_pa
 use model::{
     BLOCK, BLOCK_LIMIT, COUNT, DIRECTORY_SIZE, FENCES, LENGTHS, LentSlices, Records, Refusal,
 };
+use slices::Place;
 
-// What a directory that passes check 6 says: the slots that its partitions use, and of a grower his partition and where that starts.
-#[derive(Clone, Copy)]
-pub struct Place {
-    pub used: usize,
-    pub target: usize,
-    pub start: usize,
-}
-
-// The same of a directory and slices that pass checks 2, 3 and 6, and the records of the slices.
+// What a directory and slices that pass checks 2, 3 and 6 say: their records, the slots that the partitions use, and of a grower his
+// partition and where that starts.
 #[derive(Clone, Copy)]
 pub struct Shape<'a> {
     pub records: Records<'a>,
@@ -53,17 +47,13 @@ fn judged(directory: &[u32], c: usize, grower: u32) -> Result<Place, Refusal>
     if !slices::zeros(&directory[a..FENCES], &directory[f..DIRECTORY_SIZE]) {
         return Err(Refusal::Shape);
     }
-    let Some(s) = slices::surveyed(&directory[LENGTHS..a], &directory[FENCES..f], grower) else {
+    let Some(place) = slices::surveyed(&directory[LENGTHS..a], &directory[FENCES..f], grower) else {
         return Err(Refusal::Shape);
     };
-    if c < s.used {
+    if c < place.used {
         return Err(Refusal::Shape);
     }
-    Ok(Place {
-        used: s.used,
-        target: s.target,
-        start: s.start,
-    })
+    Ok(place)
 }
 
 // Check 2 of a directory's B; a slice of another length holds none.
@@ -194,7 +184,7 @@ pub fn count(directory: &[u32]) -> usize
     directory[COUNT] as usize
 }
 
-// The partitions' lengths, and their fences.
+// The partitions' lengths, and their fences: one expression each, which a function of both would only move.
 pub fn lengths<'a>(directory: &'a [u32]) -> &'a [u32]
     requires { Numbered block_limit directory.now }
     ensures { result.now ≡ (directory_of block_limit directory.now).lengths }
@@ -241,7 +231,7 @@ pub fn onward(directory: &[u32], partition: usize) -> u64
     (count(directory) - partition) as u64
 }
 
-// One more record in a partition.
+// One more record in a partition. This and the next are two functions, since each is one line: a step that is handed in would be no plainer.
 pub fn grow(directory: &mut [u32], partition: usize)
     requires { HasPartition block_limit directory.old partition }
     ensures { directory.new

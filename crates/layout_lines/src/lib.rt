@@ -5,12 +5,11 @@
 ghost use Rattle.std.specs.Prelude.{◌≡◌, ◌&&◌, ◌+◌, ◌-◌, ◌*◌, ◌^◌, ◌≤◌, ◌<◌, [], ◌∷◌, ◌++◌, length, take, leb, ltb};
 ghost use Rattle.model.specs.Fields.{number_field, signed_field, line_end};
 ghost use Rattle.std.proofs.Math.IntN.{sub_ℕ};
-ghost use Rattle.layout_search.specs.RunningSums.{Holds};
 ghost use Rattle.fields.specs.Writing.{Wrote, placed};
 ghost use Rattle.layout_lines.specs.Rests.{ok_by, rests, LinesSize, lines_after, Choosing, Carrying, Chose, PutLines};
 
 use fields::{SIGNED_WIDTH, WIDTH};
-use layout_search::BASE;
+use layout_search::{BASE, Sums};
 use model::MOST_LISTED_BLOCKS;
 
 // Where the ends of a line begin, behind K and the cost.
@@ -107,19 +106,18 @@ fn put_line(text: &mut [u8], at: usize, k: usize, number: u64, row: &[u8]) -> us
 }
 
 // Block i is the end of the partition that begins at block a, with k ends before it: its field goes behind theirs, and the number is that with its part.
-fn choose(sums: &[u64], a: usize, i: usize, k: usize, number: u64, row: &mut [u8]) -> u64
-    requires holds { Holds sums.now (i + 1) }
-    requires a_le_i { (a ≤ i) × (i < 12) × (k < 12) × Carrying k number row.old }
-    ensures { Chose sums.now a i k number row.old result row.new }
+fn choose(sums: Sums, a: usize, i: usize, k: usize, number: u64, row: &mut [u8]) -> u64
+    requires { (a ≤ i) × (i < sums.blocks) × (i < 12) × (k < 12) × Carrying k number row.old }
+    ensures { Chose sums.entry.places.now a i k number row.old result row.new }
 {
     fields::put_number(row, WIDTH * k, i as u32);
-    number + layout_search::end_price(sums, a, i) - BASE
+    number + sums.end_price(a, i) - BASE
 }
 
 // The lines of the layouts that k chosen ends can go on to, at a byte of the text: the next partition begins at block a, its end is i or later. The fields
 // of the chosen ends are in front of the row, `number` is BASE and their part of the cost. Where the text goes on.
 fn put_rest(
-    sums: &[u64],
+    sums: Sums,
     fits: &[bool],
     rules: Rules,
     k: usize,
@@ -130,11 +128,11 @@ fn put_rest(
     text: &mut [u8],
     at: usize,
 ) -> usize
-    requires holds { Holds sums.now rules.blocks }
+    requires blocks { rules.blocks ≤ sums.blocks }
     requires choosing { Choosing rules.blocks k a i fits.now × Carrying k number row.old }
-    requires i_in_bounds { at + length (lines_after sums.now k a number (take (11 * k) row.old)
+    requires i_in_bounds { at + length (lines_after sums.places.now k a number (take (11 * k) row.old)
         (rests (ok_by fits.now rules.longest) rules.most rules.blocks k a i)) ≤ length text.old }
-    ensures { PutLines sums.now k a number (rests (ok_by fits.now rules.longest) rules.most rules.blocks k a i)
+    ensures { PutLines sums.entry.places.now k a number (rests (ok_by fits.now rules.longest) rules.most rules.blocks k a i)
         row.old text.old at row.new text.new result }
 {
     if !goes_on(rules, k, a, i) {
@@ -155,12 +153,12 @@ fn put_rest(
 }
 
 // The lines of every layout, from the start of a text on.
-pub fn put_all(sums: &[u64], fits: &[bool], rules: Rules, text: &mut [u8])
-    requires holds { Holds sums.now rules.blocks }
+pub fn put_all(sums: Sums, fits: &[bool], rules: Rules, text: &mut [u8])
+    requires blocks { rules.blocks ≤ sums.blocks }
     requires choosing { Choosing rules.blocks 0 0 0 fits.now }
-    requires blocks_in_bounds { length (lines_after sums.now 0 0 (2 ^ 60) [] (rests (ok_by fits.now rules.longest) rules.most rules.blocks 0 0 0))
+    requires blocks_in_bounds { length (lines_after sums.places.now 0 0 (2 ^ 60) [] (rests (ok_by fits.now rules.longest) rules.most rules.blocks 0 0 0))
         ≤ length text.old }
-    ensures { text.new ≡ placed 0 (lines_after sums.now 0 0 (2 ^ 60) []
+    ensures { text.new ≡ placed 0 (lines_after sums.entry.places.now 0 0 (2 ^ 60) []
         (rests (ok_by fits.now rules.longest) rules.most rules.blocks 0 0 0)) text.old }
 {
     let mut row = [0u8; ROW];

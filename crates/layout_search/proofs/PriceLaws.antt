@@ -9,8 +9,19 @@ use borrow.Author.Tests.{lt-leb, le-leb}
 use Rattle.layout_search.specs.Sums.{sum, upto, span}
 use Rattle.layout_search.specs.Task.{search_limit}
 use Rattle.layout_search.specs.RunningSums.{sums_per_place, fixed, per_block_before, weighted_before, per_block_after, weighted_after, per_partition_added, per_partition_saved}
-use Rattle.layout_search.specs.RunningSums.{sum_at, part_of, sum_over, adds_of, takes_of, Rising, Holds, partition_ok, LocalPrice, Priced}
+use Rattle.layout_search.specs.declared.Sum.{Sum}
+use Rattle.layout_search.specs.declared.Sum.TheVariants.{Fixed, PerBlockBefore, WeightedBefore, PerBlockAfter, WeightedAfter, PerPartitionAdded, PerPartitionSaved}
+use Rattle.layout_search.specs.RunningSums.{sum_number, sum_at, part_of, sum_over, adds_of, takes_of, Rising, Holds, partition_ok, LocalPrice, Priced}
 use Rattle.layout_search.proofs.SumLaws.{sum_cong, sum-add, sum_times, sum_most}
+
+pub number_below : (s : Sum) → sum_number s < sums_per_place
+number_below Fixed = omega arith
+number_below PerBlockBefore = omega arith
+number_below WeightedBefore = omega arith
+number_below PerBlockAfter = omega arith
+number_below WeightedAfter = omega arith
+number_below PerPartitionAdded = omega arith
+number_below PerPartitionSaved = omega arith
 
 -- the sums of fewer blocks
 rising_less : (sums : List ℕ) (n m : ℕ) → Rising sums n → m ≤ n → Rising sums m

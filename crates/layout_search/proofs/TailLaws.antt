@@ -1,17 +1,17 @@
 -- A row of the table by local prices and tails: the least of their sums, with the sums of partitions at the first block taken off again, is the row's number. Assumes nothing.
 use Prim.Native.Nat.{ℕ, ◌+◌, ◌-◌, ◌*◌, ◌^◌, ◌≤◌, ◌<◌, min}
-use mathlib.Core.Path.{◌≡◌, refl, sym, ◌∙◌, subst}
+use mathlib.Core.Path.{◌≡◌, refl, sym, ap, ap₂, ◌∙◌, subst}
 use mathlib.Core.Bool.{Bool, true, false, cond}
 use mathlib.Core.List.{List, [], ◌∷◌}
 use native.Mathlib.Omega.{arith}
 use native.Mathlib.Nat.{mul-le-mul, add-mul}
 use native.Mathlib.Decide.{ℕ_discrete}
 use lib.Dec.{T, leb, leb→le}
-use lib.ListN.{length, get_or, set, length-set}
-use lib.Seq.{get_or-set_same, get_or-set_other}
+use lib.ListN.{length, get_or, set, take, drop, length-set, length-drop}
+use lib.Seq.{get_or-set_same, get_or-set_other, get_or-take, get_or-drop, length-take-le}
 use Rattle.layout_search.specs.Task.{search_limit, Task, Layout}
 use Rattle.layout_search.specs.RunningSums.{sums_per_place, per_partition_added, per_partition_saved, sum_at, sum_over, Holds, LocalPrice, task_of}
-use Rattle.layout_search.specs.Table.{Low, Hit, Near, Best, Cand, Kept, LocalRow, LocalPrices, Tail, no_tail, some_tail, Tails, Small, LeastOf}
+use Rattle.layout_search.specs.Table.{Low, Hit, Near, Best, Cand, Kept, LocalRow, LocalPrices, Tail, no_tail, some_tail, Tails, Small, offered_at, LeastOf}
 use Rattle.layout_search.proofs.BestLaws.{layout_count, cand_low, cand_hit, cand_near, no_true}
 use Rattle.layout_search.proofs.PriceLaws.{product_grows, rises, sum_times_small, span_most, saved_most, ok_yes}
 use Rattle.layout_search.proofs.RowLaws.{stored_each, row-place, rows_below}
@@ -75,7 +75,7 @@ tails_more sums t fits k e v row s g p = record { room = rw (length-set row e v)
 
 -- where a first partition may end: k partitions behind it need k blocks, and it is not too long
 pub reach : (sums : List ℕ) (fits : List Bool) (longest n k a d : ℕ) (ds : List ℕ) → Layout (task_of sums fits longest n) a (d ∷ ds) → length ds ≡ k
-    → d < min (n - k) (a + min longest n)
+    → d < a + min (n - k - a) longest
 reach sums fits longest n k a d ds l p =
     let c = layout_count (task_of sums fits longest n) (d + 1) ds l.3 in
     let o = leb→le (d + 1 - a) longest (fits_of (leb (d + 1 - a) longest) (get_or fits d false) l.2).0 in
@@ -94,7 +94,7 @@ module _ (sums : List ℕ) (fits : List Bool) (longest n k a : ℕ) (table row :
   joined_at e = get_or row e 0 + get_or table (n * n + a * n + e) 0
 
   abbrev limit : ℕ
-  limit = min (n - k) (a + min longest n)
+  limit = a + min (n - k - a) longest
 
   -- the sums of partitions at block j, k + 1 times
   abbrev added : ℕ → ℕ
@@ -123,11 +123,37 @@ module _ (sums : List ℕ) (fits : List Bool) (longest n k a : ℕ) (table row :
   tail_small e g (no_tail q f) = omega (arith, q)
   tail_small e g (some_tail y q b s w) = omega (arith, some_small e (get_or row e 0) y g b s w)
 
-  pub all_small : Small row table (n * n + a * n) a limit
-  all_small = record {
-    tail = λ d u v. tail_small d (omega arith) (tails.here d (omega arith));
-    price = λ d u v. omega (arith, (prices a d ha u (omega arith)).high);
+  -- the tails and the local prices of the ends that block a may have
+  abbrev pub tails_from : List ℕ
+  tails_from = take (limit - a) (drop a row)
+
+  abbrev pub prices_from : List ℕ
+  prices_from = take (n * n + a * n + limit - (n * n + a * n + a)) (drop (n * n + a * n + a) table)
+
+  tails_long : length tails_from ≡ limit - a
+  tails_long = length-take-le (limit - a) (drop a row) (omega (arith, length-drop a row, tails.room))
+
+  tail_from : (d : ℕ) → d < limit - a → get_or tails_from d 0 ≡ get_or row (a + d) 0
+  tail_from d g = rw (get_or-take (limit - a) (drop a row) d 0 g) (get_or-drop a row d 0)
+
+  price_from : (d : ℕ) → d < limit - a → get_or prices_from d 0 ≡ get_or table (n * n + a * n + (a + d)) 0
+  price_from d g =
+      let x : d < n * n + a * n + limit - (n * n + a * n + a) = omega arith in
+      let y : n * n + a * n + a + d ≡ n * n + a * n + (a + d) = omega arith in
+      rw (get_or-take _ (drop (n * n + a * n + a) table) d 0 x, get_or-drop (n * n + a * n + a) table d 0) (ap (λ (v : ℕ). get_or table v 0) y)
+
+  pub all_small : 2 * (n * n) ≤ length table → Small tails_from prices_from
+  all_small room = record {
+    even = long ∙ sym tails_long;
+    few = omega (arith, h.few, tails_long);
+    tail = λ d u. let g : d < limit - a = omega (arith, tails_long) in rw (tail_from d g) (tail_small (a + d) (omega arith) (tails.here (a + d) (omega arith)));
+    price = λ d u. let g : d < limit - a = omega (arith, tails_long) in rw (price_from d g) (omega (arith, (prices a (a + d) ha (omega arith) (omega arith)).high));
   }
+    where
+      long : length prices_from ≡ limit - a
+      long =
+          let x : n * n + a * n + limit - (n * n + a * n + a) ≡ limit - a = omega arith in
+          length-take-le _ (drop (n * n + a * n + a) table) (omega (arith, length-drop (n * n + a * n + a) table, local_place n a ha h.few)) ∙ x
 
   -- a tail and a local price are a candidate's number
   cand : (e y x : ℕ) → a ≤ e → e < limit → get_or fits e false ≡ true → Best t (e + 1) k y → y < 2 ^ 62 → x + saved (e + 1) ≡ y + added (e + 1)
@@ -153,14 +179,31 @@ module _ (sums : List ℕ) (fits : List Bool) (longest n k a : ℕ) (table row :
           → p + dm ≡ 2 ^ 60 + up → down ≡ dl → 2 ^ 60 ≤ p + 2 ^ 58 → x + l1 ≡ y + m1 → n ≤ search_limit → x + p + l0 - m0 - 2 ^ 60 + down ≡ y + up
       number m0 m1 dm l0 l1 dl y x p up down a b c d e f g i j k = omega arith
 
-  module _ (m : ℕ) (l : LeastOf joined_at a limit m) where
+  module _ (m : ℕ) (o : LeastOf (offered_at tails_from prices_from) (length tails_from) m) where
+    -- the least by ends
+    offered : (d : ℕ) → d < limit - a → offered_at tails_from prices_from d ≡ joined_at (a + d)
+    offered d g = ap₂ (λ (x y : ℕ). x + y) (tail_from d g) (price_from d g)
+
+    least_low : (d : ℕ) → a ≤ d → d < limit → m ≤ joined_at d
+    least_low d u g =
+        let x : a + (d - a) ≡ d = omega arith in
+        let y = offered (d - a) (omega arith) in
+        let z : m ≤ joined_at (a + (d - a)) = omega (arith, y, o.low (d - a) (omega (arith, tails_long))) in
+        rw x at z
+
+    least-hit : m < 2 ^ 62 → (d : ℕ) × (a ≤ d) × (d < limit) × (m ≡ joined_at d)
+    least-hit u =
+        let r = o.hit u in
+        let g : r.0 < limit - a = omega (arith, r.1, tails_long) in
+        (a + r.0, omega arith, omega arith, r.2 ∙ offered r.0 g)
+
     low_at : (d : ℕ) (ds : List ℕ) → Layout t a (d ∷ ds) → length ds ≡ k → TailAt d → (m < 2 ^ 62) × Low t a (back m) (d ∷ ds)
     low_at d ds o p (no_tail q f) = absurd (f a ds o p)
     low_at d ds o p (some_tail y q b s w) =
         let g = reach sums fits longest n k a d ds o p in
         let u = prices a d ha o.0 o.1 in
         let c = cand_low t a k d y _ (cand d y (get_or row d 0) o.0 g q b s w _ u) ds o p in
-        let x = l.low d o.0 g in
+        let x = least_low d o.0 g in
         let r = some_small d (get_or row d 0) y o.1 b s w in
         (omega (arith, r, u.high, x), (omega (arith, r, u.high, x, saved_small a (omega arith)), omega (arith, x, c.1)))
 
@@ -175,7 +218,7 @@ module _ (sums : List ℕ) (fits : List Bool) (longest n k a : ℕ) (table row :
         rw q (cand_hit t a k d y _ c, cand_near t a k d y _ c)
 
     hit_all : m < 2 ^ 62 → Hit t a (k + 1) (back m) × Near t a (back m)
-    hit_all u = let r = l.hit u in hit_at u r.0 r.1 r.2 r.3 (tails.here r.0 (omega (arith, r.2)))
+    hit_all u = let r = least-hit u in hit_at u r.0 r.1 r.2 r.3 (tails.here r.0 (omega (arith, r.2)))
 
     pub best_some : m < 2 ^ 62 → Best t a (k + 1) (back m)
     best_some u = record { low = λ es o p. (low_all es o p).1; hit = λ v. (hit_all u).0; near = λ v. (hit_all u).1 }
@@ -185,7 +228,7 @@ module _ (sums : List ℕ) (fits : List Bool) (longest n k a : ℕ) (table row :
 
     -- the number does not go below 0
     pub back_fits : m < 2 ^ 62 → added a + 2 ^ 60 ≤ m + saved a
-    back_fits u = let r = l.hit u in go r.0 r.1 r.2 r.3 (tails.here r.0 (omega (arith, r.2)))
+    back_fits u = let r = least-hit u in go r.0 r.1 r.2 r.3 (tails.here r.0 (omega (arith, r.2)))
       where
         go : (d : ℕ) → a ≤ d → d < limit → m ≡ joined_at d → TailAt d → added a + 2 ^ 60 ≤ m + saved a
         go d g v q (no_tail z f) = absurd (omega arith)

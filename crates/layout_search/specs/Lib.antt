@@ -4,3 +4,4 @@ pub mod Task
 pub mod RunningSums
 pub mod Table
 pub mod Answer
+pub mod Given

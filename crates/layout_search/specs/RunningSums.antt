@@ -1,8 +1,10 @@
 -- Running sums over the blocks (02, Slip 5), and what a partition costs by them. Seven sums stand at each place j, each over the blocks before block j,
 -- so what some blocks add to a sum is the difference of two places.
 use Rattle.std.specs.Prelude.{ℕ, ◌+◌, ◌-◌, ◌*◌, ◌^◌, ◌≤◌, ◌<◌, ◌≡◌, Bool, false, cond, List, [], ◌∷◌, leb, length, get_or}
+use Rattle.layout_search.specs.declared.Sum.{Sum}
+use Rattle.layout_search.specs.declared.Sum.TheVariants.{Fixed, PerBlockBefore, WeightedBefore, PerBlockAfter, WeightedAfter, PerPartitionAdded, PerPartitionSaved}
 use Rattle.layout_search.specs.Sums.{span, spans}
-use Rattle.layout_search.specs.Task.{search_limit, Task, Covers}
+use Rattle.layout_search.specs.Task.{search_limit, Task}
 
 -- so many sums to a place
 abbrev pub sums_per_place : ℕ
@@ -32,6 +34,16 @@ per_partition_added = 5
 
 abbrev pub per_partition_saved : ℕ
 per_partition_saved = 6
+
+-- a sum's number
+abbrev pub sum_number : Sum → ℕ
+sum_number Fixed = fixed
+sum_number PerBlockBefore = per_block_before
+sum_number WeightedBefore = weighted_before
+sum_number PerBlockAfter = per_block_after
+sum_number WeightedAfter = weighted_after
+sum_number PerPartitionAdded = per_partition_added
+sum_number PerPartitionSaved = per_partition_saved
 
 -- sum q at place j
 unfoldable pub sum_at : List ℕ → ℕ → ℕ → ℕ
@@ -118,12 +130,6 @@ pub record EndPriced (sums : List ℕ) (a e r : ℕ) : Type 0 where
   pub is : r + end_down sums e ≡ 2 ^ 60 + end_up sums a e
   pub high : r ≤ 2 ^ 60 + 2 ^ 52
   pub low : 2 ^ 60 ≤ r + 2 ^ 52
-
--- the ends lay out n blocks whose sums these are
-pub record Laid (sums ends : List ℕ) : Type 0 where
-  pub n : ℕ
-  pub holds : Holds sums n
-  pub covers : Covers n 0 ends
 
 -- r is 2 ^ 60 and the cost of the layout by its ends
 pub record Numbered (sums ends : List ℕ) (r : ℕ) : Type 0 where

@@ -1,9 +1,17 @@
 -- The table of the search: for each first block a and each count k, the least number of the layouts of the blocks a to n - 1 in k partitions.
 -- A number is 2 ^ 60 and a cost; 2 ^ 62 stands for no layout.
-use Rattle.std.specs.Prelude.{ℕ, ◌+◌, ◌-◌, ◌*◌, ◌^◌, ◌≤◌, ◌<◌, ◌≡◌, Bool, true, cond, List, [], ◌∷◌, eqb, length, get_or, take, drop}
+use Rattle.std.specs.Prelude.{ℕ, ◌+◌, ◌-◌, ◌*◌, ◌^◌, ◌≤◌, ◌<◌, ◌≡◌, Bool, true, cond, List, [], ◌∷◌, eqb, length, get_or, take, drop, Option, unwrap_or, MatchOption}
 use Rattle.layout_search.specs.Sums.{span}
 use Rattle.layout_search.specs.Task.{search_limit, Task, Layout, adds, takes}
 use Rattle.layout_search.specs.RunningSums.{per_partition_added, per_partition_saved, sum_at, LocalPrice}
+
+-- what is stored for a number, and for no layout
+abbrev pub stored : Option ℕ → ℕ
+stored r = unwrap_or r (2 ^ 62)
+
+-- r is what is read where v is stored
+abbrev pub Read : ℕ → Option ℕ → Type 0
+Read v r = MatchOption r (2 ^ 62 ≤ v) (λ m. (m < 2 ^ 62) × (m ≡ v))
 
 -- m is not above the number of es
 abbrev pub Low : Task → ℕ → ℕ → List ℕ → Type 0
@@ -103,16 +111,21 @@ pub record Tails (sums : List ℕ) (t : Task) (fits : ℕ → Bool) (k e : ℕ) 
   pub room : t.n ≤ length row
   pub here : (d : ℕ) → d < e → Tail sums t fits k d (get_or row d 0)
 
--- tails and local prices from s to before e that can be added
-pub record Small (row table : List ℕ) (at s e : ℕ) : Type 0 where
-  pub tail : (d : ℕ) → s ≤ d → d < e → get_or row d 0 ≤ 2 ^ 62
-  pub price : (d : ℕ) → s ≤ d → d < e → get_or table (at + d) 0 ≤ 2 ^ 61
+-- tails and local prices that can be added, end by end
+pub record Small (tails prices : List ℕ) : Type 0 where
+  pub even : length prices ≡ length tails
+  pub few : length tails ≤ search_limit
+  pub tail : (d : ℕ) → d < length tails → get_or tails d 0 ≤ 2 ^ 62
+  pub price : (d : ℕ) → d < length tails → get_or prices d 0 ≤ 2 ^ 61
 
--- m is the least of 2 ^ 62 and f s to f (e - 1)
-pub record LeastOf (f : ℕ → ℕ) (s e m : ℕ) : Type 0 where
+abbrev pub offered_at : List ℕ → List ℕ → ℕ → ℕ
+offered_at tails prices d = get_or tails d 0 + get_or prices d 0
+
+-- m is the least of 2 ^ 62 and f 0 to f (e - 1)
+pub record LeastOf (f : ℕ → ℕ) (e m : ℕ) : Type 0 where
   pub top : m ≤ 2 ^ 62
-  pub low : (d : ℕ) → s ≤ d → d < e → m ≤ f d
-  pub hit : m < 2 ^ 62 → (d : ℕ) × (s ≤ d) × (d < e) × (m ≡ f d)
+  pub low : (d : ℕ) → d < e → m ≤ f d
+  pub hit : m < 2 ^ 62 → (d : ℕ) × (d < e) × (m ≡ f d)
 
 -- m is the least number of the counts before j, and b the first count that has it
 pub record Lowest (val : ℕ → ℕ) (j b m : ℕ) : Type 0 where

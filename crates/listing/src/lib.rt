@@ -9,8 +9,9 @@ ghost use Rattle.model.specs.ListingCalls.{list_call};
 ghost use Rattle.block_costs.specs.Terms.{PricesPass};
 ghost use Rattle.listing.specs.Answers.{rules_of};
 
+use block_costs::PricedCounts;
 use layout_lines::Rules;
-use layout_search::SUMS_PER_PLACE;
+use layout_search::{SUMS_PER_PLACE, Sums};
 use model::{LentSet, Limits, Listing, MOST_LISTED_BLOCKS, PriceCard, Refusal};
 
 // The running sums of all blocks.
@@ -58,8 +59,13 @@ pub fn list_layouts(
         return Err(Refusal::Room);
     }
     let mut sums = [0u64; SUMS];
-    block_costs::add_up(card, histograms, n, &mut sums[..]);
-    layout_lines::put_all(&sums[..], &fits[..], rules, text);
+    let counts = PricedCounts { card, histograms };
+    counts.add_up(n, &mut sums[..]);
+    let given = Sums {
+        places: &sums[..],
+        blocks: n,
+    };
+    layout_lines::put_all(given, &fits[..], rules, text);
     Ok(Listing {
         layouts: s.layouts,
         bytes: s.bytes as u64,

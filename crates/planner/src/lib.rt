@@ -1,7 +1,7 @@
 // The cost of a given layout and the search for the cheapest permitted one (01: the bill; permitted layouts).
 #![tactic(auto)]
 
-ghost use Rattle.std.specs.Prelude.{◌≡◌, ◌≤◌, ◌<◌, length, IfOk};
+ghost use Rattle.std.specs.Prelude.{◌≡◌, ◌≤◌, ◌<◌, IfOk};
 ghost use Rattle.model.specs.Checks.{first_failed};
 ghost use Rattle.model.specs.Questions.{cost_checks};
 ghost use Rattle.model.specs.Planner.{cost_call, plan_call};
@@ -10,10 +10,11 @@ ghost use Rattle.model.specs.Lent.{set_given};
 ghost use Rattle.model.specs.Refusals.{number_of};
 ghost use Rattle.model.specs.Answers.{costed_of, planned_of};
 ghost use Rattle.sets.specs.Checked.{checked_set};
-ghost use Rattle.layout_search.specs.RunningSums.{Holds, task_of};
+ghost use Rattle.layout_search.specs.Given.{task_given};
 ghost use Rattle.layout_search.specs.Answer.{Answered};
 
-use layout_search::SUMS_PER_PLACE;
+use block_costs::PricedCounts;
+use layout_search::{SUMS_PER_PLACE, Sums, Task};
 use model::{BLOCK_LIMIT, LentSet, Limits, Plan, PriceCard, Refusal};
 use sets::CheckedSet;
 
@@ -48,24 +49,16 @@ fn check_cost<'a>(
 }
 
 // The search with a table of its own: with few blocks a small one, since a table is cleared first.
-fn searched(
-    sums: &[u64],
-    fits: &[bool],
-    longest: usize,
-    most: usize,
-    n: usize,
-    ends: &mut [u32],
-) -> Result<Plan, Refusal>
-    requires holds { Holds sums.now n }
-    requires n_nonzero { (0 < n) × (n ≤ block_limit) × (n ≤ length fits.now) }
-    ensures { Answered (task_of sums.now fits.now longest n) most ends.old ends.new (planned_of result) }
+fn searched(task: Task, most: usize, ends: &mut [u32]) -> Result<Plan, Refusal>
+    requires { (0 < task.sums.blocks) × (task.sums.blocks ≤ block_limit) }
+    ensures { Answered (task_given task.entry) most ends.old ends.new (planned_of result) }
 {
-    if n <= FEW_BLOCKS {
+    if task.sums.blocks <= FEW_BLOCKS {
         let mut small = [0u64; SMALL_TABLE];
-        return layout_search::cheapest(sums, fits, longest, most, n, &mut small[..], ends);
+        return task.cheapest(most, &mut small[..], ends);
     }
     let mut table = [0u64; TABLE];
-    layout_search::cheapest(sums, fits, longest, most, n, &mut table[..], ends)
+    task.cheapest(most, &mut table[..], ends)
 }
 
 // The cheapest permitted layout: its ends go to the front of `ends`, and what lies past them stays.
@@ -85,9 +78,18 @@ pub fn plan(
     let most = permitted::most_partitions(card, limits);
     let mut sums = [0u64; SUMS];
     let mut fits = [false; BLOCK_LIMIT];
-    block_costs::add_up(card, histograms, n, &mut sums[..]);
+    let counts = PricedCounts { card, histograms };
+    counts.add_up(n, &mut sums[..]);
     permitted::mark(checked, &mut fits[..]);
-    searched(&sums[..], &fits[..], longest, most, n, ends)
+    let task = Task {
+        sums: Sums {
+            places: &sums[..],
+            blocks: n,
+        },
+        fits: &fits[..],
+        longest,
+    };
+    searched(task, most, ends)
 }
 
 // The cost of a given layout.
@@ -97,7 +99,12 @@ pub fn cost(card: PriceCard, set: LentSet, ends: &[u32], histograms: &[u32]) -> 
     let checked = check_cost(card, set, ends, histograms)?;
     let blocks = checked.block_count() as usize;
     let mut sums = [0u64; SUMS];
-    block_costs::add_up(card, histograms, blocks, &mut sums[..]);
-    let m = layout_search::layout_number(&sums[..], ends);
+    let counts = PricedCounts { card, histograms };
+    counts.add_up(blocks, &mut sums[..]);
+    let given = Sums {
+        places: &sums[..],
+        blocks,
+    };
+    let m = given.layout_number(ends);
     Ok(layout_search::unbiased(m))
 }

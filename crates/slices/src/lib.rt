@@ -98,14 +98,14 @@ pub fn place_of(keys: &[u32], g: u32) -> usize
 
 // What one pass over the lengths and fences of partitions finds: how many slots are used, a grower's partition and where that starts.
 #[derive(Clone, Copy)]
-pub struct Survey {
+pub struct Place {
     pub used: usize,
     pub target: usize,
     pub start: usize,
 }
 
 // Nothing where the fences don't rise. Each sum has its own test, so that the pass is vectorised.
-pub fn surveyed(lens: &[u32], fences: &[u32], g: u32) -> Option<Survey>
+pub fn surveyed(lens: &[u32], fences: &[u32], g: u32) -> Option<Place>
     requires { (1 ≤ length lens.now) × (length lens.now ≤ block_limit) × (length fences.now ≡ length lens.now) }
     ensures { MatchOption result (rising fences.now ≡ false) (λ s. (rising fences.now ≡ true) × (s.used ≡ sum_of lens.now)
         × (s.target ≡ place fences.now g) × (s.start ≡ start_of lens.now (place fences.now g))) }
@@ -128,7 +128,7 @@ pub fn surveyed(lens: &[u32], fences: &[u32], g: u32) -> Option<Survey>
     if !rising {
         return None;
     }
-    Some(Survey {
+    Some(Place {
         used: used + lens[last] as usize,
         target: target as usize,
         start,

@@ -44,11 +44,12 @@ block-requires g c = (passed c.args.directory.now c.args.slices c.in_ok-shape.en
 
 pub search-requires : goal.search-requires
 search-requires g c =
+    let ok : 0 ≡ first_failed (lent_checks block_limit (column_given c.args.directory.now c.args.slices)) = c.in_ok-shape.ensures.refused in
     let at = c.in_ok-shape.ensures.accepted.1 in
-    let l = passed c.args.directory.now c.args.slices c.in_ok-shape.ensures.refused in
+    let l = passed c.args.directory.now c.args.slices ok in
     let many : length c.in_ok-shape.shape.records.growers.now ≡ length c.args.slices.growers.now = ap (λ (s : Slices). length s.growers) c.in_ok-shape.ensures.accepted.0 in
     rw (c.lengths.ensures, c.block.ensures ∙ block_is block_limit _) (
-      rw at.target_is (target_there block_limit (column_given c.args.directory.now c.args.slices) (sym c.in_ok-shape.ensures.refused) c.args.grower),
+      rw at.target_is (target_there block_limit (column_given c.args.directory.now c.args.slices) (sym ok) c.args.grower),
       omega (arith, count_lengths block_limit _ l, l.shape.few),
       omega (arith, l.shape.room, many),
       l.block,
@@ -57,7 +58,8 @@ search-requires g c =
 
 pub returns : goal.returns
 returns g c =
+    let ok : 0 ≡ first_failed (lent_checks block_limit (column_given c.args.directory.now c.args.slices)) = c.in_ok-shape.ensures.refused in
     let at = c.in_ok-shape.ensures.accepted.1 in
     of_column g.W.Way.direction c.args.grower c.in_ok-shape.shape.target _ _ _ _ (records_given c.in_ok-shape.shape.records) _ c.search.ensures
     (c.block.ensures ∙ block_is block_limit _) c.lengths.ensures c.in_ok-shape.ensures.accepted.0
-    ∙ grower_yes block_limit (column_given c.args.directory.now c.args.slices) g.W.Way.direction c.args.grower _ (sym c.in_ok-shape.ensures.refused) at.target_is
+    ∙ grower_yes block_limit (column_given c.args.directory.now c.args.slices) g.W.Way.direction c.args.grower _ (sym ok) at.target_is

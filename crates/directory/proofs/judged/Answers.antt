@@ -7,7 +7,7 @@ use Rattle.model.specs.Lists.{sum_of, rising}
 use Rattle.model.proofs.Tests.{of_true, no_such}
 use Rattle.directory.proofs.Judging.{judged_not, judged_yes, lengths_part, fences_part, unused_both, unused_parts}
 use Rattle.directory.proofs.judged.Goals as goal
-use Rattle.directory.proofs.judged.Goals.{Else-c-s}
+use Rattle.directory.proofs.judged.Goals.{Else-c-place}
 
 pub returns-then-directory-ne-DIRECTORY_SIZE-clause-refused : goal.returns-then-directory-ne-DIRECTORY_SIZE-clause-refused
 returns-then-directory-ne-DIRECTORY_SIZE-clause-refused c = judged_not block_limit _ _ (λ s. c.if-directory-ne-DIRECTORY_SIZE.true s.size)
@@ -24,11 +24,11 @@ pub returns-in_default-clause-refused : goal.returns-in_default-clause-refused
 returns-in_default-clause-refused c =
     judged_not block_limit _ _ (λ s. no_such s.rises (ap rising (sym (fences_part block_limit _ s.size s.few)) ∙ c.in_default.ensures))
 
-pub returns-then-c-s-clause-refused : goal.returns-then-c-s-clause-refused
-returns-then-c-s-clause-refused c =
+pub returns-then-c-place-clause-refused : goal.returns-then-c-place-clause-refused
+returns-then-c-place-clause-refused c =
     judged_not block_limit _ _ (λ s. let h = s.room in omega (arith, c.in-Some.ensures.1 ∙ ap sum_of (lengths_part block_limit c.args.directory.now s.size s.few)))
 
-few : (c : Else-c-s) → get_or c.args.directory.now 1 0 ≤ block_limit
+few : (c : Else-c-place) → get_or c.args.directory.now 1 0 ≤ block_limit
 few c = omega arith
 
 pub returns-clause-refused : goal.returns-clause-refused

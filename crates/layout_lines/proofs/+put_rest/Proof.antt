@@ -10,8 +10,6 @@ use lib.ListN.{length, take, get_or}
 use lib.Seq.{length-take-le}
 use borrow.Fn.Kinds.{In}
 use borrow.Fn.PlainCycle.{Measures, is, falls, and}
-use Rattle.layout_search.specs.RunningSums.{Holds}
-use Rattle.layout_search.proofs.PriceLaws.{holds_less}
 use Rattle.layout_lines.specs.Rests.{Choosing, Carrying}
 use Rattle.layout_lines.proofs.RestLaws.{Place, later, behind, followed, goes_on, stops, more_fit, is_short, no_end, last_end, passed_over, chosen_or_not, choosing_later, choosing_behind}
 use Rattle.layout_lines.proofs.PutLaws.{none_put, passed_room, passed_put, last_room, last_put, here_room, past_room, both_put}
@@ -49,16 +47,13 @@ module _ (t : ℕ) where
   Chosen = lts.After-choose-next (claims t) (at t) put-rest.Post
 
   abbrev start : Goes → Start
-  start c = c.before.before.before.before.before.before
+  start c = c.before.before.before.before.before
 
   abbrev goes_at : Chosen → Goes
   goes_at c = c.before.before.before.before
 
   abbrev place : Start → Place
   place s = let a = s.args in record { fits = a.fits.now; longest = a.rules.longest; most = a.rules.most; n = a.rules.blocks; k = a.k; a = a.a; i = a.i }
-
-  holds : (c : Goes) → (let a = (start c).args in Holds a.sums.now a.rules.blocks)
-  holds c = (start c).requires.1.0
 
   choosing : (c : Goes) → (let a = (start c).args in Choosing a.rules.blocks a.k a.a a.i a.fits.now)
   choosing c = (start c).requires.1.1.0.0
@@ -109,7 +104,7 @@ module _ (t : ℕ) where
       omega (arith, c.choose-next.ensures.carrying.room, same)
 
   returns : lts.Need-returns-then-not-goes_on (claims t) (at t) put-rest.Post
-  returns c = let x = place c.before.before.before.before.before.before in none_put x _ _ _ _ _ (stops x (sym c.goes_on.ensures ∙ c.if-not-goes_on.true))
+  returns c = let x = place c.before.before.before.before.before in none_put x _ _ _ _ _ (stops x (sym c.goes_on.ensures ∙ c.if-not-goes_on.true))
 
   returns-2 : lts.Need-returns-then-i-rules (claims t) (at t) put-rest.Post
   returns-2 c = let g = c.before.before.before.before in let x = place (start g) in none_put x _ _ _ _ _ (no_end x (short g) c.if-i-rules.true (c.if-not-fits-i.true))
@@ -118,7 +113,7 @@ module _ (t : ℕ) where
   put-rest-requires c κs =
       let g = c.before.before.before.before.before.before in
       let m = more g c.if-i-rules.false in
-      (m.1, (holds g, ((choosing_later (choosing g) m.0, carrying g), passed_room (place (start g)) _ _ _ _ (start g).args.text.now (passes c.before.before) (start g).requires.1.1.1)))
+      (m.1, ((start g).requires.1.0, ((choosing_later (choosing g) m.0, carrying g), passed_room (place (start g)) _ _ _ _ (start g).args.text.now (passes c.before.before) (start g).requires.1.1.1)))
 
   returns-3 : lts.Need-returns-then-not-fits-i (claims t) (at t) put-rest.Post
   returns-3 c =
@@ -129,7 +124,7 @@ module _ (t : ℕ) where
   choose-requires c κs =
       let g = c.before.before.before in
       let k = choosing g in
-      (holds_less _ _ _ (holds g) (omega (arith, k.inside)), (k.first, omega (arith, k.few, k.inside), omega (arith, k.few, k.inside, k.first, k.count), carrying g))
+      (k.first, omega (arith, k.inside, (start g).requires.1.0), omega (arith, k.few, k.inside), omega (arith, k.few, k.inside, k.first, k.count), carrying g)
 
   put-line-requires : lts.Need-put_line-requires (claims t) (at t) put-rest.Post
   put-line-requires c κs =
@@ -154,7 +149,7 @@ module _ (t : ℕ) where
       let m = more g c.if-i-rules-2.false in (
         m.1,
         (
-          holds g,
+          (start g).requires.1.0,
           (
             (choosing_behind (choosing g) m.0, c.choose-next.ensures.carrying),
             here_room (place (start g)) _ _ _ _ (start g).args.text.now c.choose-next.ensures (row_room g) (goes_on_here c.before.before) (start g).requires.1.1.1,
@@ -170,7 +165,7 @@ module _ (t : ℕ) where
       let m = more g c.if-i-rules-2.false in (
         m.1,
         (
-          holds g,
+          (start g).requires.1.0,
           (
             (choosing_later (choosing g) m.0, record { room = row-long c.before.before.before.before.before.before; high = (carrying g).high; low = (carrying g).low }),
             past_room (place (start g)) _ _ _ _ _ c.choose-next.ensures (row_room g) (goes_on_here e) (start g).requires.1.1.1 c.put_rest-e.ensures,

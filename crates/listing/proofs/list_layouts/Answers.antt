@@ -56,16 +56,19 @@ returns-then-text-s c =
     too_short (counted block_limit _ _ _ _ (sym s.answer) (omega (arith, n)) c.rules_of-rules.ensures n g.some (marked_same s.accepted c.mark.ensures) c.size_rest-s.ensures) _
     c.if-s-eq0.false c.if-text-s.true
 
-pub add_up-requires : goal.add_up-requires
-add_up-requires c =
+pub invariant_of-counts : goal.invariant_of-counts
+invariant_of-counts c =
     let g = plan_given block_limit _ _ _ _ (sym c.in_ok-checked.ensures.answer) in
-    record { counted = g.counts; prices_pass = g.prices; n_le_block_limit = omega arith }
+    record { priced = g.prices; counted = g.counts }
 
-pub put_all-requires-clause-holds : goal.put_all-requires-clause-holds
-put_all-requires-clause-holds c =
+pub invariant_of-given : goal.invariant_of-given
+invariant_of-given c =
     let g = plan_given block_limit _ _ _ _ (sym c.in_ok-checked.ensures.answer) in
     let l = c.add_up.ensures in
-    rw (ap (λ (x : Rules). x.blocks) c.rules_of-rules.ensures) (summed_holds _ _ _ _ _ l.summed g.prices g.counts (omega arith) (omega (arith, l.long)))
+    record { hold = summed_holds _ _ _ _ _ l.summed g.prices g.counts (omega arith) (omega (arith, l.long)) }
+
+pub put_all-requires-clause-blocks : goal.put_all-requires-clause-blocks
+put_all-requires-clause-blocks c = omega (arith, ap (λ (x : Rules). x.blocks) c.rules_of-rules.ensures)
 
 pub put_all-requires-clause-choosing : goal.put_all-requires-clause-choosing
 put_all-requires-clause-choosing c =

@@ -22,28 +22,30 @@ longest_partition-longest-requires c = (plan_given block_limit _ _ _ _ (sym c.in
 pub most_partitions-most-requires : goal.most_partitions-most-requires
 most_partitions-most-requires c = (plan_given block_limit _ _ _ _ (sym c.in_ok-checked.ensures.answer)).prices
 
-pub add_up-requires : goal.add_up-requires
-add_up-requires c =
+pub invariant_of-counts : goal.invariant_of-counts
+invariant_of-counts c =
     let g = plan_given block_limit _ _ _ _ (sym c.in_ok-checked.ensures.answer) in
-    record {
-      counted = g.counts;
-      prices_pass = g.prices;
-      n_le_block_limit = omega (arith, blocks_most c.in_ok-checked.checked.sized, c.block_count-n.ensures);
-    }
+    record { priced = g.prices; counted = g.counts }
+
+pub add_up-requires : goal.add_up-requires
+add_up-requires c = omega (arith, blocks_most c.in_ok-checked.checked.sized, c.block_count-n.ensures)
 
 pub mark-requires : goal.mark-requires
 mark-requires c = omega (arith, blocks_most c.in_ok-checked.checked.sized)
+
+pub invariant_of-task : goal.invariant_of-task
+invariant_of-task c =
+    let s = c.in_ok-checked.ensures in
+    let g = plan_given block_limit _ _ _ _ (sym s.answer) in
+    let l = c.add_up.ensures in
+    let f = c.block_count-n.ensures ∙ ap blocks s.accepted in
+    record { hold = summed_holds _ _ _ _ _ l.summed g.prices g.counts (omega (arith, f, g.few)) (omega (arith, f, g.few, l.long)) }
 
 pub searched-requires : goal.searched-requires
 searched-requires c =
     let s = c.in_ok-checked.ensures in
     let g = plan_given block_limit _ _ _ _ (sym s.answer) in
-    let l = c.add_up.ensures in
-    let f = c.block_count-n.ensures ∙ ap blocks s.accepted in
-    record {
-      holds = summed_holds _ _ _ _ _ l.summed g.prices g.counts (omega (arith, f, g.few)) (omega (arith, f, g.few, l.long));
-      n_nonzero = omega (arith, f, g.some, g.few);
-    }
+    omega (arith, g.some, g.few, c.block_count-n.ensures ∙ ap blocks s.accepted)
 
 pub returns : goal.returns
 returns c =
