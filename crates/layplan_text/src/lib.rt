@@ -15,7 +15,7 @@ ghost use Rattle.layplan_text.specs.Texts.{output_of, ends_text, EndsFit};
 
 use fields::{SIGNED_WIDTH, WIDTH};
 use lines::{ONE, THREE, TWO};
-use model::{Refusal, BLOCK_LIMIT, Delivery, HISTOGRAMS_SIZE, Limits, PriceCard};
+use model::{BLOCK_LIMIT, Delivery, HISTOGRAMS_SIZE, Limits, PriceCard, Refusal};
 
 // The kinds of calls (01: find, range, insert, delete, move).
 const FIND: u32 = 1;

@@ -268,7 +268,10 @@ fn sound_ok(g: &[u32], lens: &[u32], fences: &[u32]) -> bool
 }
 
 // Checks 2, 3, 6, 6 and 8 of a column that is to be written: the records of its used slots.
-pub fn checked_records<'a>(directory: &[u32], slices: LentSlices<'a>) -> Result<Records<'a>, Refusal>
+pub fn checked_records<'a>(
+    directory: &[u32],
+    slices: LentSlices<'a>,
+) -> Result<Records<'a>, Refusal>
     ensures refused { number_of result ≡ first_failed (sound_checks block_limit (column_given directory.now slices.entry)) }
     ensures accepted { IfOk result (λ r. records_given r ≡ used_slices block_limit (column_given directory.now slices.entry)) }
 {
@@ -307,11 +310,7 @@ fn check_write<'a>(
 }
 
 // Writes a column as a text: how many bytes, or a refusal and the text as it was.
-pub fn write(
-    directory: &[u32],
-    slices: LentSlices<'_>,
-    text: &mut [u8],
-) -> Result<u64, Refusal>
+pub fn write(directory: &[u32], slices: LentSlices<'_>, text: &mut [u8]) -> Result<u64, Refusal>
     ensures { record { answer = written_of result; text = text.new }
         ≡ write_call block_limit (column_given directory.entry.now slices.entry) text.old }
 {

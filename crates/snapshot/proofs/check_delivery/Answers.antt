@@ -10,8 +10,8 @@ returns-in_err-grower c = refused_on _ _ _ _ _ _ c.from_residual.ensures.1 c.in_
 pub returns-then-grower-lo : goal.returns-then-grower-lo
 returns-then-grower-lo c =
     elim c.then-grower-lo.branch [
-      then-grower-lo-via-then-grower-lo w ↦ below_low _ _ _ _ _ c.in_ok-grower.ensures w.if-grower-lo.true
-    | then-grower-lo-via-else-grower-lo+then-hi-grower w ↦ above_high _ _ _ _ _ c.in_ok-grower.ensures w.if-grower-lo.false w.if-hi-grower.true
+      | then-grower-lo-via-then-grower-lo w ↦ below_low _ _ _ _ _ c.in_ok-grower.ensures w.if-grower-lo.true
+      | then-grower-lo-via-else-grower-lo+then-hi-grower w ↦ above_high _ _ _ _ _ c.in_ok-grower.ensures w.if-grower-lo.false w.if-hi-grower.true
     ]
 
 pub returns-then-not-in_range : goal.returns-then-not-in_range

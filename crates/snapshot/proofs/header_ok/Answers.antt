@@ -10,9 +10,9 @@ pub returns-then-not-block_length_ok : goal.returns-then-not-block_length_ok
 unfolding header_ok
 returns-then-not-block_length_ok c =
     elim c.then-not-block_length_ok.branch [
-      then-not-block_length_ok-via-then-not-block_length_ok w ↦ rw (sym w.if-not-block_length_ok.ensures)
-    | then-not-block_length_ok-via-else-not-block_length_ok+then-used-gt-MOST_SLOTS w ↦
-      rw (sym w.if-not-block_length_ok.ensures, lt-leb _ most_slots w.if-used-gt-MOST_SLOTS.true)
+      | then-not-block_length_ok-via-then-not-block_length_ok w ↦ rw (sym w.if-not-block_length_ok.ensures)
+      | then-not-block_length_ok-via-else-not-block_length_ok+then-used-gt-MOST_SLOTS w ↦
+          rw (sym w.if-not-block_length_ok.ensures, lt-leb _ most_slots w.if-used-gt-MOST_SLOTS.true)
     ]
 
 pub returns-then-count-ge1 : goal.returns-then-count-ge1
