@@ -535,7 +535,13 @@ pub extern "C" fn meltusk_write_snapshot(
     ensures { record { answer = result; text = text.new }
         ≡ write_call block_limit (column_in directory growers weights yields days) text.old }
 {
-    snapshot::write(directory, growers, weights, yields, days, text)
+    let slices = LentSlices {
+        growers,
+        weights,
+        yields,
+        days,
+    };
+    snapshot::write(directory, slices, text).into()
 }
 
 // Reads a snapshot's text into the slots.
@@ -549,7 +555,7 @@ pub extern "C" fn meltusk_read_snapshot(
 ) -> Applied
     ensures { read_out result growers weights yields days ≡ read_call block_limit text.now (slices_in_mut growers weights yields days) }
 {
-    snapshot::read(text, growers, weights, yields, days)
+    snapshot::read(text, growers, weights, yields, days).into()
 }
 
 // Writes a column's settlement sheet.

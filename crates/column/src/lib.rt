@@ -272,7 +272,7 @@ fn with_more(scanned: Counts, reads: u64, writes: u64) -> Counts
     }
 }
 
-// Inserts a delivery.
+// Inserts a delivery. Here and in the two calls below the slices come one by one: that they are of one length, as `RecordsMut` asks, is check 3.
 pub fn insert(
     directory: &mut [u32],
     growers: &mut [u32],
@@ -375,9 +375,7 @@ pub fn move_delivery(
     };
     let moved = Delivery {
         grower: new_grower,
-        weight: d.weight,
-        oil_yield: d.oil_yield,
-        day: d.day,
+        ..d
     };
     shift(
         directory,

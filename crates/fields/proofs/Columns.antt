@@ -223,6 +223,10 @@ module _ (f : List ℕ) (full : length f ≡ 11) where
         let y : last_digit n ≡ get_or f 10 0 = omega arith in
         ap₂ (λ (a b : ℕ). leading blank 10 a ++ b ∷ []) x y ∙ ap (λ (p : List ℕ). p ++ get_or f 10 0 ∷ []) w.leads ∙ sym cut
 
+-- a byte of a part of a text
+pub part_byte : (text : List ℕ) (k p i j : ℕ) → i < k → j ≡ p + i → get_or (take k (drop p text)) i 0 ≡ get_or text j 0
+part_byte text k p i j h e = get_or-take k (drop p text) i 0 h ∙ get_or-drop p text i 0 ∙ ap (λ (x : ℕ). get_or text x 0) (sym e)
+
 -- The field at a cursor.
 module _ (text : List ℕ) (at : ℕ) where
   short : length (field_at at text) < 11 → read_field (field_at at text) ≡ none

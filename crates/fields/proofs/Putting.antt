@@ -29,41 +29,39 @@ drop-set l k b h =
     drop-cons (set l k b) k 0 (omega (arith, length-set l k b))
     ∙ ap₂ (λ (x : ℕ) (r : List ℕ). x ∷ r) (get_or-set_same l k b 0 h) (e ∙ ap (λ (j : ℕ). drop j l) (sym (add-one k)))
 
-module _ {t : List ℕ} {at w sign n : ℕ} {text : List ℕ} {i m s : ℕ} (h : 0 < i) (p : Putting t at w sign n text i m s) where
+sign_column : (s k : ℕ) → leading s (k + 1) 0 ≡ leading blank k 0 ++ s ∷ []
+unfolding leading
+sign_column s k = rw add-one (ap (λ (l : List ℕ). l ++ s ∷ []) (sym (leading_none k)))
+
+digit_column : (s k m : ℕ) → (m ≡ 0 → ⊥) → leading s (k + 1) m ≡ leading s k (m / 10) ++ last_digit m ∷ []
+unfolding leading
+digit_column s k m q = rw (add-one, ne_eqb m 0 q)
+
+module _ {t : List ℕ} {at w sign n : ℕ} {text : List ℕ} {i m s i' j : ℕ} (h : i ≡ i' + 1) (r : j ≡ at + i') (p : Putting t at w sign n text i m s) where
   -- one column more, if it is the last one that is left to write
-  step : (b m' s' : ℕ) → leading s i m ≡ leading s' (i - 1) m' ++ b ∷ [] → at + i ≤ length text → Putting t at w sign n (set text (at + (i - 1)) b) (i - 1) m' s'
-  step b m' s' e r =
-      let k : at + (i - 1) + 1 ≡ at + i = omega arith in
+  step : (b m' s' : ℕ) → leading s i m ≡ leading s' i' m' ++ b ∷ [] → Putting t at w sign n (set text j b) i' m' s'
+  step b m' s' e =
+      let k : j + 1 ≡ at + i = omega arith in
       record {
         room = p.room;
-        size = length-set text (at + (i - 1)) b ∙ p.size;
+        size = length-set text j b ∙ p.size;
         left = omega (arith, p.left);
-        kept = take-set-le at text (at + (i - 1)) b (omega arith) ∙ p.kept;
+        kept = take-set-le at text j b (omega arith) ∙ p.kept;
         work =
-            ap (λ (r : List ℕ). leading s' (i - 1) m' ++ r) (drop-set text (at + (i - 1)) b (omega arith) ∙ ap (λ (j : ℕ). b ∷ drop j text) k)
-            ∙ sym (append_snoc (leading s' (i - 1) m') b (drop (at + i) text))
+            ap (λ (x : ℕ). leading s' i' m' ++ drop x (set text j b)) (sym r)
+            ∙ ap (λ (r : List ℕ). leading s' i' m' ++ r) (drop-set text j b (omega (arith, p.size, p.room, p.left)) ∙ ap (λ (x : ℕ). b ∷ drop x text) k)
+            ∙ sym (append_snoc (leading s' i' m') b (drop (at + i) text))
             ∙ ap (λ (l : List ℕ). l ++ drop (at + i) text) (sym e)
             ∙ p.work;
       }
 
-  inside : at + i ≤ length text
-  inside = omega (arith, p.size, p.room, p.left)
-
-  sign_column : (j : ℕ) → i ≡ suc j → leading s i 0 ≡ leading blank (i - 1) 0 ++ s ∷ []
-  unfolding leading
-  sign_column j e = let k : suc j - 1 ≡ j = omega arith in rw (e, k) (ap (λ (l : List ℕ). l ++ s ∷ []) (sym (leading_none j)))
-
-  digit_column : (j : ℕ) → i ≡ suc j → (m ≡ 0 → ⊥) → leading s i m ≡ leading s (i - 1) (m / 10) ++ last_digit m ∷ []
-  unfolding leading
-  digit_column j e q = let k : suc j - 1 ≡ j = omega arith in rw (e, k, ne_eqb m 0 q)
-
   -- no digit is left: the sign, and then blanks
-  pub put_sign : m ≡ 0 → Putting t at w sign n (set text (at + (i - 1)) s) (i - 1) m blank
-  put_sign z = step s m blank (ap (leading s i) z ∙ sign_column (i - 1) (omega arith) ∙ ap (λ (x : ℕ). leading blank (i - 1) x ++ s ∷ []) (sym z)) inside
+  pub put_sign : m ≡ 0 → Putting t at w sign n (set text j s) i' m blank
+  put_sign z = step s m blank (ap₂ (leading s) h z ∙ sign_column s i' ∙ ap (λ (x : ℕ). leading blank i' x ++ s ∷ []) (sym z))
 
   -- the next digit
-  pub put_digit : (m ≡ 0 → ⊥) → Putting t at w sign n (set text (at + (i - 1)) (last_digit m)) (i - 1) (m / 10) s
-  put_digit q = step (last_digit m) (m / 10) s (digit_column (i - 1) (omega arith) q) inside
+  pub put_digit : (m ≡ 0 → ⊥) → Putting t at w sign n (set text j (last_digit m)) i' (m / 10) s
+  put_digit q = step (last_digit m) (m / 10) s (ap (λ (k : ℕ). leading s k m) h ∙ digit_column s i' m q)
 
 no_columns : (s m : ℕ) → leading s 0 m ≡ []
 unfolding leading

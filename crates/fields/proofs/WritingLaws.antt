@@ -3,8 +3,7 @@ use Prim.Native.Nat.{ℕ, ◌+◌, ◌≤◌, ◌<◌}
 use mathlib.Core.Path.{◌≡◌, refl, sym, ap, ◌∙◌}
 use mathlib.Core.List.{List, [], ◌∷◌, ◌++◌}
 use native.Mathlib.Omega.{arith}
-use lib.ListN.{length, get_or, drop, set, length-append, drop_of_length-le}
-use Rattle.model.proofs.ListLaws.{drop_next}
+use lib.ListN.{length, set, length-append}
 use Rattle.fields.specs.Writing.{placed, Wrote}
 use Rattle.fields.proofs.Placing.{length-placed, placed_none, placed_one, placed-joined}
 
@@ -73,26 +72,3 @@ module _ {t₀ : List ℕ} {at : ℕ} {whole t : List ℕ} {e : ℕ} {rest : Lis
     bytes = sym (placed_none e t) ∙ ap (λ (r : List ℕ). placed e r t) (sym x) ∙ l.work;
     on = omega (arith, l.ends, ap length x);
   }
-
--- Bytes one by one.
-
-pub record BytesLeft (t₀ : List ℕ) (at : ℕ) (bytes t : List ℕ) (i e : ℕ) : Type 0 where
-  pub passed : i ≤ length bytes
-  pub left : Left t₀ at bytes t e (drop i bytes)
-
-pub bytes_start : (t : List ℕ) (at : ℕ) (bytes : List ℕ) → at + length bytes ≤ length t → BytesLeft t at bytes t 0 at
-bytes_start t at bytes h = record { passed = omega arith; left = left_start t at bytes h }
-
-module _ {t₀ : List ℕ} {at : ℕ} {bytes t : List ℕ} {i e : ℕ} (w : BytesLeft t₀ at bytes t i e) where
-  module _ (h : i < length bytes) where
-    byte_here : drop i bytes ≡ (get_or bytes i 0 ∷ []) ++ drop (i + 1) bytes
-    byte_here = drop_next bytes i h
-
-    pub byte_room : e < length t
-    byte_room = omega (arith, next_room w.left (get_or bytes i 0 ∷ []) (drop (i + 1) bytes) byte_here)
-
-    pub bytes_next : BytesLeft t₀ at bytes (set t e (get_or bytes i 0)) (i + 1) (e + 1)
-    bytes_next = record { passed = omega arith; left = left_next w.left (get_or bytes i 0 ∷ []) (drop (i + 1) bytes) byte_here (wrote_one t e (get_or bytes i 0) byte_room) }
-
-  pub bytes_end : length bytes ≤ i → Wrote t₀ at bytes t e
-  bytes_end h = left_end w.left (drop_of_length-le bytes h)

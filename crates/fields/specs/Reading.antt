@@ -1,27 +1,26 @@
 -- A field read at a cursor.
-use Rattle.std.specs.Prelude.{ℕ, ◌+◌, ◌≤◌, ◌<◌, ◌≡◌, ◌≢◌, Bool, List, take, drop, get_or, replicate}
-use Rattle.std.proofs.Math.Option.{Option, none, some}
+use Rattle.std.specs.Prelude.{ℕ, ◌+◌, ◌≤◌, ◌<◌, ◌≡◌, ◌≢◌, Bool, List, take, drop, get_or, replicate, Option, Some, None}
+use mathlib.Core.Option as maybe
+use mathlib.Core.Option.{none, some}
 use Rattle.model.specs.Lists.{and_then, value_or, is_some}
 use Rattle.model.specs.Fields.{field_width, read_field, blank}
-use Rattle.fields.specs.declared.Field.{Field}
-use Rattle.fields.specs.declared.Field.TheVariants.{Number, Nothing}
 
 -- a number and where the text goes on
 pub record Read : Type 0 where
   pub number : ℕ
   pub next : ℕ
 
--- the enum's cases: a number and the next cursor, or nothing
-abbrev pub read_of : Field → Option Read
-read_of (Number n at) = some (record { number = n; next = at })
-read_of Nothing = none
+-- the pair by the names of its parts
+abbrev pub read_of : Option (ℕ × ℕ) → maybe.Option Read
+read_of (Some x) = some (record { number = x.0; next = x.1 })
+read_of None = none
 
 -- the columns of the field at a cursor
 abbrev pub field_at : ℕ → List ℕ → List ℕ
 field_at at text = take field_width (drop at text)
 
 -- "each number is taken whole": the number at a cursor
-unfoldable pub read_at : List ℕ → ℕ → Option Read
+unfoldable pub read_at : List ℕ → ℕ → maybe.Option Read
 read_at text at = and_then (read_field (field_at at text)) (λ n. some (record { number = n; next = at + field_width }))
 
 -- is there one? And which, 0 where there is none

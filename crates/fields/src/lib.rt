@@ -1,18 +1,11 @@
 // Numbers in a text (01: book and program): fields of 11 columns read and written.
 #![tactic(auto)]
 
-ghost use Rattle.std.specs.Prelude.{◌≡◌, false, ◌&&◌, ◌+◌, ◌-◌, ◌≤◌, ◌<◌, length, get_or, nat_abs, T, ltb, eqb};
+ghost use Rattle.std.specs.Prelude.{◌≡◌, false, ◌&&◌, ◌+◌, ◌-◌, ◌≤◌, ◌<◌, length, get_or, T, ltb, eqb};
 ghost use Rattle.model.specs.Fields.{justified, number_field, signed_field};
 ghost use Rattle.model.specs.Sheet.{wide_field};
 ghost use Rattle.fields.specs.Reading.{read_of, read_at, field_ok, value_at, Blanks};
 ghost use Rattle.fields.specs.Writing.{placed, Wrote};
-
-// What reading a field finds: its number and where the text goes on, or no number.
-#[derive(Clone, Copy)]
-pub enum Field {
-    Number { number: u32, next: usize },
-    Nothing,
-}
 
 // The columns of a number (01: 11 columns), and those ahead of its last digit.
 pub const WIDTH: usize = 11;
@@ -23,27 +16,19 @@ pub const SIGNED_WIDTH: usize = 20;
 // The columns of a number of a settlement sheet (02: 20 columns).
 pub const WIDE: usize = 20;
 // The greatest number (01: 4,294,967,295).
-const MOST: u64 = 4294967295;
-
-fn wide(b: u8) -> u64
-    ensures { result ≡ b }
-{
-    b as u64
-}
+const MOST: u64 = u32::MAX as u64;
 
 // How many of the leading columns of a field are blank ahead of the first that is not.
 fn blanks(text: &[u8], at: usize) -> usize
     requires { at + 11 ≤ length text.now }
     ensures { Blanks text.now at result }
 {
-    let mut i = 0;
-    while i < LEADING {
+    for i in 0..LEADING {
         if text[at + i] != b' ' {
             return i;
         }
-        i += 1;
     }
-    i
+    LEADING
 }
 
 // Whether the first column that is not blank, if it is not the last, is 0.
@@ -51,52 +36,37 @@ fn zero_leads(text: &[u8], at: usize, first: usize) -> bool
     requires { at + 11 ≤ length text.now }
     ensures { result ≡ ltb first 10 && eqb (get_or text.now (at + first) 0) 48 }
 {
-    if first < LEADING {
-        return text[at + first] == b'0';
-    }
-    false
+    first < LEADING && text[at + first] == b'0'
 }
 
 // The field whose columns ahead of `first` are blank: digits from there on, the first of them 0 only in the last column.
-fn digits(text: &[u8], at: usize, first: usize) -> Field
+fn digits(text: &[u8], at: usize, first: usize) -> Option<(u32, usize)>
     requires { (at + 11 ≤ length text.now) × Blanks text.now at first × (ltb first 10 && eqb (get_or text.now (at + first) 0) 48 ≡ false) }
     ensures { read_of result ≡ read_at text.now at }
 {
-    let mut v: u64 = 0;
-    let mut i = first;
-    while i < WIDTH {
-        let b = text[at + i];
-        if b < b'0' {
-            return Field::Nothing;
+    let mut v = 0;
+    for &b in &text[at + first..at + WIDTH] {
+        if b < b'0' || b'9' < b {
+            return None;
         }
-        if b'9' < b {
-            return Field::Nothing;
-        }
-        v = v * 10 + wide(b - b'0');
-        i += 1;
+        v = v * 10 + u64::from(b - b'0');
     }
     if MOST < v {
-        return Field::Nothing;
+        return None;
     }
-    Field::Number {
-        number: v as u32,
-        next: at + WIDTH,
-    }
+    Some((v as u32, at + WIDTH))
 }
 
-// The number at a cursor, taken whole.
-pub fn number_at(text: &[u8], at: usize) -> Field
+// The number at a cursor, taken whole, and where the text goes on.
+pub fn number_at(text: &[u8], at: usize) -> Option<(u32, usize)>
     ensures { read_of result ≡ read_at text.now at }
 {
-    if text.len() < WIDTH {
-        return Field::Nothing;
-    }
-    if text.len() - WIDTH < at {
-        return Field::Nothing;
+    if text.len() < WIDTH || text.len() - WIDTH < at {
+        return None;
     }
     let first = blanks(text, at);
     if zero_leads(text, at, first) {
-        return Field::Nothing;
+        return None;
     }
     digits(text, at, first)
 }
@@ -107,12 +77,9 @@ pub fn spelled_at(text: &[u8], at: usize) -> u32
     requires { T (field_ok at text.now) }
     ensures { result ≡ value_at at text.now }
 {
-    let mut v: u64 = 0;
-    let mut k = 0;
-    while k < WIDTH {
-        let b = text[at + k];
-        v = v * 10 + wide(b % 16);
-        k += 1;
+    let mut v = 0;
+    for &b in &text[at..at + WIDTH] {
+        v = v * 10 + u64::from(b % 16);
     }
     v as u32
 }
@@ -122,13 +89,8 @@ pub fn put_bytes(text: &mut [u8], at: usize, bytes: &[u8]) -> usize
     requires { at + length bytes.now ≤ length text.old }
     ensures { Wrote text.old at bytes.now text.new result }
 {
-    let mut i = 0;
-    let mut e = at;
-    while i < bytes.len() {
-        text[e] = bytes[i];
-        e += 1;
-        i += 1;
-    }
+    let e = at + bytes.len();
+    text[at..e].copy_from_slice(bytes);
     e
 }
 
@@ -137,20 +99,18 @@ fn put(text: &mut [u8], at: usize, width: usize, sign: u8, n: u64)
     requires { (1 ≤ width) × (at + width ≤ length text.old) }
     ensures { text.new ≡ placed at (justified sign width n) text.old }
 {
-    let mut i = width - 1;
+    let last = at + (width - 1);
+    text[last] = b'0' + (n % 10) as u8;
     let mut m = n / 10;
     let mut s = sign;
-    let last = at + i;
-    text[last] = b'0' + (n % 10) as u8;
-    while 0 < i {
-        i -= 1;
-        let j = at + i;
+    for k in 1..width {
+        let j = last - k;
         if m == 0 {
             text[j] = s;
             s = b' ';
         } else {
             text[j] = b'0' + (m % 10) as u8;
-            m = m / 10;
+            m /= 10;
         }
     }
 }
@@ -160,7 +120,7 @@ pub fn put_number(text: &mut [u8], at: usize, n: u32)
     requires { at + 11 ≤ length text.old }
     ensures { text.new ≡ placed at (number_field n) text.old }
 {
-    put(text, at, WIDTH, b' ', n as u64);
+    put(text, at, WIDTH, b' ', u64::from(n));
 }
 
 // A number in 20 columns from a cursor.
@@ -171,26 +131,11 @@ pub fn put_wide(text: &mut [u8], at: usize, n: u64)
     put(text, at, WIDE, b' ', n);
 }
 
-// A signed number without its sign.
-fn magnitude(z: i64) -> u64
-    ensures { result ≡ nat_abs z }
-{
-    if z < 0 {
-        let y = -(z + 1);
-        return y as u64 + 1;
-    }
-    z as u64
-}
-
 // A signed number in 20 columns from a cursor, a minus just before its first digit.
 pub fn put_signed(text: &mut [u8], at: usize, z: i64)
     requires { at + 20 ≤ length text.old }
     ensures { text.new ≡ placed at (signed_field z) text.old }
 {
-    let m = magnitude(z);
-    if z < 0 {
-        put(text, at, SIGNED_WIDTH, b'-', m);
-        return;
-    }
-    put(text, at, SIGNED_WIDTH, b' ', m);
+    let sign = if z < 0 { b'-' } else { b' ' };
+    put(text, at, SIGNED_WIDTH, sign, z.unsigned_abs());
 }

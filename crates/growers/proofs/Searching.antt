@@ -117,11 +117,6 @@ pub steps_most : (w : Direction) (ns : List ℕ) (t : ℕ) → t < length ns →
 steps_most up ns t h = omega arith
 steps_most down ns t h = omega arith
 
--- a step on the path stays among the partitions
-pub step_within : (w : Direction) (ns : List ℕ) (t j : ℕ) → t < length ns → j < steps_of w ns t → Within w (length ns) t j
-step_within up ns t j h k = omega arith
-step_within down ns t j h k = (omega arith, omega arith)
-
 pub within_more : (w : Direction) (l m a n : ℕ) → l ≤ m → Within w l a n → Within w m a n
 within_more up l m a n h k = omega arith
 within_more down l m a n h k = (k.0, omega (arith, k.1))

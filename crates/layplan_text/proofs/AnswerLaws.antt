@@ -25,8 +25,11 @@ use Rattle.model.specs.Deliveries.{Slices, slices_of}
 use Rattle.model.specs.Blocks.{Set}
 use Rattle.fields.specs.Reading.{value_at}
 use Rattle.fields.proofs.Signs.{held}
-use Rattle.lines.specs.Lines.{text_refusal, column_at, column_ok}
-use Rattle.lines.proofs.Reading.{failed}
+use Rattle.lines.specs.Lines.{text_checked, column_at, column_ok}
+use Rattle.std.specs.Prelude.{Err}
+use Rattle.model.specs.declared.refusal.Refusal.{Refusal}
+use Rattle.model.specs.Refusals.{refusal_number}
+use Rattle.lines.proofs.Reading.{unmet}
 use Rattle.lines.proofs.Storing.{length_column, column_ok_lem}
 use Rattle.layplan_text.specs.declared.Output.{Output}
 use Rattle.layplan_text.specs.Week.{calls_at, calls_ok, used_in, week_ok, card_in, limits_in, week_in, plan_in}
@@ -124,6 +127,17 @@ module _ (t : List ℕ) (at m n : ℕ) (h : m < n) (s : List ℕ) (e : s ≡ col
       ∙ ap (λ (k : ℕ). take k (column_at 34 at m t ++ (0 ∷ drop (suc m) (blanks n)))) (sym z)
       ∙ take-append-add (column_at 34 at m t) (0 ∷ drop (suc m) (blanks n)) 1
 
+-- a column stored into the front of blanks
+module _ (t : List ℕ) (at m n : ℕ) (h : m < n) where
+  pub front_length : m ≡ length (take m (blanks n))
+  front_length = sym (length-take-le m (blanks n) (omega (arith, length-replicate {A = ℕ} n 0)))
+
+  pub front_ok : T (column_ok 34 at m t) → T (column_ok 34 at (length (take m (blanks n))) t)
+  front_ok k = rw (sym front_length) k
+
+  pub front_stored : (s : List ℕ) → s ≡ column_at 34 at (length (take m (blanks n))) t → s ++ drop m (blanks n) ≡ column_at 34 at m t ++ drop m (blanks n)
+  front_stored s e = ap (λ (l : List ℕ). l ++ drop m (blanks n)) (e ∙ ap (λ (k : ℕ). column_at 34 at k t) (sym front_length))
+
 -- the front of zeros
 pub zeros_front : (k n : ℕ) → k ≤ n → take k (blanks n) ≡ blanks k
 zeros_front zero n h = refl
@@ -132,10 +146,11 @@ zeros_front (suc k) (suc n) h = ap (λ (l : List ℕ). 0 ∷ l) (zeros_front k n
 
 -- The program.
 
-pub program_refused : (t : List ℕ) (n : ℕ) (r : Output) → n ≡ text_refusal (week_ok t) → (n ≡ 0 → ⊥) → r ≡ output_of (refusal_text n) → r ≡ output_of (layplan t)
-program_refused t n r e z g =
-    let f = failed (week_ok t) e z in
-    g ∙ ap (λ (k : ℕ). output_of (refusal_text k)) (e ∙ ap text_refusal f) ∙ ap output_of (sym (layplan_bad t f))
+pub program_refused : (t : List ℕ) (x : Refusal) (n : ℕ) (r : Output) → Err x ≡ text_checked (week_ok t) → n ≡ refusal_number x → r ≡ output_of (refusal_text n)
+    → r ≡ output_of (layplan t)
+program_refused t x n r q i g =
+    let m = unmet (week_ok t) tt q in
+    g ∙ ap (λ (k : ℕ). output_of (refusal_text k)) (i ∙ ap refusal_number m.1) ∙ ap output_of (sym (layplan_bad t m.0))
 
 -- the deliveries of a good input: few, and each number stands
 pub record Deliveries (t : List ℕ) (m : ℕ) : Type 0 where

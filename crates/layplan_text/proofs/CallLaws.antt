@@ -8,7 +8,7 @@ use mathlib.Core.List.{List, [], ◌∷◌}
 use native.Mathlib.Omega.{arith}
 use borrow.Author.Tests.{eq-eqb, ne_eqb}
 use lib.Dec.{T, eqb, eqb→eq}
-use lib.ListN.{length}
+use lib.ListN.{length, get_or}
 use Rattle.model.specs.Bounds.{block_limit}
 use Rattle.model.specs.Lists.{every, only_if, and_then, is_some}
 use Rattle.model.specs.Blocks.{Set}
@@ -18,9 +18,11 @@ use Rattle.model.specs.Recorder.{Recorded, record_call}
 use Rattle.model.specs.Program.{call_of, calls_of, record_until_refused}
 use Rattle.model.proofs.Tests.{and_fst, and_snd, of_true, eqb_no, pairs_swap}
 use Rattle.fields.specs.Reading.{field_ok, value_at}
-use Rattle.lines.specs.Lines.{text_refusal, column_at, line_ok, lines_ok, rows_at}
+use Rattle.std.specs.Prelude.{Result, Ok}
+use Rattle.model.specs.declared.refusal.Refusal.{Refusal}
+use Rattle.lines.specs.Lines.{text_checked, line_found, column_at, line_ok, lines_ok, rows_at}
 use Rattle.lines.proofs.Forms.{both}
-use Rattle.lines.proofs.Reading.{Judge}
+use Rattle.lines.proofs.Reading.{found_line, found_numbers, Judge}
 use Rattle.layplan_text.specs.Week.{call_by, calls_at, call_ok, calls_ok}
 
 -- Unused numbers.
@@ -166,16 +168,17 @@ five_fields t at o =
 -- One call's line.
 
 module _ (at : ℕ) (t : List ℕ) where
-  pub no_line : false ≡ line_ok 5 at t → 14 ≡ text_refusal (call_ok at t)
+  pub no_call : line_ok 5 at t ≡ false → call_ok at t ≡ false
   unfolding call_ok
-  no_line e = rw (sym e)
+  no_call e = rw e
 
-  pub call_decided : (k a b c d : ℕ) → line_ok 5 at t ≡ true → k ∷ a ∷ b ∷ c ∷ d ∷ [] ≡ column_at 11 at 5 t
-      → (x : Bool) → is_some (call_of (k ∷ a ∷ b ∷ c ∷ d ∷ [])) ≡ x → text_refusal x ≡ text_refusal (call_ok at t)
-  unfolding call_ok
-  call_decided k a b c d ok is x e =
-      let f : call_ok at t ≡ x = rw (ok, sym is) e in
-      ap text_refusal (sym f)
+  pub call_decided : (ns : List ℕ) → Ok ns ≡ line_found 5 at t
+      → (x : Bool) → ((a : ℕ) → x ≡ is_some (call_of (get_or ns 0 0 ∷ a ∷ get_or ns 2 0 ∷ get_or ns 3 0 ∷ get_or ns 4 0 ∷ []))) → text_checked x ≡ text_checked (call_ok at t)
+  unfolding call_ok column_at
+  call_decided ns f x e =
+      let q = found_numbers 5 at t ns f in
+      let ok = found_line 5 at t ns f in
+      ap text_checked (e (get_or ns 1 0) ∙ ap (λ (l : List ℕ). is_some (call_of (get_or l 0 0 ∷ get_or l 1 0 ∷ get_or l 2 0 ∷ get_or l 3 0 ∷ get_or l 4 0 ∷ []))) q ∙ rw ok)
 
 module _ (t : List ℕ) where
   -- the five numbers of a line

@@ -7,7 +7,7 @@ use mathlib.Core.List.{List, [], ◌∷◌, ◌++◌}
 use native.Mathlib.Omega.{arith}
 use borrow.Author.Tests.{le-leb, lt-leb}
 use lib.Dec.{T, leb, eqb, leb→le}
-use lib.ListN.{length, drop, take, replicate}
+use lib.ListN.{length, get_or, drop, take, replicate}
 use lib.Seq.{take_all, length-take-le}
 use Rattle.model.specs.Bounds.{most_deliveries, most_calls}
 use Rattle.model.specs.Lists.{only_if, and_then}
@@ -18,7 +18,10 @@ use Rattle.model.specs.Fields.{Taken, taken, take_line, take_lines, nth}
 use Rattle.model.specs.Program.{Week, calls_of, set_of, sizes_ok, take_sizes, read_week, week_text, refusal_text, layplan}
 use Rattle.model.proofs.Tests.{of_true, and_fst, and_snd, leb_no}
 use Rattle.fields.specs.Reading.{field_ok}
-use Rattle.lines.specs.Lines.{text_refusal, column_at, line_length, line_ok, lines_ok, rows_at}
+use Rattle.std.specs.Prelude.{Result, Ok}
+use Rattle.model.specs.declared.refusal.Refusal.{Refusal}
+use Rattle.lines.specs.Lines.{text_checked, line_found, column_at, line_length, line_ok, lines_ok, rows_at}
+use Rattle.lines.proofs.Reading.{found_line, found_number}
 use Rattle.lines.proofs.Forms.{chain, line_at, lines_at, column_of_lem, nothing_left}
 use Rattle.layplan_text.specs.Week.{calls_at, calls_ok, used_in, count_in, calls_from, head_ok, week_ok, week_in}
 use Rattle.layplan_text.proofs.CallLaws.{are_calls, calls_form, calls_are, first_field, later_fields}
@@ -193,11 +196,11 @@ module _ (t : List ℕ) where
       unfolding head_ok
       no_sizes e = rw (h₁, h₂, e)
 
-      pub head_decided : line_ok 3 57 t ≡ true → (m q : ℕ) → m ≡ used_in t → q ≡ count_in t → (b : Bool) → sizes_ok m q ≡ b → text_refusal b ≡ text_refusal (head_ok t)
+      pub head_found : (ns : List ℕ) → Ok ns ≡ line_found 3 57 t → (b : Bool) → b ≡ sizes_ok (get_or ns 1 0) (get_or ns 2 0) → text_checked b ≡ text_checked (head_ok t)
       unfolding head_ok
-      head_decided h₃ m q f g b e =
-          let k : head_ok t ≡ sizes_ok (used_in t) (count_in t) = rw (h₁, h₂, h₃) in
-          ap text_refusal (sym (k ∙ ap₂ (λ (x y : ℕ). sizes_ok x y) (sym f) (sym g) ∙ e))
+      head_found ns f b e =
+          let k : head_ok t ≡ sizes_ok (used_in t) (count_in t) = rw (h₁, h₂, found_line 3 57 t ns f) in
+          ap text_checked (e ∙ ap₂ sizes_ok (found_number 3 57 t ns f 1 (omega arith)) (found_number 3 57 t ns f 2 (omega arith)) ∙ sym k)
 
   -- past the first three lines
   pub no_head : head_ok t ≡ false → week_ok t ≡ false
@@ -219,10 +222,10 @@ module _ (t : List ℕ) where
       pub no_calls : calls_ok q (91 + 34 * m) t ≡ false → week_ok t ≡ false
       no_calls e = with_these ∙ rw (h₂, e)
 
-      pub week_decided : calls_ok q (91 + 34 * m) t ≡ true → (b : Bool) → leb (length t) (91 + 34 * m + 56 * q) ≡ b → text_refusal b ≡ text_refusal (week_ok t)
+      pub week_decided : calls_ok q (91 + 34 * m) t ≡ true → (b : Bool) → leb (length t) (91 + 34 * m + 56 * q) ≡ b → text_checked b ≡ text_checked (week_ok t)
       week_decided h₃ b e =
           let k : week_with m q ≡ leb (length t) (91 + 34 * m + 56 * q) = rw (h₂, h₃) in
-          ap text_refusal (sym (with_these ∙ k ∙ e))
+          ap text_checked (sym (with_these ∙ k ∙ e))
 
 -- What a good input's first three lines are, and its other lines.
 

@@ -10,12 +10,12 @@ ghost use Rattle.model.specs.Program.{call_of, sizes_ok, record_until_refused, r
 ghost use Rattle.model.specs.Lent.{set_given, slices_in};
 ghost use Rattle.model.specs.Refusals.{number_of};
 ghost use Rattle.fields.specs.Writing.{placed};
-ghost use Rattle.lines.specs.Lines.{text_refusal, line_ok};
+ghost use Rattle.lines.specs.Lines.{text_checked, line_ok};
 ghost use Rattle.layplan_text.specs.Week.{call_at, calls_at, call_ok, calls_ok, head_ok, week_ok, card_in, limits_in, week_in, plan_in};
 ghost use Rattle.layplan_text.specs.Texts.{output_of, ends_text, EndsFit};
 
-use fields::{Field, SIGNED_WIDTH, WIDTH};
-use lines::{NOT_A_TEXT, ONE, THREE, TWO};
+use fields::{SIGNED_WIDTH, WIDTH};
+use lines::{ONE, THREE, TWO};
 use model::{
     BLOCK_LIMIT, Delivery, HISTOGRAMS_SIZE, LentSet, LentSlices, Limits, PriceCard, Refusal,
     number_of,
@@ -95,55 +95,28 @@ fn unused_ok(kind: u32, b: u32, c: u32, d: u32) -> bool
     kind == MOVE
 }
 
-// The refusal of a text that has no call's line at a byte.
-fn judge_call(text: &[u8], at: usize) -> u32
-    ensures { result ≡ text_refusal (call_ok at text.now) }
+// Whether a call's line stands at a byte.
+fn check_call(text: &[u8], at: usize) -> Result<(), Refusal>
+    ensures { result ≡ text_checked (call_ok at text.now) }
 {
-    let f = fields::number_at(text, at);
-    let Field::Number { number: k, next: o } = f else {
-        return NOT_A_TEXT;
-    };
-    let g = fields::number_at(text, o);
-    let Field::Number { number: _, next: p } = g else {
-        return NOT_A_TEXT;
-    };
-    let h = fields::number_at(text, p);
-    let Field::Number { number: b, next: q } = h else {
-        return NOT_A_TEXT;
-    };
-    let i = fields::number_at(text, q);
-    let Field::Number { number: c, next: s } = i else {
-        return NOT_A_TEXT;
-    };
-    let j = fields::number_at(text, s);
-    let Field::Number { number: d, next: e } = j else {
-        return NOT_A_TEXT;
-    };
-    if !lines::ends(text, e) {
-        return NOT_A_TEXT;
+    let [kind, _, b, c, d] = lines::line_at::<5>(text, at)?;
+    if !unused_ok(kind, b, c, d) {
+        return Err(Refusal::Text);
     }
-    if !unused_ok(k, b, c, d) {
-        return NOT_A_TEXT;
-    }
-    0
+    Ok(())
 }
 
-// The refusal of a text that has not q such lines there.
-fn judge_calls(text: &[u8], at: usize, q: usize) -> u32
+// Whether q such lines stand there.
+fn check_calls(text: &[u8], at: usize, q: usize) -> Result<(), Refusal>
     requires { (at ≤ 100000) × (q ≤ most_calls) }
-    ensures { result ≡ text_refusal (calls_ok q at text.now) }
+    ensures { result ≡ text_checked (calls_ok q at text.now) }
 {
-    let mut i = 0;
     let mut e = at;
-    while i < q {
-        let r = judge_call(text, e);
-        if r != 0 {
-            return r;
-        }
+    for i in 0..q {
+        check_call(text, e)?;
         e += FIVE;
-        i += 1;
     }
-    0
+    Ok(())
 }
 
 // Whether M is 1 to 1,024 and Q at most 1,000.
@@ -159,53 +132,33 @@ fn sizes_ok(m: u32, q: u32) -> bool
     q <= MOST_CALLS
 }
 
-// The refusal of a text without its first three lines, M and Q among them.
-fn judge_head(text: &[u8]) -> u32
-    ensures { result ≡ text_refusal (head_ok text.now) }
+// Whether a text has its first three lines, M and Q in range.
+fn check_head(text: &[u8]) -> Result<(), Refusal>
+    ensures { result ≡ text_checked (head_ok text.now) }
 {
-    let p = lines::judge_line(text, 0, 3);
-    if p != 0 {
-        return p;
-    }
-    let l = lines::judge_line(text, LIMITS_AT, 2);
-    if l != 0 {
-        return l;
-    }
-    let s = lines::judge_line(text, SIZES_AT, 3);
-    if s != 0 {
-        return s;
-    }
-    let m = fields::spelled_at(text, USED_AT);
-    let q = fields::spelled_at(text, COUNT_AT);
+    lines::line_at::<3>(text, 0)?;
+    lines::line_at::<2>(text, LIMITS_AT)?;
+    let [_, m, q] = lines::line_at::<3>(text, SIZES_AT)?;
     if !sizes_ok(m, q) {
-        return NOT_A_TEXT;
+        return Err(Refusal::Text);
     }
-    0
+    Ok(())
 }
 
-// The refusal of a text that is no input: every line, M, Q, each kind and unused number, and no line left over.
-fn judge_week(text: &[u8]) -> u32
-    ensures { result ≡ text_refusal (week_ok text.now) }
+// Whether a text is an input: every line, M, Q, each kind and unused number, and no line left over.
+fn check_week(text: &[u8]) -> Result<(), Refusal>
+    ensures { result ≡ text_checked (week_ok text.now) }
 {
-    let h = judge_head(text);
-    if h != 0 {
-        return h;
-    }
+    check_head(text)?;
     let m = fields::spelled_at(text, USED_AT) as usize;
     let q = fields::spelled_at(text, COUNT_AT) as usize;
-    let d = lines::judge_lines(text, DELIVERIES_AT, 3, m);
-    if d != 0 {
-        return d;
-    }
+    lines::check_lines::<3>(text, DELIVERIES_AT, m)?;
     let a = DELIVERIES_AT + THREE * m;
-    let c = judge_calls(text, a, q);
-    if c != 0 {
-        return c;
-    }
+    check_calls(text, a, q)?;
     if a + FIVE * q < text.len() {
-        return NOT_A_TEXT;
+        return Err(Refusal::Text);
     }
-    0
+    Ok(())
 }
 
 // Records the call at a byte.
@@ -263,7 +216,7 @@ fn refused(n: u32) -> Output
     ensures { result ≡ output_of (refusal_text n) }
 {
     let mut bytes = [0u8; OUTPUT];
-    lines::put_one(&mut bytes, 0, n);
+    lines::put_line(&mut bytes, 0, &[n]);
     Output { bytes, count: ONE }
 }
 
@@ -277,7 +230,7 @@ fn put_ends(text: &mut [u8], at: usize, ends: &[u32])
     let mut first = 0;
     while i < ends.len() {
         let last = ends[i];
-        lines::put_two(text, e, first, last);
+        lines::put_line(text, e, &[first, last]);
         first = last + 1;
         e += TWO;
         i += 1;
@@ -390,18 +343,17 @@ fn answer(text: &[u8], growers: &[u32], weights: &[u32], yields: &[u32], days: &
 pub fn layplan_text(text: &[u8]) -> Output
     ensures { result ≡ output_of (layplan text.now) }
 {
-    let bad = judge_week(text);
-    if bad != 0 {
-        return refused(bad);
+    if let Err(refusal) = check_week(text) {
+        return refused(refusal.number());
     }
     let m = fields::spelled_at(text, USED_AT) as usize;
     let mut growers = [0u32; SLOTS];
     let mut weights = [0u32; SLOTS];
     let mut yields = [0u32; SLOTS];
     let days = [0u32; SLOTS];
-    lines::store(text, DELIVERIES_AT, &mut growers[..], m);
-    lines::store(text, WEIGHTS_AT, &mut weights[..], m);
-    lines::store(text, YIELDS_AT, &mut yields[..], m);
+    lines::store(text, DELIVERIES_AT, &mut growers[..m]);
+    lines::store(text, WEIGHTS_AT, &mut weights[..m]);
+    lines::store(text, YIELDS_AT, &mut yields[..m]);
     let c = m + 1;
     answer(text, &growers[..c], &weights[..c], &yields[..c], &days[..c])
 }

@@ -1,34 +1,45 @@
 -- A line judged field by field, and lines one after the other. Assumes nothing.
 use Prim.Native.Nat.{ℕ, suc, ◌+◌, ◌-◌, ◌*◌, ◌≤◌, ◌<◌}
-use mathlib.Core.Path.{◌≡◌, refl, sym, ap, ap₂, ◌∙◌}
-use mathlib.Core.Bool.{Bool, true, false, ◌&&◌}
+use mathlib.Core.Path.{◌≡◌, refl, sym, ap, ap₂, ◌∙◌, subst}
+use mathlib.Core.Bool.{Bool, true, false, cond, ◌&&◌}
 use mathlib.Core.Option.{Option, none, some}
 use mathlib.Core.List.{List, [], ◌∷◌, ◌++◌}
 use native.Mathlib.Omega.{arith}
 use lib.Dec.{eqb}
-use lib.ListN.{length, get_or, take, drop, drop_of_length-le}
-use lib.Seq.{drop-cons}
+use lib.ListN.{length, get_or, take, drop, set, drop_of_length-le}
+use lib.Seq.{drop-cons, take_all}
+use Rattle.std.proofs.lemmas.List.{take_more_set}
+use Rattle.std.specs.Prelude.{Result, Ok, Err, IsErrAnd}
+use Rattle.std.proofs.lemmas.Result.{err_from_is_err_and}
+use Rattle.model.specs.declared.refusal.Refusal.{Refusal}
+use Rattle.model.specs.declared.refusal.Refusal.TheVariants.{Text}
 use Rattle.model.specs.Lists.{only_if, and_then, is_some}
 use Rattle.model.specs.Fields.{read_field, after_line_end}
-use Rattle.fields.specs.declared.Field.{Field}
-use Rattle.fields.specs.declared.Field.TheVariants.{Number, Nothing}
-use Rattle.fields.specs.Reading.{Read, read_of, read_at, field_ok, value_at}
+use Rattle.fields.specs.Reading.{Read, read_at, field_ok, value_at}
 use Rattle.model.proofs.LineLaws.{nothing}
-use Rattle.lines.specs.Lines.{text_refusal, column_at, line_length, line_ok, lines_ok}
-use Rattle.lines.proofs.Storing.{column_more}
+use Rattle.lines.specs.Lines.{line_found, column_at, line_length, line_ok, lines_ok}
+use Rattle.lines.proofs.Storing.{get_or-column, column_more}
 
--- what a refusal of a text says of the test
-pub passed : (b : Bool) {n : ℕ} → n ≡ text_refusal b → n ≡ 0 → b ≡ true
-passed true e z = refl
-passed false e z = absurd (omega (arith, e, z))
+pub ok_no_err : {A : Type 0} {x : A} {r : Refusal} → ◌≡◌ {A = Result A Refusal} (Ok x) (Err r) → ⊥
+ok_no_err e = cc
 
-pub failed : (b : Bool) {n : ℕ} → n ≡ text_refusal b → (n ≡ 0 → ⊥) → b ≡ false
-failed true e z = absurd (z e)
-failed false e z = refl
+-- What a check that is accepted says of the test, and one that is refused.
 
--- a refusal of a part that fails the whole is the whole's
-pub refused_by : (a b : Bool) {n : ℕ} → n ≡ text_refusal a → (n ≡ 0 → ⊥) → (a ≡ false → b ≡ false) → n ≡ text_refusal b
-refused_by a b e z f = let q = failed a e z in e ∙ ap text_refusal (q ∙ sym (f q))
+pub met : {A : Type 0} (b : Bool) (r : Refusal) {x y : A} → Ok x ≡ cond b (Ok y) (Err r) → (b ≡ true) × (x ≡ y)
+met true r e = (refl, cc)
+met false r e = absurd (ok_no_err e)
+
+pub unmet : {A : Type 0} (b : Bool) (y : A) {r x : Refusal} → Err x ≡ cond b (Ok y) (Err r) → (b ≡ false) × (x ≡ r)
+unmet true y e = absurd (ok_no_err (sym e))
+unmet false y e = (refl, cc)
+
+-- a refusal that `?` passes on: a part that fails the whole refuses the whole
+pub passed_on : {B : Type 0} (r : Result B Refusal) (x : Refusal) → IsErrAnd r (λ y. y ≡ x) → r ≡ Err x
+passed_on r x q = let p = err_from_is_err_and r q in p.1 ∙ ap Err p.2
+
+pub refused_on : {A B : Type 0} (a b : Bool) (y : A) (z : B) (r : Result B Refusal) (x : Refusal) → IsErrAnd r (λ y. y ≡ x) → Err x ≡ cond a (Ok y) (Err Text) → (a ≡ false → b ≡ false)
+    → r ≡ cond b (Ok z) (Err Text)
+refused_on a b y z r x q e f = let m = unmet a y e in passed_on r x q ∙ ap Err m.1 ∙ sym (rw (f m.0))
 
 abbrev found : ℕ → ℕ → Read
 found n at = record { number = n; next = at + 11 }
@@ -82,6 +93,16 @@ module _ (t : List ℕ) where
   pub ends_past : (at : ℕ) → length t ≤ at → false ≡ is_some (after_line_end (drop at t))
   unfolding after_line_end
   ends_past at h = rw (drop_of_length-le t h)
+
+-- what looking for a line says: it is there, and number j
+pub found_line : (n at : ℕ) (t ns : List ℕ) → Ok ns ≡ line_found n at t → line_ok n at t ≡ true
+found_line n at t ns e = (met (line_ok n at t) Text e).0
+
+pub found_numbers : (n at : ℕ) (t ns : List ℕ) → Ok ns ≡ line_found n at t → ns ≡ column_at 11 at n t
+found_numbers n at t ns e = (met (line_ok n at t) Text e).1
+
+pub found_number : (n at : ℕ) (t ns : List ℕ) → Ok ns ≡ line_found n at t → (j : ℕ) → j < n → get_or ns j 0 ≡ value_at (at + 11 * j) t
+found_number n at t ns e j h = ap (λ (l : List ℕ). get_or l j 0) (found_numbers n at t ns e) ∙ get_or-column 11 at n t j h
 
 -- The fields that are left of a line.
 
@@ -158,13 +179,23 @@ module _ {t : List ℕ} {at n i e : ℕ} {ns : List ℕ} (w : Took t at n i e ns
     values = ap₂ (λ (l : List ℕ) (x : ℕ). l ++ x ∷ []) w.values (value_some t e r q ∙ ap (λ (k : ℕ). value_at k t) w.at_field) ∙ sym (column_more 11 at i t);
   }
 
-  -- by what reading a field answered
-  module _ (h : i < n) {f : Field} (q : read_of f ≡ read_at t e) where
-    pub took_next : {v p : ℕ} → f ≡ Number v p → Took t at n (i + 1) p (ns ++ v ∷ [])
-    took_next o = took_read h _ (ap read_of (sym o) ∙ q)
+  pub took_next : i < n → {x f : ℕ} → some (record { number = x; next = f }) ≡ read_at t e → Took t at n (i + 1) f (ns ++ x ∷ [])
+  took_next h {x} {f} q = took_read h (record { number = x; next = f }) q
 
-    pub took_stop : f ≡ Nothing → false ≡ line_ok n at t
-    took_stop o = fields_stop h w.left (ap read_of (sym o) ∙ q)
+  pub took_stop : i < n → none ≡ read_at t e → false ≡ line_ok n at t
+  took_stop h q = fields_stop h w.left q
 
   pub took_end : n ≤ i → is_some (after_line_end (drop e t)) ≡ line_ok n at t
   took_end h = fields_end h w.left
+
+-- the same of an array that they are stored in
+pub took_set : {t : List ℕ} {at n i e : ℕ} (l : List ℕ) → Took t at n i e (take i l) → length l ≡ n → i < n → {x f : ℕ} → some (record { number = x; next = f }) ≡ read_at t e
+    → Took t at n (i + 1) f (take (i + 1) (set l i x))
+took_set {t} {at} {n} {i} {e} l w z h {x} {f} q = subst (Took t at n (i + 1) f) (sym (take_more_set l i x (omega arith))) (took_next w h q)
+
+-- the line is there, with these numbers
+pub took_line : {t : List ℕ} {at n i e : ℕ} (l : List ℕ) → Took t at n i e (take i l) → length l ≡ n → n ≤ i → is_some (after_line_end (drop e t)) ≡ true → Ok l ≡ line_found n at t
+took_line {t} {at} {n} {i} {e} l w z h q =
+    let k : i ≡ n = omega (arith, w.left.left) in
+    let v : l ≡ column_at 11 at n t = sym (take_all i l (omega arith)) ∙ w.values ∙ ap (λ (j : ℕ). column_at 11 at j t) k in
+    rw (sym (took_end w h) ∙ q) (ap Ok v)

@@ -1,11 +1,11 @@
 -- A column of numbers stored one after the other. Assumes nothing.
 use Prim.Native.Nat.{ℕ, zero, suc, ◌+◌, ◌-◌, ◌*◌, ◌≤◌, ◌<◌}
 use mathlib.Core.Path.{◌≡◌, refl, sym, ap, ap₂, ◌∙◌, subst}
-use mathlib.Core.List.{List, [], ◌∷◌, ◌++◌}
+use mathlib.Core.List.{List, [], ◌∷◌, ◌++◌, append-nil}
 use native.Mathlib.Omega.{arith}
 use native.Mathlib.Numerals.{add-one}
-use lib.ListN.{length, get_or, drop, set, length-set}
-use lib.Seq.{drop-cons, set_at, append_snoc}
+use lib.ListN.{length, get_or, take, drop, set, drop_of_length-le}
+use lib.Seq.{length-take-le, drop-cons, set_at, append_snoc}
 use Rattle.fields.specs.Reading.{field_ok, value_at}
 use Rattle.lines.specs.Lines.{column_at, column_ok, line_length, line_ok, lines_ok}
 use Rattle.model.proofs.Tests.{and_fst, and_snd, and_mk}
@@ -19,6 +19,12 @@ unfolding column_at
 length_column s at zero t = refl
 length_column s at (suc n) t = ap suc (length_column s (at + s) n t)
 
+pub get_or-column : (s at n : ℕ) (t : List ℕ) (j : ℕ) → j < n → get_or (column_at s at n t) j 0 ≡ value_at (at + s * j) t
+unfolding column_at
+get_or-column s at zero t j h = absurd (omega arith)
+get_or-column s at (suc n) t zero h = ap (λ (k : ℕ). value_at k t) (omega arith)
+get_or-column s at (suc n) t (suc j) h = get_or-column s (at + s) n t j (omega arith) ∙ ap (λ (k : ℕ). value_at k t) (omega arith)
+
 pub column_more : (s at n : ℕ) (t : List ℕ) → column_at s at (n + 1) t ≡ column_at s at n t ++ value_at (at + s * n) t ∷ []
 unfolding column_at
 column_more s at zero t = let z : at + s * 0 ≡ at = omega arith in rw z
@@ -29,49 +35,58 @@ column_more s at (suc n) t =
 
 -- Numbers stored one after the other.
 
-pub record Storing (t : List ℕ) (at : ℕ) (s₀ : List ℕ) (m : ℕ) (s : List ℕ) (i e : ℕ) : Type 0 where
-  pub left : i ≤ m
-  pub room : m ≤ length s₀
+pub record Storing (t : List ℕ) (at : ℕ) (s₀ s : List ℕ) (i e : ℕ) : Type 0 where
+  pub left : i ≤ length s₀
   pub at-line : e ≡ at + 34 * i
-  pub size : length s ≡ length s₀
   pub so_far : s ≡ column_at 34 at i t ++ drop i s₀
-  pub ahead : T (column_ok 34 e (m - i) t)
+  pub ahead : T (column_ok 34 e (length s₀ - i) t)
 
-pub store_start : (t : List ℕ) (at : ℕ) (s : List ℕ) (m : ℕ) → m ≤ length s → T (column_ok 34 at m t) → Storing t at s m s 0 at
+pub store_start : (t : List ℕ) (at : ℕ) (s : List ℕ) → T (column_ok 34 at (length s) t) → Storing t at s s 0 at
 unfolding column_at
-store_start t at s m h k = let z : m - 0 ≡ m = omega arith in record { left = omega arith; room = h; at-line = omega arith; size = refl; so_far = refl; ahead = rw z k }
+store_start t at s k = let z : length s - 0 ≡ length s = omega arith in record { left = omega arith; at-line = omega arith; so_far = refl; ahead = rw z k }
 
--- the next field, and those behind it
-next_fields : {t : List ℕ} {at : ℕ} {s₀ : List ℕ} {m : ℕ} {s : List ℕ} {i e : ℕ} → i < m → Storing t at s₀ m s i e → T (field_ok e t && column_ok 34 (e + 34) (m - (i + 1)) t)
-unfolding column_ok
-next_fields {t} {at} {s₀} {m} {s} {i} {e} h w =
-    let z : m - i ≡ suc (m - (i + 1)) = omega arith in
-    subst (λ (k : ℕ). T (column_ok 34 e k t)) z w.ahead
+module _ {t : List ℕ} {at : ℕ} {s₀ s : List ℕ} {i e : ℕ} (w : Storing t at s₀ s i e) where
+  module _ (h : i < length s₀) where
+    -- the next field, and those behind it
+    next_fields : T (field_ok e t && column_ok 34 (e + 34) (length s₀ - (i + 1)) t)
+    unfolding column_ok
+    next_fields =
+        let z : length s₀ - i ≡ suc (length s₀ - (i + 1)) = omega arith in
+        subst (λ (k : ℕ). T (column_ok 34 e k t)) z w.ahead
 
-pub store_field : {t : List ℕ} {at : ℕ} {s₀ : List ℕ} {m : ℕ} {s : List ℕ} {i e : ℕ} → i < m → Storing t at s₀ m s i e → T (field_ok e t)
-store_field {t} {at} {s₀} {m} {s} {i} {e} h w = and_fst (field_ok e t) (column_ok 34 (e + 34) (m - (i + 1)) t) (next_fields h w)
+    pub store_field : T (field_ok e t)
+    store_field = and_fst (field_ok e t) (column_ok 34 (e + 34) (length s₀ - (i + 1)) t) next_fields
 
-pub store_next : {t : List ℕ} {at : ℕ} {s₀ : List ℕ} {m : ℕ} {s : List ℕ} {i e x : ℕ} → i < m → Storing t at s₀ m s i e → x ≡ value_at e t → Storing t at s₀ m (set s i x) (i + 1) (e + 34)
-store_next {t} {at} {s₀} {m} {s} {i} {e} {x} h w q =
-    let l : List ℕ = column_at 34 at i t in
-    record {
-      left = omega arith;
-      room = w.room;
-      at-line = omega (arith, w.at-line);
-      size = length-set s i x ∙ w.size;
-      so_far =
-          ap (λ (r : List ℕ). set r i x) (w.so_far ∙ ap (λ (r : List ℕ). l ++ r) (drop-cons s₀ i 0 (omega (arith, w.room))))
-          ∙ set_at l (get_or s₀ i 0) (drop (suc i) s₀) x i (length_column 34 at i t)
-          ∙ sym (append_snoc l x (drop (suc i) s₀))
-          ∙ ap₂ (λ (a : ℕ) (k : ℕ). (l ++ a ∷ []) ++ drop k s₀) (q ∙ ap (λ (k : ℕ). value_at k t) w.at-line) (sym (add-one i))
-          ∙ ap (λ (r : List ℕ). r ++ drop (i + 1) s₀) (sym (column_more 34 at i t));
-      ahead = and_snd (field_ok e t) (column_ok 34 (e + 34) (m - (i + 1)) t) (next_fields h w);
-    }
+    pub store_next : {x : ℕ} → x ≡ value_at e t → Storing t at s₀ (set s i x) (i + 1) (e + 34)
+    store_next {x} q =
+        let l : List ℕ = column_at 34 at i t in
+        record {
+          left = omega arith;
+          at-line = omega (arith, w.at-line);
+          so_far =
+              ap (λ (r : List ℕ). set r i x) (w.so_far ∙ ap (λ (r : List ℕ). l ++ r) (drop-cons s₀ i 0 h))
+              ∙ set_at l (get_or s₀ i 0) (drop (suc i) s₀) x i (length_column 34 at i t)
+              ∙ sym (append_snoc l x (drop (suc i) s₀))
+              ∙ ap₂ (λ (a : ℕ) (k : ℕ). (l ++ a ∷ []) ++ drop k s₀) (q ∙ ap (λ (k : ℕ). value_at k t) w.at-line) (sym (add-one i))
+              ∙ ap (λ (r : List ℕ). r ++ drop (i + 1) s₀) (sym (column_more 34 at i t));
+          ahead = and_snd (field_ok e t) (column_ok 34 (e + 34) (length s₀ - (i + 1)) t) next_fields;
+        }
 
-pub store_end : {t : List ℕ} {at : ℕ} {s₀ : List ℕ} {m : ℕ} {s : List ℕ} {i e : ℕ} → m ≤ i → Storing t at s₀ m s i e → s ≡ column_at 34 at m t ++ drop m s₀
-store_end {t} {at} {s₀} {m} {s} {i} {e} h w =
-    let z : i ≡ m = omega (arith, w.left) in
-    w.so_far ∙ ap (λ (k : ℕ). column_at 34 at k t ++ drop k s₀) z
+  pub store_end : length s₀ ≤ i → s ≡ column_at 34 at (length s₀) t
+  store_end h =
+      let z : i ≡ length s₀ = omega (arith, w.left) in
+      w.so_far ∙ ap₂ (λ (k : ℕ) (r : List ℕ). column_at 34 at k t ++ r) z (drop_of_length-le s₀ (omega arith)) ∙ append-nil (column_at 34 at (length s₀) t)
+
+-- the same into the front of a slice
+module _ (t : List ℕ) (at m : ℕ) (s : List ℕ) (h : m ≤ length s) where
+  pub front_length : m ≡ length (take m s)
+  front_length = sym (length-take-le m s h)
+
+  pub front_ok : T (column_ok 34 at m t) → T (column_ok 34 at (length (take m s)) t)
+  front_ok k = rw (sym front_length) k
+
+  pub front_stored : (u : List ℕ) → u ≡ column_at 34 at (length (take m s)) t → u ++ drop m s ≡ column_at 34 at m t ++ drop m s
+  front_stored u e = ap (λ (l : List ℕ). l ++ drop m s) (e ∙ ap (λ (k : ℕ). column_at 34 at k t) (sym front_length))
 
 -- Number j of each of m good lines stands there.
 

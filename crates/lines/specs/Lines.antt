@@ -1,12 +1,14 @@
 -- Lines of numbers at a byte of a text.
-use Rattle.std.specs.Prelude.{ℕ, zero, suc, ◌+◌, ◌*◌, Bool, true, cond, ◌&&◌, List, [], ◌∷◌, drop}
+use Rattle.std.specs.Prelude.{ℕ, zero, suc, ◌+◌, ◌*◌, Bool, true, cond, ◌&&◌, List, [], ◌∷◌, drop, Result, Ok, Err}
+use Rattle.model.specs.declared.refusal.Refusal.{Refusal}
+use Rattle.model.specs.declared.refusal.Refusal.TheVariants.{Text}
 use Rattle.model.specs.Lists.{is_some}
 use Rattle.model.specs.Fields.{field_width, after_line_end}
 use Rattle.fields.specs.Reading.{field_ok, value_at}
 
 -- "each number is taken whole or the text is refused by 14"
-abbrev pub text_refusal : Bool → ℕ
-text_refusal good = cond good 0 14
+abbrev pub text_checked : Bool → Result (Unit {0}) Refusal
+text_checked good = cond good (Ok tt) (Err Text)
 
 -- n numbers, each a stride after the one before; do they all stand there?
 unfoldable pub column_at : ℕ → ℕ → ℕ → List ℕ → List ℕ
@@ -25,6 +27,10 @@ line_length n = field_width * n + 1
 unfoldable pub line_ok : ℕ → ℕ → List ℕ → Bool
 line_ok zero at t = is_some (after_line_end (drop at t))
 line_ok (suc n) at t = field_ok at t && line_ok n (at + field_width) t
+
+-- its numbers
+abbrev pub line_found : ℕ → ℕ → List ℕ → Result (List ℕ) Refusal
+line_found n at t = cond (line_ok n at t) (Ok (column_at field_width at n t)) (Err Text)
 
 unfoldable pub lines_ok : ℕ → ℕ → ℕ → List ℕ → Bool
 lines_ok n zero at t = true

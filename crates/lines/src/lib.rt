@@ -1,17 +1,16 @@
-// Lines of numbers in a text (01: book and program): judged, taken column by column, and written.
+// Lines of numbers in a text (01: book and program): checked, taken column by column, and written.
 #![tactic(auto)]
 
-ghost use Rattle.std.specs.Prelude.{◌≡◌, ◌+◌, ◌*◌, ◌≤◌, ◌<◌, [], ◌∷◌, ◌++◌, length, drop, T};
+ghost use Rattle.std.specs.Prelude.{◌≡◌, ◌+◌, ◌*◌, ◌≤◌, ◌<◌, length, drop, T};
 ghost use Rattle.model.specs.Bounds.{most_slots};
 ghost use Rattle.model.specs.Lists.{is_some};
 ghost use Rattle.model.specs.Fields.{line, after_line_end};
 ghost use Rattle.fields.specs.Writing.{placed};
-ghost use Rattle.lines.specs.Lines.{text_refusal, column_at, column_ok, line_ok, lines_ok};
+ghost use Rattle.lines.specs.Lines.{text_checked, line_found, column_at, column_ok, line_length, line_ok, lines_ok};
 
-use fields::{Field, WIDTH};
+use fields::WIDTH;
+use model::Refusal;
 
-// The refusal of a text (01: 14).
-pub const NOT_A_TEXT: u32 = 14;
 // The bytes of a line of one number, of two and of three.
 pub const ONE: usize = WIDTH + 1;
 
@@ -23,89 +22,62 @@ pub const THREE: usize = 3 * WIDTH + 1;
 pub fn ends(text: &[u8], at: usize) -> bool
     ensures { result ≡ is_some (after_line_end (drop at text.now)) }
 {
-    if at < text.len() {
-        return text[at] == b'\n';
-    }
-    false
+    text.get(at) == Some(&b'\n')
 }
 
-// The refusal of a text that has no line of n numbers at a byte.
-pub fn judge_line(text: &[u8], at: usize, n: usize) -> u32
-    ensures { result ≡ text_refusal (line_ok n at text.now) }
+// The N numbers of a line at a byte (01: 14).
+pub fn line_at<const N: usize>(text: &[u8], at: usize) -> Result<[u32; N], Refusal>
+    ensures { result ≡ line_found N at text.now }
 {
-    let mut i = 0;
+    let mut numbers = [0u32; N];
     let mut e = at;
-    while i < n {
-        let f = fields::number_at(text, e);
-        let Field::Number { number: _, next: p } = f else {
-            return NOT_A_TEXT;
+    for x in numbers.iter_mut() {
+        let Some((number, next)) = fields::number_at(text, e) else {
+            return Err(Refusal::Text);
         };
-        e = p;
-        i += 1;
+        *x = number;
+        e = next;
     }
     if !ends(text, e) {
-        return NOT_A_TEXT;
+        return Err(Refusal::Text);
     }
-    0
+    Ok(numbers)
 }
 
-// The refusal of a text that has no m such lines there.
-pub fn judge_lines(text: &[u8], at: usize, n: usize, m: usize) -> u32
-    requires { (at ≤ 1000000) × (n ≤ 5) × (m ≤ most_slots) }
-    ensures { result ≡ text_refusal (lines_ok n m at text.now) }
+// Whether m such lines stand there.
+pub fn check_lines<const N: usize>(text: &[u8], at: usize, m: usize) -> Result<(), Refusal>
+    requires { (at ≤ 1000000) × (N ≤ 5) × (m ≤ most_slots) }
+    ensures { result ≡ text_checked (lines_ok N m at text.now) }
 {
-    let stride = WIDTH * n + 1;
-    let mut i = 0;
     let mut e = at;
-    while i < m {
-        let r = judge_line(text, e, n);
-        if r != 0 {
-            return r;
-        }
-        e += stride;
-        i += 1;
+    for i in 0..m {
+        line_at::<N>(text, e)?;
+        e += WIDTH * N + 1;
     }
-    0
+    Ok(())
 }
 
-// One number of each of m lines of three, from a byte on, into the first m slots. The lines have been judged.
-pub fn store(text: &[u8], at: usize, s: &mut [u32], m: usize)
-    requires { (at ≤ 1000000) × (m ≤ most_slots) × (m ≤ length s.old) × T (column_ok 34 at m text.now) }
-    ensures { s.new ≡ column_at 34 at m text.now ++ drop m s.old }
+// One number of each of as many lines of three as there are slots, from a byte on. The lines have been checked.
+pub fn store(text: &[u8], at: usize, s: &mut [u32])
+    requires { (at ≤ 1000000) × (length s.old ≤ most_slots) × T (column_ok 34 at (length s.old) text.now) }
+    ensures { s.new ≡ column_at 34 at (length s.old) text.now }
 {
-    let mut i = 0;
     let mut e = at;
-    while i < m {
-        s[i] = fields::spelled_at(text, e);
+    for x in s.iter_mut() {
+        *x = fields::spelled_at(text, e);
         e += THREE;
-        i += 1;
     }
 }
 
-// A line of one number at a byte.
-pub fn put_one(text: &mut [u8], at: usize, a: u32)
-    requires { at + 12 ≤ length text.old }
-    ensures { text.new ≡ placed at (line (a ∷ [])) text.old }
+// A line of numbers at a byte.
+pub fn put_line(text: &mut [u8], at: usize, numbers: &[u32])
+    requires { at + line_length (length numbers.now) ≤ length text.old }
+    ensures { text.new ≡ placed at (line numbers.now) text.old }
 {
-    fields::put_number(text, at, a);
-    let e = at + WIDTH;
+    let mut e = at;
+    for &n in numbers {
+        fields::put_number(text, e, n);
+        e += WIDTH;
+    }
     text[e] = b'\n';
-}
-
-// A line of two numbers at a byte.
-pub fn put_two(text: &mut [u8], at: usize, a: u32, b: u32)
-    requires { at + 23 ≤ length text.old }
-    ensures { text.new ≡ placed at (line (a ∷ b ∷ [])) text.old }
-{
-    fields::put_number(text, at, a);
-    put_one(text, at + WIDTH, b);
-}
-
-// A line of three numbers at a byte.
-pub fn put_three(text: &mut [u8], at: usize, a: u32, b: u32, c: u32)
-    requires { at + 34 ≤ length text.old }
-    ensures { text.new ≡ placed at (line (a ∷ b ∷ c ∷ [])) text.old }
-{
-    fields::put_number(text, at, a);
-    put_two(text, at + WIDTH, b, c);
 }

@@ -65,6 +65,7 @@ struct EveryDay;
 impl Days for EveryDay {
     ghost span_asked = { λ days. every_day };
 
+    #[inline(always)]
     fn total(self, r: Records, lo: u32, hi: u32) -> Totals {
         slices::total_stride(r, lo, hi)
     }
@@ -73,12 +74,14 @@ impl Days for EveryDay {
 impl Days for DaySpan {
     ghost span_asked = { λ days. span_given days };
 
+    #[inline(always)]
     fn total(self, r: Records, lo: u32, hi: u32) -> Totals {
         slices::total_stride_days(r, lo, hi, self)
     }
 }
 
-// Records judged, counted and added while they are at hand; nothing where one fails check 8 or 19.
+// Records judged, counted and added while they are at hand; nothing where one fails check 8 or 19. Inlined, so that a stride's length is known.
+#[inline(always)]
 fn sum_stride<D: Days>(r: Records, lo: u32, hi: u32, days: D) -> Option<Totals>
     ensures { result ≡ if_fit (rows (records_given r.entry)) (totals_during lo hi (D.span_asked days) (rows (records_given r.entry))) }
 {
@@ -167,7 +170,8 @@ pub fn failed_check(r: Records, lens: &[u32], from: usize, to: usize, start: usi
 }
 
 // A search goes on to more records, which i records are before; found is the first match among those, or i. They are judged while they are at
-// hand, those after the match too.
+// hand, those after the match too. Inlined, so that a stride's length is known.
+#[inline(always)]
 fn seek_stride(found: usize, r: Records, i: usize, d: Delivery) -> Option<usize>
     requires { i ≤ most_slots }
     ensures { result ≡ if_fit (rows (records_given r.entry)) (sought d found i (rows (records_given r.entry))) }

@@ -27,7 +27,7 @@ fn refused(n: u32) -> Output
     ensures { result ≡ output_of (refusal_text n) }
 {
     let mut bytes = [0u8; OUTPUT];
-    lines::put_one(&mut bytes, 0, n);
+    lines::put_line(&mut bytes, 0, &[n]);
     Output { bytes, count: ONE }
 }
 
@@ -39,18 +39,17 @@ pub fn settlement_text(text: &[u8]) -> Output
     let mut weights = [0u32; SLOTS];
     let mut yields = [0u32; SLOTS];
     let mut days = [0u32; SLOTS];
-    let a = snapshot::read(
+    let read = snapshot::read(
         text,
         &mut growers[..],
         &mut weights[..],
         &mut yields[..],
         &mut days[..],
     );
-    let n = a.refusal;
-    if n != 0 {
-        return refused(n);
-    }
-    let directory = a.directory;
+    let directory = match read {
+        Ok(directory) => directory,
+        Err(refusal) => return refused(refusal.number()),
+    };
     let mut bytes = [0u8; OUTPUT];
     let mut order = [0u32; SLOTS];
     let mut work = [0u32; SLOTS];

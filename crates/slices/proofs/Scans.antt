@@ -5,7 +5,7 @@ use mathlib.Core.Bool.{Bool, true, false, cond, ◌&&◌}
 use mathlib.Core.List.{List, [], ◌∷◌, map}
 use native.Mathlib.Omega.{arith}
 use native.Mathlib.Nat.{mul-le-mul}
-use borrow.Author.Tests.{le-leb, leb-true}
+use borrow.Author.Tests.{ne_eqb, le-leb, leb-true}
 use lib.Dec.{T, leb, eqb}
 use native.Mathlib.Numerals.{add-one}
 use lib.ListN.{length, get_or, drop, drop_of_length-le}
@@ -89,15 +89,24 @@ module _ (f : Delivery → Bool) (s : Slices) (m : Measured s) (records weight o
         pressed = omega (arith, ap oil_of e, t.pressed);
       }
 
--- the bounds after a record that counts, and after one that doesn't
-module _ (s : Slices) (m : Measured s) (records weight oil i : ℕ) (b : Bounded records weight oil i) where
-  pub bounded_take : Bounded (records + 1) (weight + get_or s.weights i 0) (oil + get_or s.weights i 0 * get_or s.yields i 0) (i + 1)
-  bounded_take =
-      let o = modest s i m in
-      record { few = omega (arith, b.few); light = omega (arith, b.light, o.weight); little = omega (arith, b.little, o.oil) }
+  -- after a record that counts if t
+  pub running_by : (t : Bool) → f (row_at s i) ≡ t → (x y z : ℕ) → x ≡ cond t 1 0 → y ≡ cond t (get_or s.weights i 0) 0 → z ≡ cond t (get_or s.weights i 0 * get_or s.yields i 0) 0
+      → Running f s (records + x) (weight + y) (oil + z) (i + 1)
+  running_by true e x y z p q r = rw (p, q, r) (running_take e)
+  running_by false e x y z p q r =
+      let a : records + 0 ≡ records = omega arith in
+      let b : weight + 0 ≡ weight = omega arith in
+      let c : oil + 0 ≡ oil = omega arith in
+      rw (p, q, r, a, b, c) (running_pass e)
 
-  pub bounded_pass : Bounded records weight oil (i + 1)
-  bounded_pass = record { few = omega (arith, b.few); light = omega (arith, b.light); little = omega (arith, b.little) }
+-- the bounds after a record that counts if t
+module _ (s : Slices) (m : Measured s) (records weight oil i : ℕ) (b : Bounded records weight oil i) where
+  pub bounded_by : (t : Bool) (x y z : ℕ) → x ≡ cond t 1 0 → y ≡ cond t (get_or s.weights i 0) 0 → z ≡ cond t (get_or s.weights i 0 * get_or s.yields i 0) 0
+      → Bounded (records + x) (weight + y) (oil + z) (i + 1)
+  bounded_by true x y z p q r =
+      let o = modest s i m in
+      record { few = omega (arith, b.few, p); light = omega (arith, b.light, o.weight, q); little = omega (arith, b.little, o.oil, r) }
+  bounded_by false x y z p q r = record { few = omega (arith, b.few, p); light = omega (arith, b.light, q); little = omega (arith, b.little, r) }
 
 rest_end : (f : Delivery → Bool) (s : Slices) (i : ℕ) → length s.growers ≤ i → rest f s i ≡ []
 unfolding rest zipped keep
@@ -176,6 +185,9 @@ keep_any (d ∷ l) = ap (λ (t : List Delivery). d ∷ t) (keep_any l)
 pub same_is : (a b : Delivery) → same a b ≡ eqb a.grower b.grower && (eqb a.weight b.weight && (eqb a.oil_yield b.oil_yield && eqb a.day b.day))
 same_is a b = and_both (eqb a.grower b.grower && eqb a.weight b.weight) (eqb a.oil_yield b.oil_yield) (eqb a.day b.day)
     ∙ and_both (eqb a.grower b.grower) (eqb a.weight b.weight) (eqb a.oil_yield b.oil_yield && eqb a.day b.day)
+
+pub other_grower : (a b : Delivery) → (a.grower ≡ b.grower → ⊥) → same a b ≡ false
+other_grower a b h = rw (ne_eqb a.grower b.grower h)
 
 -- none before i is
 pub record Searched (d : Delivery) (s : Slices) (i : ℕ) : Type 0 where

@@ -1,7 +1,7 @@
 // Loops over slices of numbers that several crates share. Each flag loop has one test and no early return, so that it is vectorised.
 #![tactic(auto)]
 
-ghost use Rattle.std.specs.Prelude.{◌≡◌, ℕ, Bool, true, false, ◌&&◌, ◌+◌, ◌≤◌, ◌<◌, length, replicate, MatchOption, T};
+ghost use Rattle.std.specs.Prelude.{◌≡◌, ℕ, Bool, cond, true, false, ◌&&◌, ◌+◌, ◌≤◌, ◌<◌, length, replicate, MatchOption, T};
 ghost use Rattle.model.specs.Bounds.{block_limit, most_slots};
 ghost use Rattle.model.specs.declared.Delivery.{Delivery};
 ghost use Rattle.model.specs.Lists.{sum_of, keep, rising, never_falls};
@@ -163,7 +163,7 @@ pub fn count_between(s: &[u32], lo: u32, hi: u32) -> usize
     requires { length s.now ≤ most_slots }
     ensures { result ≡ count_between lo hi s.now }
 {
-    counted(s, |x| lo <= x && x <= hi)
+    counted(s, |x| (lo <= x) & (x <= hi))
 }
 
 // How many growers are lo to hi, of a find and of a range.
@@ -190,7 +190,16 @@ fn record_at(r: Records, i: usize) -> Delivery
     }
 }
 
-// The records that pass a test: how many, their weight and their oil.
+// A number of a record that is taken, and else 0.
+fn if_taken(taken: bool, x: u64) -> u64
+    ensures { result ≡ cond taken x 0 }
+{
+    if taken { x } else { 0 }
+}
+
+// The records that pass a test: how many, their weight and their oil. Each sum has its own test, past which nothing is read, so that the pass is
+// vectorised.
+#[inline(always)]
 fn total_of<F: Fn(Delivery) -> bool>(r: Records, pass: F) -> Totals
     requires measured { Measured (records_given r) }
     requires callable { F.IsAlwaysCallable pass }
@@ -203,11 +212,10 @@ fn total_of<F: Fn(Delivery) -> bool>(r: Records, pass: F) -> Totals
         let d = record_at(r, i);
         let a = u64::from(d.weight);
         let c = a * u64::from(d.oil_yield);
-        if pass(d) {
-            records += 1;
-            weight += a;
-            oil += c;
-        }
+        let taken = pass(d);
+        records += if_taken(taken, 1);
+        weight += if_taken(taken, a);
+        oil += if_taken(taken, c);
     }
     Totals {
         records,
@@ -225,6 +233,7 @@ fn total_all(r: Records) -> Totals
 }
 
 // The records whose grower is lo to hi. Counting is cheaper than adding: where none is, or all are, no record is tested again.
+#[inline(always)]
 pub fn total_stride(r: Records, lo: u32, hi: u32) -> Totals
     requires { Measured (records_given r) }
     ensures { result ≡ totals_between lo hi (rows (records_given r.entry)) }
@@ -236,14 +245,14 @@ pub fn total_stride(r: Records, lo: u32, hi: u32) -> Totals
     if k == r.len() {
         return total_all(r);
     }
-    total_of(r, |d| lo <= d.grower && d.grower <= hi)
+    total_of(r, |d| (lo <= d.grower) & (d.grower <= hi))
 }
 
-// Whether a day is in the span.
+// Whether a day is in the span; both tests are made, as in each loop that is vectorised.
 fn is_in(days: DaySpan, day: u32) -> bool
     ensures { result ≡ is_in (span_given days) day }
 {
-    days.first <= day && day <= days.last
+    (days.first <= day) & (day <= days.last)
 }
 
 // The weight of each record whose day is in the span, and 0 for each other; how many those days have.
@@ -254,12 +263,10 @@ fn keep_weights(r: Records, days: DaySpan, kept: &mut [u32]) -> usize
 {
     let mut k: u32 = 0;
     for i in 0..r.len() {
-        if is_in(days, r.days[i]) {
-            kept[i] = r.weights[i];
-            k += 1;
-        } else {
-            kept[i] = 0;
-        }
+        let weight = r.weights[i];
+        let here = is_in(days, r.days[i]);
+        kept[i] = if here { weight } else { 0 };
+        k += u32::from(here);
     }
     k as usize
 }
@@ -287,6 +294,7 @@ fn total_days(r: Records, days: DaySpan) -> Totals
 
 // The records whose grower is lo to hi and whose day is in the span. Where no grower is, nothing is added; where a whole stride's are, only
 // the days are tested.
+#[inline(always)]
 pub fn total_stride_days(r: Records, lo: u32, hi: u32, days: DaySpan) -> Totals
     requires { Measured (records_given r) }
     ensures { result ≡ totals_during lo hi (span_given days) (rows (records_given r.entry)) }
@@ -300,7 +308,7 @@ pub fn total_stride_days(r: Records, lo: u32, hi: u32, days: DaySpan) -> Totals
     }
     total_of(
         r,
-        |d| lo <= d.grower && d.grower <= hi && is_in(days, d.day),
+        |d| (lo <= d.grower) & (d.grower <= hi) & is_in(days, d.day),
     )
 }
 
@@ -309,7 +317,8 @@ fn first_tested(r: Records, d: Delivery) -> usize
     ensures { result ≡ first_match d (rows (records_given r.entry)) }
 {
     for i in 0..r.len() {
-        if d == record_at(r, i) {
+        // the grower first: nearly every other record has another
+        if d.grower == r.growers[i] && d == record_at(r, i) {
             return i;
         }
     }
@@ -317,6 +326,7 @@ fn first_tested(r: Records, d: Delivery) -> usize
 }
 
 // The first record that is the delivery, or how many there are. Only where the delivery's grower is among them are the records tested.
+#[inline(always)]
 pub fn first_in_stride(r: Records, d: Delivery) -> usize
     ensures { result ≡ first_match d (rows (records_given r.entry)) }
 {

@@ -1,14 +1,17 @@
--- What each line says of the text that is judged, and what a turn of each loop shows: line 1, partition lines listed, delivery
+-- What each line says of the text that is checked, and what a turn of each loop shows: line 1, partition lines listed, delivery
 -- lines, partitions. Assumes nothing.
 use Prim.Native.Nat.{ℕ, suc, ◌+◌, ◌-◌, ◌*◌, ◌≤◌, ◌<◌}
 use mathlib.Core.Path.{◌≡◌, refl, sym, ap, ap₂, ◌∙◌}
-use mathlib.Core.Bool.{Bool, true, false, ◌&&◌}
+use mathlib.Core.Bool.{Bool, true, false, cond, ◌&&◌}
 use mathlib.Core.List.{List, [], ◌∷◌, ◌++◌}
 use native.Mathlib.Omega.{arith}
 use borrow.Author.Tests.{eq-eqb, ne_eqb, le-leb, lt-leb}
 use lib.Dec.{T}
 use lib.ListN.{length, get_or, drop, length-drop}
 use lib.Seq.{drop-length, drop-drop, length-take-le}
+use Rattle.std.specs.Prelude.{Result, Ok, Err}
+use Rattle.model.specs.declared.refusal.Refusal.{Refusal}
+use Rattle.model.specs.declared.refusal.Refusal.TheVariants.{Text}
 use Rattle.model.specs.Lists.{sum_of, rising}
 use Rattle.model.specs.Deliveries.{delivery, in_range}
 use Rattle.model.specs.Directory.{directory_size, partition_count, directory_of, directory_numbers}
@@ -18,61 +21,58 @@ use Rattle.model.proofs.ListLaws.{drop_next}
 use Rattle.directory.specs.Numbers.{Numbered, blank, with_partition}
 use Rattle.directory.proofs.Putting.{parts_put, put_none, blank_size, put_size, put_next, put_all}
 use Rattle.fields.specs.Reading.{value_at}
-use Rattle.lines.specs.Lines.{text_refusal, column_at, line_ok, lines_ok}
+use Rattle.lines.specs.Lines.{text_checked, line_found, column_at, line_ok, lines_ok}
 use Rattle.lines.proofs.Storing.{length_column, column_more}
 use Rattle.lines.proofs.Forms.{lines_cut}
-use Rattle.lines.proofs.Reading.{Judge}
+use Rattle.lines.proofs.Reading.{found_line, found_numbers, found_number, Judge}
 use Rattle.snapshot.specs.declared.Head.{Head}
-use Rattle.snapshot.specs.declared.Listed.{Listed}
-use Rattle.snapshot.specs.Texts.{header_at, head_ok, no_head, head_in, head_found, directory_at, not_listed, listed_in, low_of, high_of, row_ok, delivery_ok, deliveries_ok, parts_ok}
+use Rattle.snapshot.specs.Texts.{header_at, head_ok, head_in, head_found, directory_at, listed_in, low_of, high_of, row_ok, delivery_ok, deliveries_ok, parts_ok}
 use Rattle.snapshot.specs.Answers.{numbers_ok}
 
 -- Line 1.
 
 -- L is the block limit
-module _ (L : ℕ) (t : List ℕ) (x : Head) where
-  pub head_fails : false ≡ line_ok 3 0 t → x ≡ no_head → x ≡ head_found L t
-  unfolding head_found head_ok
-  head_fails e q = q ∙ rw (sym e)
+module _ (L : ℕ) (t : List ℕ) where
+  pub no_head : line_ok 3 0 t ≡ false → head_ok L t ≡ false
+  unfolding head_ok
+  no_head e = rw e
 
-  module _ (b m k : ℕ) (ok : line_ok 3 0 t ≡ true) (is : b ∷ m ∷ k ∷ [] ≡ column_at 11 0 3 t) where
-    header_is : record { block = b; used = m; count = k } ≡ header_at t
-    header_is = ap header_of is
+  module _ (ns : List ℕ) (f : Ok ns ≡ line_found 3 0 t) where
+    header_is : header_of ns ≡ header_at t
+    header_is = ap header_of (found_numbers 3 0 t ns f)
 
-    pub head_range : header_ok L (record { block = b; used = m; count = k }) ≡ false → x ≡ no_head → x ≡ head_found L t
-    unfolding head_found head_ok
-    head_range f q = q ∙ sym (rw (ok, ap (header_ok L) (sym header_is) ∙ f))
-
-    pub head_done : header_ok L (record { block = b; used = m; count = k }) ≡ true → x ≡ head_in (record { block = b; used = m; count = k }) → x ≡ head_found L t
-    unfolding head_found head_ok
-    head_done f q = q ∙ ap head_in header_is ∙ sym (rw (ok, ap (header_ok L) (sym header_is) ∙ f))
+    -- the range decides
+    pub head_said : (b : Bool) → b ≡ header_ok L (header_of ns) → cond b (Ok (head_in (header_of ns))) (Err Text) ≡ head_found L t
+    unfolding head_ok
+    head_said b e =
+        let q : b ≡ head_ok L t = e ∙ rw (found_line 3 0 t ns f) (ap (header_ok L) header_is) in
+        ap₂ (λ (b : Bool) (h : Head). cond b (Ok h) (Err Text)) q (ap head_in header_is)
 
 -- One delivery line.
 
 module _ (lo hi at : ℕ) (t : List ℕ) where
-  pub line_fails : false ≡ line_ok 3 at t → 14 ≡ text_refusal (delivery_ok lo hi at t)
+  pub no_delivery : line_ok 3 at t ≡ false → delivery_ok lo hi at t ≡ false
   unfolding delivery_ok
-  line_fails e = rw (sym e)
+  no_delivery e = rw e
 
-  module _ (g w y : ℕ) (ok : line_ok 3 at t ≡ true) (is : g ∷ w ∷ y ∷ [] ≡ column_at 11 at 3 t) where
-    row_is : (b : Bool) → row_ok lo hi (g ∷ w ∷ y ∷ []) ≡ b → text_refusal b ≡ text_refusal (delivery_ok lo hi at t)
+  module _ (ns : List ℕ) (f : Ok ns ≡ line_found 3 at t) where
+    abbrev g : ℕ
+    g = get_or ns 0 0
+
+    row_is : (b : Bool) → row_ok lo hi ns ≡ b → text_checked b ≡ text_checked (delivery_ok lo hi at t)
     unfolding delivery_ok
     row_is b e =
-        let d : delivery_ok lo hi at t ≡ b = rw (ok, sym is) e in
-        ap text_refusal (sym d)
+        let d : delivery_ok lo hi at t ≡ b = rw (found_line 3 at t ns f, sym (found_numbers 3 at t ns f)) e in
+        ap text_checked (sym d)
 
-    pub below_low : g < lo → 14 ≡ text_refusal (delivery_ok lo hi at t)
+    pub below_low : g < lo → Err Text ≡ text_checked (delivery_ok lo hi at t)
     below_low h = row_is false (rw (lt-leb lo g h))
 
-    module _ (l : lo ≤ g) where
-      pub above_high : hi < g → 14 ≡ text_refusal (delivery_ok lo hi at t)
-      above_high h = row_is false (rw (le-leb lo g l, lt-leb g hi h))
+    pub above_high : lo ≤ g → hi < g → Err Text ≡ text_checked (delivery_ok lo hi at t)
+    above_high l h = row_is false (rw (le-leb lo g l, lt-leb g hi h))
 
-      pub out_of_range : g ≤ hi → in_range (delivery g w y 0) ≡ false → 14 ≡ text_refusal (delivery_ok lo hi at t)
-      out_of_range u e = row_is false (rw (le-leb lo g l, le-leb g hi u) e)
-
-      pub delivery_good : g ≤ hi → in_range (delivery g w y 0) ≡ true → 0 ≡ text_refusal (delivery_ok lo hi at t)
-      delivery_good u e = row_is true (rw (le-leb lo g l, le-leb g hi u) e)
+    pub range_decides : lo ≤ g → g ≤ hi → (b : Bool) → b ≡ in_range (delivery g (get_or ns 1 0) (get_or ns 2 0) 0) → text_checked b ≡ text_checked (delivery_ok lo hi at t)
+    range_decides l u b e = row_is b (rw (le-leb lo g l, le-leb g hi u) (sym e))
 
 -- Delivery lines one after the other.
 
@@ -136,19 +136,20 @@ module _ {L : ℕ} {t : List ℕ} {b k : ℕ} {d : List ℕ} {i e : ℕ} (w : Li
   lines_then j = lines_cut t 2 i (suc j) 34 ∙ rw w.lines (ap (λ (x : ℕ). line_ok 2 x t && lines_ok 2 j (x + 23) t) (sym w.at-line))
 
   module _ (h : i < k) where
-    pub list_stop : (x : Listed) → false ≡ line_ok 2 e t → x ≡ not_listed L → x ≡ listed_in L b k t
-    unfolding listed_in
-    list_stop x f q =
+    pub list_stop : line_ok 2 e t ≡ false → lines_ok 2 k 34 t ≡ false
+    list_stop f =
         let z : k ≡ i + suc (k - i - 1) = omega arith in
-        let o : lines_ok 2 k 34 t ≡ false = ap (λ (n : ℕ). lines_ok 2 n 34 t) z ∙ lines_then (k - i - 1) ∙ rw (sym f) in
-        q ∙ sym (rw o)
+        ap (λ (n : ℕ). lines_ok 2 n 34 t) z ∙ lines_then (k - i - 1) ∙ rw f
 
-    pub list_next : (n f : ℕ) (new : List ℕ) → line_ok 2 e t ≡ true → n ∷ f ∷ [] ≡ column_at 11 e 2 t → new ≡ with_partition L i n f d → Listing L t b k new (i + 1) (e + 23)
+    pub list_next : (ns new : List ℕ) → Ok ns ≡ line_found 2 e t → new ≡ with_partition L i (get_or ns 0 0) (get_or ns 1 0) d → Listing L t b k new (i + 1) (e + 23)
     unfolding column_at lines_ok
-    list_next n f new ok is r =
+    list_next ns new is r =
+        let n : ℕ = get_or ns 0 0 in
+        let f : ℕ = get_or ns 1 0 in
         let y : e + 11 ≡ 45 + 23 * i = omega (arith, w.at-line) in
-        let a : n ≡ value_at (34 + 23 * i) t = ap (λ (l : List ℕ). get_or l 0 0) is ∙ ap (λ (j : ℕ). value_at j t) w.at-line in
-        let c : f ≡ value_at (45 + 23 * i) t = ap (λ (l : List ℕ). get_or l 1 0) is ∙ ap (λ (j : ℕ). value_at j t) y in
+        let x : e + 0 ≡ 34 + 23 * i = omega (arith, w.at-line) in
+        let a : n ≡ value_at (34 + 23 * i) t = found_number 2 e t ns is 0 (omega arith) ∙ ap (λ (j : ℕ). value_at j t) x in
+        let c : f ≡ value_at (45 + 23 * i) t = found_number 2 e t ns is 1 (omega arith) ∙ ap (λ (j : ℕ). value_at j t) y in
         record {
           left = omega arith;
           few = w.few;
@@ -160,17 +161,16 @@ module _ {L : ℕ} {t : List ℕ} {b k : ℕ} {d : List ℕ} {i e : ℕ} (w : Li
               ∙ put_next L b k (column_at 23 34 i t) (column_at 23 45 i t) i n f (length_column 23 34 i t) (length_column 23 45 i t) (omega (arith, w.few))
               ∙ ap₂ (parts_put L b k) (ap (λ (v : ℕ). column_at 23 34 i t ++ v ∷ []) a ∙ sym (column_more 23 34 i t))
               (ap (λ (v : ℕ). column_at 23 45 i t ++ v ∷ []) c ∙ sym (column_more 23 45 i t));
-          lines = lines_then 0 ∙ rw ok;
+          lines = lines_then 0 ∙ rw (found_line 2 e t ns is);
         }
 
-  pub list_end : k ≤ i → (x : Listed) → x ≡ record { refusal = 0; numbers = d } → x ≡ listed_in L b k t
-  unfolding listed_in
-  list_end h x q =
+  pub list_end : k ≤ i → Ok d ≡ listed_in L b k t
+  list_end h =
       let z : i ≡ k = omega (arith, w.left) in
       let o : lines_ok 2 k 34 t ≡ true = ap (λ (n : ℕ). lines_ok 2 n 34 t) (sym z) ∙ w.lines in
       let n : d ≡ directory_numbers L (directory_at b k t)
       = w.so_far ∙ ap (λ (j : ℕ). parts_put L b k (column_at 23 34 j t) (column_at 23 45 j t)) z ∙ put_all L b k (column_at 23 34 k t) (column_at 23 45 k t) (length_column 23 34 k t) in
-      q ∙ ap (λ (l : List ℕ). record { refusal = 0; numbers = l }) n ∙ sym (rw o)
+      ap Ok n ∙ sym (rw o)
 
 -- The tests of a directory's numbers, one after the other.
 
@@ -193,11 +193,11 @@ module _ (L : ℕ) (t : List ℕ) (at : ℕ) (ns : List ℕ) (m : ℕ) where
   abbrev fences : List ℕ
   fences = (directory_of L ns).fences
 
-  pub not-rising : rising fences ≡ false → 14 ≡ text_refusal (numbers_ok L t at ns m)
+  pub not-rising : rising fences ≡ false → Err Text ≡ text_checked (numbers_ok L t at ns m)
   unfolding numbers_ok
   not-rising e = rw e
 
-  pub other_sum : rising fences ≡ true → (sum_of lens ≡ m → ⊥) → 14 ≡ text_refusal (numbers_ok L t at ns m)
+  pub other_sum : rising fences ≡ true → (sum_of lens ≡ m → ⊥) → Err Text ≡ text_checked (numbers_ok L t at ns m)
   unfolding numbers_ok
   other_sum e n = rw (e, ne_eqb (sum_of lens) m n)
 
@@ -206,6 +206,6 @@ module _ (L : ℕ) (t : List ℕ) (at : ℕ) (ns : List ℕ) (m : ℕ) where
     pub parts_asked : Numbered L ns → at + 34 * m ≤ length t → (length fs ≡ length ls) × T (rising fs) × (at + 34 * sum_of ls ≤ length t)
     parts_asked o h = rw (el, ef) (fences_many L ns o ∙ sym (lengths_many L ns o), of_true _ e, omega (arith, s))
 
-    pub same_sum : (n : ℕ) → n ≡ text_refusal (parts_ok fs 0 ls at t) → n ≡ text_refusal (numbers_ok L t at ns m)
+    pub same_sum : (r : Result (Unit {0}) Refusal) → r ≡ text_checked (parts_ok fs 0 ls at t) → r ≡ text_checked (numbers_ok L t at ns m)
     unfolding numbers_ok
     same_sum n g = g ∙ rw (e, eq-eqb (sum_of lens) m s, el, ef)

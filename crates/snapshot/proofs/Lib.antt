@@ -6,4 +6,3 @@ pub mod Sounding
 pub mod Putting
 pub mod ReadAnswers
 pub mod WriteAnswers
-pub mod CheckedRecords

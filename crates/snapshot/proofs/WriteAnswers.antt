@@ -1,5 +1,5 @@
 -- What writing checks, and what it answers. Assumes nothing.
-use Prim.Native.Nat.{ℕ, ◌+◌, ◌*◌, ◌≤◌, ◌<◌}
+use Prim.Native.Nat.{ℕ, ◌+◌, ◌-◌, ◌*◌, ◌≤◌, ◌<◌}
 use mathlib.Core.Path.{◌≡◌, refl, sym, ap, ap₂, ◌∙◌}
 use mathlib.Core.Bool.{Bool, true, false}
 use mathlib.Core.List.{List, [], ◌∷◌, ◌++◌, map}
@@ -9,6 +9,12 @@ use lib.Dec.{T, leb, leb→le}
 use lib.ListN.{length, take, drop, length-append}
 use lib.Seq.{length-take-le}
 use Rattle.model.specs.declared.Delivery.{Delivery}
+use Rattle.std.specs.Prelude.{Ok, Err}
+use Rattle.model.specs.declared.refusal.Refusal.{Refusal}
+use Rattle.model.specs.Refusals.{refusal_number}
+use Rattle.model.specs.Answers.{written_of}
+use Rattle.model.specs.Lent.{slices_part}
+use Rattle.model.proofs.Refusals.{refusal_some}
 use Rattle.model.specs.Lists.{sum_of, every, rising}
 use Rattle.model.specs.Checks.{ask, first_failed}
 use Rattle.model.specs.Deliveries.{Slices, rows, Even, each_slice, in_range, day_ok, no_day}
@@ -30,7 +36,7 @@ use Rattle.directory.proofs.LentColumns.{LentColumn, lent_column, count_lengths,
 use Rattle.fields.specs.Writing.{placed}
 use Rattle.fields.proofs.Placing.{placed_first, placed-joined}
 use Rattle.snapshot.specs.declared.Checked.{Checked}
-use Rattle.snapshot.specs.Answers.{not_checked, sound_checks, checked_column, checked_room, checked_of}
+use Rattle.snapshot.specs.Answers.{used_slices, not_checked, sound_checks, checked_column}
 use Rattle.snapshot.proofs.Putting.{rows_of, length_partitions, length-rows-of}
 
 -- L is the block limit
@@ -43,7 +49,7 @@ module _ (L : ℕ) (c : Column) where
 
   -- the used slots of each slice
   abbrev part : Slices
-  part = each_slice (take used) c.slices
+  part = used_slices L c
 
   -- the text's lines
   abbrev head_line : List ℕ
@@ -83,10 +89,17 @@ module _ (L : ℕ) (c : Column) where
         ∙ every-rows part parts_even
         ∙ ap (every in_range) (sym records_are))
 
+    -- the same of the records of the used slots
+    pub values_of : (b : Bool) (s : Slices) → s ≡ part → b ≡ all_values_ok s.weights s.yields → every in_range (all_records L c) ≡ b
+    values_of b s e q = values_there used b refl (q ∙ ap (λ (r : Slices). all_values_ok r.weights r.yields) e)
+
     -- check 19 of writing, and of a sheet
     pub undated_there : (m : ℕ) (r : Bool) → m ≡ used → r ≡ all_undated (take m c.slices.days) → every no_day (all_records L c) ≡ r
     undated_there m r u e =
         sym (e ∙ ap (λ (n : ℕ). all_undated (take n c.slices.days)) u ∙ every-undated-rows part parts_even ∙ ap (every no_day) (sym records_are))
+
+    pub undated_of : (b : Bool) (s : Slices) → s ≡ part → b ≡ all_undated s.days → every no_day (all_records L c) ≡ b
+    undated_of b s e q = undated_there used b refl (q ∙ ap (λ (r : Slices). all_undated r.days) e)
 
     pub days_there : (m : ℕ) (r : Bool) → m ≡ used → r ≡ all_days_ok (take m c.slices.days) → every day_ok (all_records L c) ≡ r
     days_there m r u e =
@@ -105,6 +118,14 @@ module _ (L : ℕ) (c : Column) where
 
     text_size : length (snapshot_text L c) ≡ 34 + 23 * count + 34 * used
     text_size = ap length text_is ∙ omega (arith, length-append (head_line ++ part_lines) row_lines, length-append head_line part_lines, head_size, parts_size, rows_size)
+
+-- records of the used slots are as many
+pub records_many : (L : ℕ) (c : Column) → LentColumn L c → (r : Slices) → r ≡ used_slices L c → length r.growers ≡ used L c
+records_many L c l r e = ap (λ (s : Slices). length s.growers) e ∙ part_length L c l c.slices.growers refl
+
+-- the used slots as the records cut them
+pub part_is : (L : ℕ) (c : Column) (m : ℕ) (s r : Slices) → m ≡ used L c → s ≡ c.slices → r ≡ slices_part 0 m s → r ≡ used_slices L c
+part_is L c m s r u e q = let z : m - 0 ≡ used L c = omega (arith, u) in q ∙ ap₂ (λ (k : ℕ) (x : Slices). each_slice (take k) x) z e
 
 -- The parts lent of its directory.
 
@@ -128,6 +149,9 @@ module _ (L : ℕ) (c : Column) where
       let f : first_failed (sound_checks L c) ≡ n = sym (e ∙ failed_first (lent_checks L c) _ (λ y. z (e ∙ y))) in
       q ∙ sym (rw (f, ne_eqb n 0 z))
 
+  pub lent_refused : (n : ℕ) → n ≡ first_failed (lent_checks L c) → (n ≡ 0 → ⊥) → n ≡ first_failed (sound_checks L c)
+  lent_refused n e z = e ∙ failed_first (lent_checks L c) _ (λ y. z (e ∙ y))
+
   module _ (p : first_failed (lent_checks L c) ≡ 0) where
     lent_passed : (directory_block_ok L c.directory ≡ true) × (slices_ok c.slices ≡ true) × (directory_ok L (length c.slices.growers) c.directory ≡ true)
     lent_passed =
@@ -139,6 +163,18 @@ module _ (L : ℕ) (c : Column) where
     pub checks_are : first_failed (sound_checks L c) ≡ first_failed (ask 6 (sound L c) ∷ ask 8 (every in_range (all_records L c)) ∷ [])
     unfolding first_failed
     checks_are = let l = lent_passed in rw (l.0, l.1, l.2)
+
+    pub shape_refused : sound L c ≡ false → 6 ≡ first_failed (sound_checks L c)
+    unfolding first_failed
+    shape_refused e = sym (checks_are ∙ rw e)
+
+    pub values_refused : sound L c ≡ true → every in_range (all_records L c) ≡ false → 8 ≡ first_failed (sound_checks L c)
+    unfolding first_failed
+    values_refused e v = sym (checks_are ∙ rw (e, v))
+
+    pub all_passed : sound L c ≡ true → every in_range (all_records L c) ≡ true → 0 ≡ first_failed (sound_checks L c)
+    unfolding first_failed
+    all_passed e v = sym (checks_are ∙ rw (e, v))
 
     pub check_sound : (x : Checked) → sound L c ≡ false → x ≡ not_checked 6 → x ≡ checked_column L c
     unfolding checked_column first_failed
@@ -176,70 +212,49 @@ module _ (L : ℕ) (c : Column) (x : Checked) (e : x ≡ checked_column L c) whe
       let g = yes_first 7 (every in_range (all_records L c)) [] f.1 in
       record { all = p; lent = lent_column L c b.0; is_sound = f.0; values = g.0; used_is = ap (λ (y : Checked). y.used) e ∙ rw p }
 
-  pub room_refused : (x.refusal ≡ 0 → ⊥) → (undated fits : Bool) → x ≡ checked_room L c undated fits
-  unfolding checked_room checked_column
-  room_refused z undated fits =
-      let n : ℕ = first_failed (sound_checks L c) in
-      let o : n ≡ 0 → ⊥ = λ y. z (refusal_there ∙ y) in
-      let f : first_failed (sound_checks L c ++ ask 19 undated ∷ ask 15 fits ∷ []) ≡ n = sym (failed_first (sound_checks L c) (ask 19 undated ∷ ask 15 fits ∷ []) o) in
-      e ∙ sym (rw f)
+-- Writing, past these.
 
-  module _ (n : x.refusal ≡ 0) where
-    pub days_refused : {undated : Bool} → undated ≡ false → (fits : Bool) (y : Checked) → y ≡ not_checked 19 → y ≡ checked_room L c undated fits
-    unfolding checked_room first_failed numbered
-    days_refused d fits y q =
-        let f : first_failed (sound_checks L c ++ ask 19 false ∷ ask 15 fits ∷ []) ≡ 19 = passed_first (sound_checks L c) (ask 19 false ∷ ask 15 fits ∷ []) tt (passed n).all in
-        q ∙ sym (rw (d, f))
+module _ (L : ℕ) (c : Column) (room : ℕ) where
+  pub column_refused : (n : ℕ) → n ≡ first_failed (sound_checks L c) → (n ≡ 0 → ⊥) → n ≡ first_failed (write_checks L c room)
+  unfolding write_checks
+  column_refused n e z = e ∙ failed_first (sound_checks L c) _ (λ y. z (e ∙ y))
 
-    module _ {undated : Bool} (d : undated ≡ true) where
-      pub room_short : {fits : Bool} → fits ≡ false → (y : Checked) → y ≡ not_checked 15 → y ≡ checked_room L c undated fits
-      unfolding checked_room first_failed numbered
-      room_short b y q =
-          let f : first_failed (sound_checks L c ++ ask 19 true ∷ ask 15 false ∷ []) ≡ 15 = passed_first (sound_checks L c) (ask 19 true ∷ ask 15 false ∷ []) tt (passed n).all in
-          q ∙ sym (rw (d, b, f))
+  module _ (p : first_failed (sound_checks L c) ≡ 0) where
+    pub lent_there : LentColumn L c
+    unfolding numbered
+    lent_there = lent_column L c (passed_both (lent_checks L c) (ask 6 (sound L c) ∷ ask 8 (every in_range (all_records L c)) ∷ []) tt p).0
 
-      pub room_enough : {fits : Bool} → fits ≡ true → x ≡ checked_room L c undated fits
-      unfolding checked_room checked_column first_failed numbered
-      room_enough b =
-          let f : first_failed (sound_checks L c ++ ask 19 true ∷ ask 15 true ∷ []) ≡ 0 = passed_first (sound_checks L c) (ask 19 true ∷ ask 15 true ∷ []) tt (passed n).all in
-          e ∙ sym (rw (d, b, f))
+    asked : first_failed (write_checks L c room) ≡ first_failed (ask 19 (every no_day (all_records L c)) ∷ ask 15 (leb (length (snapshot_text L c)) room) ∷ [])
+    unfolding write_checks numbered
+    asked = passed_first (sound_checks L c) (ask 19 (every no_day (all_records L c)) ∷ ask 15 (leb (length (snapshot_text L c)) room) ∷ []) tt p
 
--- The room of a text.
+    pub days_refused : every no_day (all_records L c) ≡ false → 19 ≡ first_failed (write_checks L c room)
+    unfolding first_failed
+    days_refused d = sym (asked ∙ rw d)
 
-module _ (L : ℕ) (c : Column) (room : ℕ) (l : LentColumn L c) where
-  pub text_long : room < 34 + 23 * count L c + 34 * used L c → leb (length (snapshot_text L c)) room ≡ false
-  text_long h = lt-leb (length (snapshot_text L c)) room (omega (arith, text_size L c l, h))
+    pub room_refused : every no_day (all_records L c) ≡ true → room < 34 + 23 * count L c + 34 * used L c → 15 ≡ first_failed (write_checks L c room)
+    unfolding first_failed
+    room_refused d h = sym (asked ∙ rw (d, lt-leb (length (snapshot_text L c)) room (omega (arith, text_size L c lent_there, h))))
 
-  pub text_fits : 34 + 23 * count L c + 34 * used L c ≤ room → leb (length (snapshot_text L c)) room ≡ true
-  text_fits h = le-leb (length (snapshot_text L c)) room (omega (arith, text_size L c l, h))
-
-pub checked_room_lem : (L : ℕ) (c : Column) (room : ℕ) → checked_room L c (every no_day (all_records L c)) (leb (length (snapshot_text L c)) room) ≡ checked_of L c room
-unfolding checked_room checked_of write_checks
-checked_room_lem L c room = refl
+    pub write_passed : every no_day (all_records L c) ≡ true → 34 + 23 * count L c + 34 * used L c ≤ room → 0 ≡ first_failed (write_checks L c room)
+    unfolding first_failed
+    write_passed d h = sym (asked ∙ rw (d, le-leb (length (snapshot_text L c)) room (omega (arith, text_size L c lent_there, h))))
 
 -- The answer.
 
-module _ (L : ℕ) (c : Column) (out : List ℕ) (x : Checked) (e : x ≡ checked_of L c (length out)) where
-  refusal_is : x.refusal ≡ first_failed (write_checks L c (length out))
-  unfolding checked_of
-  refusal_is = ap (λ (y : Checked). y.refusal) e
-
-  pub write_refused : (x.refusal ≡ 0 → ⊥) → ◌≡◌ {A = WriteResult} (record { answer = record { refusal = x.refusal; bytes = 0 }; text = out }) (write_call L c out)
+module _ (L : ℕ) (c : Column) (out : List ℕ) where
+  pub write_refused : (x : Refusal) → refusal_number x ≡ first_failed (write_checks L c (length out)) → ◌≡◌ {A = WriteResult} (record { answer = written_of (Err x); text = out }) (write_call L c out)
   unfolding write_call
-  write_refused n =
-      let f : first_failed (write_checks L c (length out)) ≡ x.refusal = sym refusal_is in
-      sym (rw (f, ne_eqb x.refusal 0 n))
+  write_refused x e = sym (rw (sym e, ne_eqb (refusal_number x) 0 (refusal_some x)))
 
   pub record CanWrite : Type 0 where
     pub passed : first_failed (write_checks L c (length out)) ≡ 0
     pub lent : LentColumn L c
-    pub used_is : x.used ≡ used L c
     pub room : 34 + 23 * count L c + 34 * used L c ≤ length out
 
-  pub can_write : x.refusal ≡ 0 → CanWrite
-  unfolding checked_of first_failed
-  can_write n =
-      let p : first_failed (write_checks L c (length out)) ≡ 0 = sym refusal_is ∙ n in
+  pub can_write : first_failed (write_checks L c (length out)) ≡ 0 → CanWrite
+  unfolding first_failed
+  can_write p =
       let w = writable L c (length out) p in
       let q : first_failed (lent_checks L c) ≡ 0
       = rw (
@@ -251,32 +266,31 @@ module _ (L : ℕ) (c : Column) (out : List ℕ) (x : Checked) (e : x ≡ checke
       record {
         passed = p;
         lent = l;
-        used_is = ap (λ (y : Checked). y.used) e ∙ rw p;
         room = omega (arith, leb→le (length (snapshot_text L c)) (length out) w.fits, text_size L c l);
       }
 
   -- the parts lent, and the text after each group of lines
-  module _ (w : CanWrite) (b k bytes : ℕ) (ls fs t₁ t₂ t₃ : List ℕ) where
-    pub write_done : b ≡ (directory_of L c.directory).block → k ≡ count L c → bytes ≡ 34 + 23 * k + 34 * x.used → ls ≡ lengths_of L c → fs ≡ fences_of L c
-        → t₁ ≡ placed 0 (line (b ∷ x.used ∷ k ∷ [])) out
+  module _ (w : CanWrite) (b m k bytes : ℕ) (r : Slices) (ls fs t₁ t₂ t₃ : List ℕ) where
+    pub write_done : b ≡ (directory_of L c.directory).block → m ≡ used L c → k ≡ count L c → bytes ≡ 34 + 23 * k + 34 * m → r ≡ used_slices L c → ls ≡ lengths_of L c → fs ≡ fences_of L c
+        → t₁ ≡ placed 0 (line (b ∷ m ∷ k ∷ [])) out
         → t₂ ≡ placed 34 (lines (partition_rows ls fs)) t₁
-        → t₃ ≡ placed (34 + 23 * k) (lines (rows_of (each_slice (take x.used) c.slices))) t₂
-        → ◌≡◌ {A = WriteResult} (record { answer = record { refusal = 0; bytes = bytes }; text = t₃ }) (write_call L c out)
-    write_done eb ek en el ef e₁ e₂ e₃ =
+        → t₃ ≡ placed (34 + 23 * k) (lines (rows_of r)) t₂
+        → ◌≡◌ {A = WriteResult} (record { answer = written_of (Ok bytes); text = t₃ }) (write_call L c out)
+    write_done eb em ek en er el ef e₁ e₂ e₃ =
         let l = w.lent in
         let h : List ℕ = head_line L c in
         let p : List ℕ = part_lines L c in
-        let r : List ℕ = row_lines L c in
+        let d : List ℕ = row_lines L c in
         let hs = head_size L c in
         let ps = parts_size L c l in
         let rs = rows_size L c l in
-        let f₁ : t₁ ≡ placed 0 h out = e₁ ∙ rw (eb, ek, w.used_is) in
+        let f₁ : t₁ ≡ placed 0 h out = e₁ ∙ rw (eb, ek, em) in
         let f₂ : t₂ ≡ placed 0 (h ++ p) out
         = e₂ ∙ ap₂ (λ (u v : List ℕ). placed 34 (lines (partition_rows u v)) t₁) el ef ∙ ap (placed 34 p) f₁ ∙ placed-joined 0 34 h p out (omega arith) (omega (arith, w.room)) in
-        let f₃ : t₃ ≡ placed 0 (h ++ p ++ r) out
-        = e₃ ∙ ap (λ (u : ℕ). placed (34 + 23 * k) (lines (rows_of (each_slice (take u) c.slices))) t₂) w.used_is ∙ ap (placed (34 + 23 * k) r) f₂
-        ∙ placed-joined 0 (34 + 23 * k) (h ++ p) r out (omega (arith, length-append h p)) (omega (arith, length-append h p, w.room)) in
+        let f₃ : t₃ ≡ placed 0 (h ++ p ++ d) out
+        = e₃ ∙ ap (λ (u : Slices). placed (34 + 23 * k) (lines (rows_of u)) t₂) er ∙ ap (placed (34 + 23 * k) d) f₂
+        ∙ placed-joined 0 (34 + 23 * k) (h ++ p) d out (omega (arith, length-append h p)) (omega (arith, length-append h p, w.room)) in
         let s : t₃ ≡ snapshot_text L c ++ drop (length (snapshot_text L c)) out
         = f₃ ∙ ap (λ (u : List ℕ). placed 0 u out) (sym (text_is L c l)) ∙ placed_first (snapshot_text L c) out in
-        let z : bytes ≡ length (snapshot_text L c) = omega (arith, text_size L c l, w.used_is) in
+        let z : bytes ≡ length (snapshot_text L c) = omega (arith, text_size L c l) in
         ap₂ (λ (u : ℕ) (v : List ℕ). record { answer = record { refusal = 0; bytes = u }; text = v }) z s ∙ sym (write_is L c out w.passed)

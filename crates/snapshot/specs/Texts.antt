@@ -1,24 +1,22 @@
 -- A text's line 1, its partition lines and its delivery lines, each number at the byte where it stands.
-use Rattle.std.specs.Prelude.{ℕ, zero, suc, ◌+◌, ◌-◌, ◌*◌, Bool, true, cond, ◌&&◌, List, [], ◌∷◌, length, get_or, leb, ltb, eqb}
+use Rattle.std.specs.Prelude.{ℕ, zero, suc, ◌+◌, ◌-◌, ◌*◌, Bool, true, cond, ◌&&◌, List, [], ◌∷◌, length, get_or, leb, ltb, eqb, Result, Ok, Err}
+use Rattle.model.specs.declared.refusal.Refusal.{Refusal}
+use Rattle.model.specs.declared.refusal.Refusal.TheVariants.{Text}
 use Rattle.model.specs.Bounds.{most_number}
 use Rattle.model.specs.Lists.{every}
 use Rattle.model.specs.Deliveries.{in_range}
-use Rattle.model.specs.Directory.{Directory, directory_numbers, no_directory}
+use Rattle.model.specs.Directory.{Directory, directory_numbers}
 use Rattle.model.specs.Fields.{nth}
 use Rattle.model.specs.Snapshot.{Header, header_ok, header_of, delivery_of}
 use Rattle.lines.specs.Lines.{column_at, line_ok, lines_ok}
 use Rattle.snapshot.specs.declared.Head.{Head}
-use Rattle.snapshot.specs.declared.Listed.{Listed}
 
 -- line 1: "three such numbers in range"
 abbrev pub header_at : List ℕ → Header
 header_at t = header_of (column_at 11 0 3 t)
 
-abbrev pub no_head : Head
-no_head = record { refusal = 14; block = 0; used = 0; count = 0 }
-
 abbrev pub head_in : Header → Head
-head_in h = record { refusal = 0; block = h.block; used = h.used; count = h.count }
+head_in h = record { block = h.block; used = h.used; count = h.count }
 
 -- k partition lines behind it: "length, fence"
 abbrev pub directory_at : ℕ → ℕ → List ℕ → Directory
@@ -29,14 +27,11 @@ module _ (L : ℕ) where
   unfoldable pub head_ok : List ℕ → Bool
   head_ok t = line_ok 3 0 t && header_ok L (header_at t)
 
-  unfoldable pub head_found : List ℕ → Head
-  head_found t = cond (head_ok t) (head_in (header_at t)) no_head
+  abbrev pub head_found : List ℕ → Result Head Refusal
+  head_found t = cond (head_ok t) (Ok (head_in (header_at t))) (Err Text)
 
-  abbrev pub not_listed : Listed
-  not_listed = record { refusal = 14; numbers = no_directory L }
-
-  unfoldable pub listed_in : ℕ → ℕ → List ℕ → Listed
-  listed_in b k t = cond (lines_ok 2 k 34 t) (record { refusal = 0; numbers = directory_numbers L (directory_at b k t) }) not_listed
+  abbrev pub listed_in : ℕ → ℕ → List ℕ → Result (List ℕ) Refusal
+  listed_in b k t = cond (lines_ok 2 k 34 t) (Ok (directory_numbers L (directory_at b k t))) (Err Text)
 
 -- a partition's growers: above the fence before it; up to its own, the last partition open above
 unfoldable pub low_of : List ℕ → ℕ → ℕ
