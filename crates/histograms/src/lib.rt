@@ -78,6 +78,7 @@ pub fn raise_one(h: &mut [u32], j: Histogram, a: usize) -> Result<(), Refusal>
 }
 
 // The counts of histogram j at block a and of the later histogram k at block b raised, or 10.
+// Not raise_one twice: both counts must have room before one is raised.
 pub fn raise_two(
     h: &mut [u32],
     j: Histogram,
