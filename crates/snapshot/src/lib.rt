@@ -20,7 +20,7 @@ ghost use Rattle.directory.specs.Numbers.{Numbered};
 ghost use Rattle.fields.specs.Writing.{placed};
 ghost use Rattle.lines.specs.Lines.{text_checked};
 ghost use Rattle.snapshot.specs.Texts.{head_found, listed_in, low_of, high_of, delivery_ok, deliveries_ok, parts_ok, all_from};
-ghost use Rattle.snapshot.specs.Answers.{numbers_ok, judged_of, read_out, used_slices, sound_checks, not_checked, checked_column};
+ghost use Rattle.snapshot.specs.Answers.{numbers_ok, judged_of, read_out, used_slices, sound_checks};
 
 use fields::WIDTH;
 use lines::{THREE, TWO};
@@ -331,46 +331,4 @@ pub fn write(directory: &[u32], slices: LentSlices<'_>, text: &mut [u8]) -> Resu
     );
     put_rows(text, start, records);
     Ok((start + THREE * used) as u64)
-}
-
-// What checking a column finds: a refusal, or how many deliveries there are.
-#[derive(Clone, Copy)]
-pub struct Checked {
-    pub refusal: u32,
-    pub used: usize,
-}
-
-pub fn not_checked(n: u32) -> Checked
-    ensures { result ≡ not_checked n }
-{
-    Checked {
-        refusal: n,
-        used: 0,
-    }
-}
-
-// The same checks with the refusal's number.
-pub fn check_column(directory: &[u32], g: &[u32], w: &[u32], y: &[u32], n: &[u32]) -> Checked
-    ensures { result ≡ checked_column block_limit (column_in directory g w y n) }
-{
-    let shape = directory::judged_slices(directory, g, w, y, n, 0);
-    let refusal = shape.refusal;
-    if refusal != 0 {
-        return not_checked(refusal);
-    }
-    let m = shape.used;
-    if !sound_ok(
-        g,
-        directory::lengths(directory),
-        directory::fences(directory),
-    ) {
-        return not_checked(6);
-    }
-    if !checks::values_ok(&w[..m], &y[..m]) {
-        return not_checked(8);
-    }
-    Checked {
-        refusal: 0,
-        used: m,
-    }
 }
