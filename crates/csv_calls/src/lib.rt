@@ -138,7 +138,12 @@ pub fn import(
     ensures { record { answer = imported_of result; slices = slices_out growers weights yields days }
         ≡ import_call text.now (slices_in_mut growers weights yields days) }
 {
-    if !checks::slices_ok(growers, weights, yields, days) {
+    if !checks::slices_ok(LentSlices {
+        growers,
+        weights,
+        yields,
+        days,
+    }) {
         return Err(Refusal::Slices);
     }
     let checked = check_text(text, growers.len())?;
