@@ -3,15 +3,14 @@
 #![tactic(auto)]
 
 ghost use Rattle.std.specs.Prelude.{◌≡◌, true, false, IfOk, IfErr};
-ghost use Rattle.model.specs.Calendar.{span};
 ghost use Rattle.model.specs.Deliveries.{in_range, day_ok};
-ghost use Rattle.model.specs.Lent.{slices_given, records_given};
+ghost use Rattle.model.specs.Lent.{slices_given, records_given, span_given};
 ghost use Rattle.model.specs.Calls.{span_ok};
 ghost use Rattle.model.specs.Blocks.{block_length_ok, slots_ok, slices_ok};
 ghost use Rattle.checks.specs.Values.{all_values_ok, all_days_ok, all_undated};
 
 use model::{
-    Delivery, LentSlices, MOST_BLOCK_LENGTH, MOST_DAY, MOST_SLOTS, MOST_WEIGHT,
+    DaySpan, Delivery, LentSlices, MOST_BLOCK_LENGTH, MOST_DAY, MOST_SLOTS, MOST_WEIGHT,
     MOST_YIELD, Records, Refusal,
 };
 
@@ -74,11 +73,11 @@ pub fn day_ok(d: Delivery) -> bool
     d.day <= MOST_DAY
 }
 
-// Check 19 of a first and a last day.
-pub fn span_ok(first: u32, last: u32) -> bool
-    ensures { result ≡ span_ok (span first last) }
+// Check 19 of the days named.
+pub fn span_ok(days: DaySpan) -> bool
+    ensures { result ≡ span_ok (span_given days) }
 {
-    first <= MOST_DAY && last <= MOST_DAY
+    days.first <= MOST_DAY && days.last <= MOST_DAY
 }
 
 // Check 19 of the records of a slice of days.
