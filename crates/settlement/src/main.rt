@@ -30,10 +30,7 @@ fn run<R: Read, W: Write>(reader: &mut R, writer: &mut W) -> Result<(), Failure>
     let mut input = [0u8; ROOM];
     let n = input::read_all(reader, &mut input).or(Err(Failure::Input))?;
     let out = settlement_text::settlement_text(&input[..n]);
-    let bytes = &out.bytes[..];
-    writer
-        .write_all(&bytes[..out.count])
-        .or(Err(Failure::Output))?;
+    writer.write_all(out.as_slice()).or(Err(Failure::Output))?;
     Ok(())
 }
 
