@@ -7,7 +7,7 @@ ghost use Rattle.model.specs.Bounds.{block_limit};
 ghost use Rattle.model.specs.Lists.{sum_of, rising};
 ghost use Rattle.model.specs.Deliveries.{rows};
 ghost use Rattle.model.specs.Column.{sound_growers};
-ghost use Rattle.model.specs.Lent.{column_in, slices_in_mut, records_given, column_given};
+ghost use Rattle.model.specs.Lent.{slices_in_mut, records_given, column_given};
 ghost use Rattle.model.specs.Fields.{lines};
 ghost use Rattle.model.specs.Snapshot.{header_ok, partition_rows, delivery_row};
 ghost use Rattle.model.specs.Refusals.{number_of};
@@ -268,10 +268,7 @@ fn sound_ok(g: &[u32], lens: &[u32], fences: &[u32]) -> bool
 }
 
 // Checks 2, 3, 6, 6 and 8 of a column that is to be written: the records of its used slots.
-pub fn checked_records<'a>(
-    directory: &[u32],
-    slices: LentSlices<'a>,
-) -> Result<Records<'a>, Refusal>
+pub fn check_column<'a>(directory: &[u32], slices: LentSlices<'a>) -> Result<Records<'a>, Refusal>
     ensures refused { number_of result ≡ first_failed (sound_checks block_limit (column_given directory.now slices.entry)) }
     ensures accepted { IfOk result (λ r. records_given r ≡ used_slices block_limit (column_given directory.now slices.entry)) }
 {
@@ -299,7 +296,7 @@ fn check_write<'a>(
     ensures refused { number_of result ≡ first_failed (write_checks block_limit (column_given directory.now slices.entry) room) }
     ensures accepted { IfOk result (λ r. records_given r ≡ used_slices block_limit (column_given directory.now slices.entry)) }
 {
-    let records = checked_records(directory, slices)?;
+    let records = check_column(directory, slices)?;
     if !checks::undated(records.days) {
         return Err(Refusal::Days);
     }

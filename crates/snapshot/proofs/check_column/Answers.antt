@@ -7,7 +7,7 @@ use Rattle.model.proofs.Refusals.{refusal_some}
 use Rattle.lines.proofs.Reading.{passed_on}
 use Rattle.directory.proofs.LentColumns.{lent_column, numbered}
 use Rattle.snapshot.proofs.WriteAnswers.{parts_lent, values_of, part_is, lent_refused, shape_refused, values_refused, all_passed}
-use Rattle.snapshot.proofs.checked_records.Goals as goal
+use Rattle.snapshot.proofs.check_column.Goals as goal
 
 pub returns-in_err-shape-clause-refused : goal.returns-in_err-shape-clause-refused
 returns-in_err-shape-clause-refused c =
