@@ -3,16 +3,14 @@ use Prim.Native.Nat.{ℕ, zero, suc, ◌≤◌, ◌<◌}
 use mathlib.Core.Path.{◌≡◌, refl, sym, ap, ◌∙◌}
 use mathlib.Core.Bool.{Bool, true, false, cond, ◌&&◌}
 use mathlib.Core.List.{List, [], ◌∷◌, ◌++◌, map}
-use borrow.Author.Tests.{lt-leb, le-leb, eq-eqb, ne_eqb}
+use borrow.Author.Tests.{lt-leb, le-leb, ne_eqb}
 use native.Mathlib.Omega.{arith}
 use native.Mathlib.Decide.{ℕ_discrete}
 use lib.Dec.{T, leb, eqb, leb→le}
-use lib.ListN.{length}
 use Rattle.model.specs.Lists.{every}
 use Rattle.model.specs.Checks.{Check, ask, first_failed}
 use Rattle.model.specs.declared.Delivery.{Delivery}
 use Rattle.model.specs.Deliveries.{day_of, Slices, rows, Even, in_range, day_ok, no_day}
-use Rattle.model.specs.Blocks.{slots_ok, slices_ok}
 use Rattle.model.proofs.Tests.{and_fst, and_snd}
 use Rattle.model.proofs.Deliveries.{slices_for_lem, values_rows, days_rows}
 use Rattle.slices.specs.Slices.{all_within}
@@ -77,27 +75,6 @@ passed_both as' bs n h = go (ℕ_discrete (first_failed as') 0)
     go : Dec (first_failed as' ≡ 0) → (first_failed as' ≡ 0) × (first_failed bs ≡ 0)
     go (yes e) = (e, sym (passed_first as' bs n e) ∙ h)
     go (no f) = absurd (f (failed_first as' bs f ∙ h))
-
--- Check 3 of the slices, test by test.
-module _ (s : Slices) where
-  pub slices_other_weights : (length s.weights ≡ length s.growers → ⊥) → false ≡ slices_ok s
-  unfolding slices_ok
-  slices_other_weights h = rw (ne_eqb (length s.weights) (length s.growers) h)
-
-  pub slices_other_yields : length s.weights ≡ length s.growers → (length s.yields ≡ length s.growers → ⊥) → false ≡ slices_ok s
-  unfolding slices_ok
-  slices_other_yields e h = rw (eq-eqb (length s.weights) (length s.growers) e, ne_eqb (length s.yields) (length s.growers) h)
-
-  module _ (e : length s.weights ≡ length s.growers) (f : length s.yields ≡ length s.growers) where
-    pub slices_other_days : (length s.days ≡ length s.growers → ⊥) → false ≡ slices_ok s
-    unfolding slices_ok
-    slices_other_days h =
-        rw (eq-eqb (length s.weights) (length s.growers) e, eq-eqb (length s.yields) (length s.growers) f, ne_eqb (length s.days) (length s.growers) h)
-
-    pub slices_even : length s.days ≡ length s.growers → slots_ok (length s.growers) ≡ slices_ok s
-    unfolding slices_ok
-    slices_even h =
-        rw (eq-eqb (length s.weights) (length s.growers) e, eq-eqb (length s.yields) (length s.growers) f, eq-eqb (length s.days) (length s.growers) h)
 
 -- Check 8: the rows are tested by their weights and their yields; check 19: by their days.
 

@@ -3,52 +3,37 @@
 #![tactic(auto)]
 
 ghost use Rattle.std.specs.Prelude.{◌≡◌, true, false, IfOk, IfErr};
-ghost use Rattle.model.specs.Calendar.{span};
 ghost use Rattle.model.specs.Deliveries.{in_range, day_ok};
-ghost use Rattle.model.specs.Lent.{slices_in, slices_given, records_given};
+ghost use Rattle.model.specs.Lent.{slices_given, records_given, span_given};
 ghost use Rattle.model.specs.Calls.{span_ok};
 ghost use Rattle.model.specs.Blocks.{block_length_ok, slots_ok, slices_ok};
 ghost use Rattle.checks.specs.Values.{all_values_ok, all_days_ok, all_undated};
 
 use model::{
-    Delivery, LentSlices, MOST_BLOCK_LENGTH, MOST_DAY, MOST_SLOTS, MOST_WEIGHT, MOST_YIELD,
-    Records, Refusal,
+    DaySpan, Delivery, LentSlices, MOST_BLOCK_LENGTH, MOST_DAY, MOST_SLOTS, MOST_WEIGHT,
+    MOST_YIELD, Records, Refusal,
 };
 
 // Check 2 of a block length.
 pub fn block_length_ok(b: u32) -> bool
     ensures { result ≡ block_length_ok b }
 {
-    if b < 1 {
-        return false;
-    }
-    b <= MOST_BLOCK_LENGTH
+    1 <= b && b <= MOST_BLOCK_LENGTH
 }
 
 // Check 3 of one slice's length.
 pub fn slots_ok(c: usize) -> bool
     ensures { result ≡ slots_ok c }
 {
-    if c < 1 {
-        return false;
-    }
-    c <= MOST_SLOTS
+    1 <= c && c <= MOST_SLOTS
 }
 
 // Check 3 of the slices.
-pub fn slices_ok(g: &[u32], w: &[u32], y: &[u32], n: &[u32]) -> bool
-    ensures { result ≡ slices_ok (slices_in g w y n) }
+pub fn slices_ok(slices: LentSlices) -> bool
+    ensures { result ≡ slices_ok (slices_given slices.entry) }
 {
-    if w.len() != g.len() {
-        return false;
-    }
-    if y.len() != g.len() {
-        return false;
-    }
-    if n.len() != g.len() {
-        return false;
-    }
-    slots_ok(g.len())
+    let c = slices.growers.len();
+    slices.weights.len() == c && slices.yields.len() == c && slices.days.len() == c && slots_ok(c)
 }
 
 // The records of slices that pass check 3.
@@ -56,7 +41,7 @@ pub fn records<'a>(slices: LentSlices<'a>) -> Result<Records<'a>, Refusal>
     ensures accepted { IfOk result (λ r. (slices_ok (slices_given slices.entry) ≡ true) × (records_given r ≡ slices_given slices.entry)) }
     ensures refused { IfErr result (λ e. (e ≡ Refusal.Slices) × (slices_ok (slices_given slices.entry) ≡ false)) }
 {
-    if !slices_ok(slices.growers, slices.weights, slices.yields, slices.days) {
+    if !slices_ok(slices) {
         return Err(Refusal::Slices);
     }
     Ok(Records {
@@ -71,20 +56,14 @@ pub fn records<'a>(slices: LentSlices<'a>) -> Result<Records<'a>, Refusal>
 pub fn in_range(d: Delivery) -> bool
     ensures { result ≡ in_range d }
 {
-    if MOST_WEIGHT < d.weight {
-        return false;
-    }
-    d.oil_yield <= MOST_YIELD
+    d.weight <= MOST_WEIGHT && d.oil_yield <= MOST_YIELD
 }
 
 // Check 8 of the records of two slices.
 pub fn values_ok(w: &[u32], y: &[u32]) -> bool
     ensures { result ≡ all_values_ok w.now y.now }
 {
-    if slices::within(w, MOST_WEIGHT) {
-        return slices::within(y, MOST_YIELD);
-    }
-    false
+    slices::within(w, MOST_WEIGHT) && slices::within(y, MOST_YIELD)
 }
 
 // Check 19 of one delivery.
@@ -94,14 +73,11 @@ pub fn day_ok(d: Delivery) -> bool
     d.day <= MOST_DAY
 }
 
-// Check 19 of a first and a last day.
-pub fn span_ok(first: u32, last: u32) -> bool
-    ensures { result ≡ span_ok (span first last) }
+// Check 19 of the days named.
+pub fn span_ok(days: DaySpan) -> bool
+    ensures { result ≡ span_ok (span_given days) }
 {
-    if MOST_DAY < first {
-        return false;
-    }
-    last <= MOST_DAY
+    days.first <= MOST_DAY && days.last <= MOST_DAY
 }
 
 // Check 19 of the records of a slice of days.

@@ -66,7 +66,7 @@ pub fn range_days(
     let Some(s) = scan::scan_parts(r, lens, from, to, shape.start, block, lo, hi, days) else {
         return Err(scan::failed_check(r, lens, from, to, shape.start).into());
     };
-    if !checks::span_ok(days.first, days.last) {
+    if !checks::span_ok(days) {
         return Err(Refusal::Days.into());
     }
     Ok(Report {

@@ -138,7 +138,12 @@ pub fn import(
     ensures { record { answer = imported_of result; slices = slices_out growers weights yields days }
         ≡ import_call text.now (slices_in_mut growers weights yields days) }
 {
-    if !checks::slices_ok(growers, weights, yields, days) {
+    if !checks::slices_ok(LentSlices {
+        growers,
+        weights,
+        yields,
+        days,
+    }) {
         return Err(Refusal::Slices);
     }
     let checked = check_text(text, growers.len())?;
@@ -165,14 +170,7 @@ fn check_export<'a>(used: u32, slices: LentSlices<'a>, room: usize) -> Result<Re
     if !checks::days_ok(records.days) {
         return Err(Refusal::Days);
     }
-    if room
-        < csv_lines::text_length(
-            records.growers,
-            records.weights,
-            records.yields,
-            records.days,
-        )
-    {
+    if room < csv_lines::text_length(records) {
         return Err(Refusal::Room);
     }
     Ok(records)
@@ -185,13 +183,6 @@ pub fn export(used: u32, slices: LentSlices, text: &mut [u8]) -> Result<u64, Ref
 {
     let records = check_export(used, slices, text.len())?;
     let start = csv_lines::put_header(text);
-    let end = csv_lines::put_rows(
-        text,
-        start,
-        records.growers,
-        records.weights,
-        records.yields,
-        records.days,
-    );
+    let end = csv_lines::put_rows(text, start, records);
     Ok(end as u64)
 }

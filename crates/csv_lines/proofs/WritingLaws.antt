@@ -1,5 +1,5 @@
 -- Digits written from the last one to the left: what is left, placed from here on, makes the whole. Assumes nothing.
-use Prim.Native.Nat.{ℕ, ◌+◌, ◌-◌, ◌/◌, ◌≤◌, ◌<◌}
+use Prim.Native.Nat.{ℕ, ◌+◌, ◌-◌, ◌/◌, ◌≤◌}
 use mathlib.Core.Path.{◌≡◌, refl, sym, ap, ap₂, ◌∙◌}
 use mathlib.Core.List.{List, [], ◌∷◌, ◌++◌, append_assoc}
 use native.Mathlib.Omega.{arith}
@@ -39,20 +39,20 @@ plain_start t at n i r h = record {
 }
 
 module _ {t : List ℕ} {at : ℕ} {whole text : List ℕ} {i m : ℕ} (l : DigitsLeft t at whole text i m) where
-  pub digits_next : 0 < i → DigitsLeft t at whole (set text (at + (i - 1)) (last_digit m)) (i - 1) (m / 10)
-  digits_next h =
-      let k : ℕ = at + (i - 1) in
+  pub digits_next : {i' j : ℕ} → i ≡ i' + 1 → j ≡ at + i' → DigitsLeft t at whole (set text j (last_digit m)) i' (m / 10)
+  digits_next {i'} {j} u v =
       let b : ℕ = last_digit m in
-      let ds : List ℕ = last_digits (i - 1) (m / 10) in
-      let n : length ds ≡ i - 1 = length_last (i - 1) (m / 10) in
+      let ds : List ℕ = last_digits i' (m / 10) in
+      let n : length ds ≡ i' = length_last i' (m / 10) in
       let r : at + i ≤ length text = omega (arith, l.size, l.room) in
+      let z : i - 1 ≡ i' = omega arith in
       record {
-        size = length-set text k b ∙ l.size;
+        size = length-set text j b ∙ l.size;
         room = omega (arith, l.room);
         work =
-            ap (placed at ds) (placed_one k b text (omega arith))
-            ∙ placed-before at k ds (b ∷ []) text (omega arith) (omega arith)
-            ∙ ap (λ (d : List ℕ). placed at d text) (sym (last_next i m h))
+            ap (placed at ds) (placed_one j b text (omega arith))
+            ∙ placed-before at j ds (b ∷ []) text (omega arith) (omega arith)
+            ∙ ap (λ (d : List ℕ). placed at d text) (ap (λ (k : ℕ). last_digits k (m / 10) ++ b ∷ []) (sym z) ∙ sym (last_next i m (omega arith)))
             ∙ l.work;
       }
 

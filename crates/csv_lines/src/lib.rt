@@ -3,13 +3,15 @@
 
 ghost use Rattle.std.specs.Prelude.{◌≡◌, ◌+◌, ◌≤◌, [], ◌∷◌, ◌++◌, length};
 ghost use Rattle.model.specs.Bounds.{most_slots};
-ghost use Rattle.model.specs.Deliveries.{delivery, rows, Even};
-ghost use Rattle.model.specs.Lent.{slices_at, slices_in};
+ghost use Rattle.model.specs.Deliveries.{delivery, rows};
+ghost use Rattle.model.specs.Lent.{records_given};
 ghost use Rattle.model.specs.Fields.{line_end};
 ghost use Rattle.model.specs.Csv.{carriage_return};
 ghost use Rattle.model.specs.Weighbridge.{plain_number, header_line, row_line, csv_text};
 ghost use Rattle.fields.specs.Writing.{Wrote};
 ghost use Rattle.csv_lines.specs.Writing.{CountIs, reached, digit_count, row_lines};
+
+use model::Records;
 
 // The bytes of the header line, and those of a line that are no digits.
 const HEADER: usize = 21;
@@ -20,10 +22,7 @@ const MARKS: usize = 4;
 fn reaches(n: u32, bound: u32) -> usize
     ensures { CountIs result (reached bound n) 1 }
 {
-    if bound <= n {
-        return 1;
-    }
-    0
+    usize::from(bound <= n)
 }
 
 // How many of three bounds a number reaches.
@@ -49,20 +48,21 @@ fn digits_total(s: &[u32]) -> usize
     ensures { CountIs result (digit_count s.now) 2621440 }
 {
     let mut total = 0;
-    let mut i = 0;
-    while i < s.len() {
-        total += plain_length(s[i]);
-        i += 1;
+    for &n in s {
+        total += plain_length(n);
     }
     total
 }
 
-// The length of the text of the deliveries in the slices. The days are lent to name the deliveries; no line has one.
-pub fn text_length(g: &[u32], w: &[u32], y: &[u32], n: &[u32]) -> usize
-    requires { Even (slices_at g w y n) × (length g.now ≤ most_slots) }
-    ensures { result ≡ length (csv_text (rows (slices_in g w y n))) }
+// The length of the text of records. No line has a day.
+pub fn text_length(r: Records) -> usize
+    ensures { result ≡ length (csv_text (rows (records_given r.entry))) }
 {
-    HEADER + MARKS * g.len() + digits_total(g) + digits_total(w) + digits_total(y)
+    HEADER
+        + MARKS * r.len()
+        + digits_total(r.growers)
+        + digits_total(r.weights)
+        + digits_total(r.yields)
 }
 
 // A number's digits at a cursor, from the last one to the left.
@@ -70,14 +70,13 @@ fn put_plain(text: &mut [u8], at: usize, n: u32) -> usize
     requires { at + length (plain_number n) ≤ length text.old }
     ensures { Wrote text.old at (plain_number n) text.new result }
 {
-    let mut i = plain_length(n);
-    let next = at + i;
+    let digits = plain_length(n);
+    let next = at + digits;
     let mut m = n;
-    while 0 < i {
-        i -= 1;
-        let j = at + i;
+    for k in 0..digits {
+        let j = next - 1 - k;
         text[j] = b'0' + (m % 10) as u8;
-        m = m / 10;
+        m /= 10;
     }
     next
 }
@@ -114,16 +113,14 @@ fn put_row(text: &mut [u8], at: usize, g: u32, w: u32, y: u32) -> usize
     put_line_end(text, c)
 }
 
-// The lines of the deliveries in the slices.
-pub fn put_rows(text: &mut [u8], at: usize, g: &[u32], w: &[u32], y: &[u32], n: &[u32]) -> usize
-    requires { Even (slices_at g w y n) × (at + length (row_lines (rows (slices_at g w y n))) ≤ length text.old) }
-    ensures { Wrote text.old at (row_lines (rows (slices_in g w y n))) text.new result }
+// The lines of records.
+pub fn put_rows(text: &mut [u8], at: usize, r: Records) -> usize
+    requires { at + length (row_lines (rows (records_given r))) ≤ length text.old }
+    ensures { Wrote text.old at (row_lines (rows (records_given r.entry))) text.new result }
 {
-    let mut i = 0;
     let mut e = at;
-    while i < g.len() {
-        e = put_row(text, e, g[i], w[i], y[i]);
-        i += 1;
+    for i in 0..r.len() {
+        e = put_row(text, e, r.growers[i], r.weights[i], r.yields[i]);
     }
     e
 }

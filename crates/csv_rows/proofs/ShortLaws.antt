@@ -1,6 +1,6 @@
 -- A record of three short numbers, read in one go: its fields are passed one after the other as by the loop. Assumes nothing.
 use Prim.Native.Nat.{ℕ, ◌≤◌}
-use mathlib.Core.Path.{◌≡◌, sym}
+use mathlib.Core.Path.{◌≡◌, sym, subst}
 use mathlib.Core.Bool.{true, false}
 use mathlib.Core.List.{List}
 use Rattle.std.specs.Prelude.{None, Some}
@@ -14,22 +14,23 @@ use Rattle.csv_rows.proofs.RecordLaws.{picked_new, picked_old, passed_none, pass
 
 -- the columns of an export
 record Ordered (c : Columns) : Type 0 where
+  pub counted : c.count ≡ 3
   pub grower : c.grower ≡ 0
   pub weight : c.weight ≡ 1
   pub oil : c.oil_yield ≡ 2
 
 ordered : (c : Columns) → in_order c ≡ true → Ordered c
-ordered c e = record { grower = grind arith; weight = grind arith; oil = grind arith }
+ordered c e = record { counted = grind arith; grower = grind arith; weight = grind arith; oil = grind arith }
 
 module _ {text : List ℕ} {at g w y p q n : ℕ} (c : Columns) (h : at ≤ length text)
     (a : CellAt text at (Some g) true p) (b : CellAt text p (Some w) true q) (e : CellAt text q (Some y) false n) where
-  abbrev three : Record
-  three = record { count = 3; picks = record { grower = Some g; weight = Some w; oil_yield = Some y }; next = n }
+  abbrev three : ℕ → Record
+  three count = record { count = count; picks = record { grower = Some g; weight = Some w; oil_yield = Some y }; next = n }
 
-  pub short_three : in_order c ≡ true → ShortRecordIs text at c (Some three)
+  pub short_three : in_order c ≡ true → ShortRecordIs text at c (Some (three c.count))
   short_three i = record { is = go (ordered c i) }
     where
-      go : Ordered c → RecordIs text at c (Some three)
+      go : Ordered c → RecordIs text at c (Some (three c.count))
       go o =
           let first =
           passed_comma (passed_none text at c h)
@@ -39,5 +40,6 @@ module _ {text : List ℕ} {at g w y p q n : ℕ} (c : Columns) (h : at ≤ leng
           passed_comma first
           {new = record { grower = Some g; weight = Some w; oil_yield = None }}
           (record { grower = picked_old (λ z. omega (arith, o.grower)); weight = picked_new (sym o.weight); oil = picked_old (λ z. omega (arith, o.oil)) }) b in
-          passed_end second
-          (record { grower = picked_old (λ z. omega (arith, o.grower)); weight = picked_old (λ z. omega (arith, o.weight)); oil = picked_new (sym o.oil) }) e
+          subst (λ (count : ℕ). RecordIs text at c (Some (three count))) (sym o.counted)
+          (passed_end second
+          (record { grower = picked_old (λ z. omega (arith, o.grower)); weight = picked_old (λ z. omega (arith, o.weight)); oil = picked_new (sym o.oil) }) e)

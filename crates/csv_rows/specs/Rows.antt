@@ -70,9 +70,9 @@ RecordByCase text at c None = take_record (drop at text) ≡ none
 pub record RecordIs (text : List ℕ) (at : ℕ) (c : Columns) (r : Option Record) : Type 0 where
   pub is : RecordByCase text at c r
 
--- the first three columns, in the order of an export
+-- the columns of an export, in its order
 abbrev pub in_order : Columns → Bool
-in_order c = eqb c.grower 0 && eqb c.weight 1 && eqb c.oil_yield 2
+in_order c = eqb c.count 3 && eqb c.grower 0 && eqb c.weight 1 && eqb c.oil_yield 2
 
 -- a record of three numbers; nothing is said of anything else
 abbrev pub ShortRecordByCase : List ℕ → ℕ → Columns → Option Record → Type 0
@@ -105,6 +105,10 @@ pub record RowIs (text : List ℕ) (at : ℕ) (c : Columns) (r : Option Row) : T
   pub within : row_next text r ≤ length text
   pub moves : at < length text → at < row_next text r
   pub is : (h : List Bytes) → ColumnsOf h c → RowByCase h text at r
+
+-- the row that a record is, wherever it was read
+pub record RowOf (read : Record) (c : Columns) (r : Option Row) : Type 0 where
+  pub is : (text : List ℕ) (at : ℕ) → ReadAt text at c read → RowIs text at c r
 
 -- the deliveries of the rows from a byte on, if each is good
 abbrev pub rows_from : List Bytes → ℕ → List ℕ → maybe.Option (List Delivery)

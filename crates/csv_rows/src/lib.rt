@@ -2,7 +2,7 @@
 #![tactic(auto)]
 
 ghost use Rattle.std.specs.Prelude.{◌≡◌, ◌≤◌, length};
-ghost use Rattle.csv_rows.specs.Rows.{PickedIs, PicksIs, StepIs, is_wanted, RecordIs, RowIs, in_order, ShortRecordIs};
+ghost use Rattle.csv_rows.specs.Rows.{PickedIs, PicksIs, StepIs, is_wanted, RecordIs, RowOf, RowIs, in_order, ShortRecordIs};
 ghost use Rattle.csv_rows.specs.Rows.{JudgedIs, Storable, Stored, RoomFor, ReadRows};
 
 use csv_fields::Behind;
@@ -122,14 +122,15 @@ fn any_record(text: &[u8], at: usize, c: Columns) -> Option<Record>
     }
 }
 
-// Whether the three columns are the first, in the order of an export.
+// Whether the columns are an export's own, in its order.
 fn in_order(c: Columns) -> bool
     ensures { result ≡ in_order c }
 {
-    c.grower == 0 && c.weight == 1 && c.oil_yield == 2
+    c.count == 3 && c.grower == 0 && c.weight == 1 && c.oil_yield == 2
 }
 
-// A record of three short numbers where the columns are an export's own, as an export writes it; none for any other.
+// A record of three short numbers where the columns are an export's own, as an export writes it; none for any other. Its count is taken from
+// the columns, so that `row_of` does not ask for it again.
 fn short_record(text: &[u8], at: usize, c: Columns) -> Option<Record>
     requires { at ≤ length text.now }
     ensures { ShortRecordIs text.now at c result }
@@ -141,7 +142,7 @@ fn short_record(text: &[u8], at: usize, c: Columns) -> Option<Record>
     let weight = csv_fields::short_before_comma(text, grower.next, WEIGHT_DIGITS)?;
     let oil_yield = csv_fields::short_before_end(text, weight.next, YIELD_DIGITS)?;
     Some(Record {
-        count: 3,
+        count: c.count,
         picks: Picks {
             grower: Some(grower.number),
             weight: Some(weight.number),
@@ -151,29 +152,16 @@ fn short_record(text: &[u8], at: usize, c: Columns) -> Option<Record>
     })
 }
 
-// The same as `any_record`; a record of short numbers is tried first. `any_record` is called in one place, so that it is inlined.
-fn record_at(text: &[u8], at: usize, c: Columns) -> Option<Record>
-    requires { at ≤ length text.now }
-    ensures { RecordIs text.now at c result }
+// The row that a record is; none if it is no row (02: 18).
+fn row_of(read: Record, c: Columns) -> Option<Row>
+    ensures { RowOf read c result }
 {
-    let Some(record) = short_record(text, at, c) else {
-        return any_record(text, at, c);
-    };
-    Some(record)
-}
-
-// The row at a byte; none if the record there is no row (02: 18).
-fn row_at(text: &[u8], at: usize, c: Columns) -> Option<Row>
-    requires { at ≤ length text.now }
-    ensures { RowIs text.now at c result }
-{
-    let record = record_at(text, at, c)?;
-    if record.count != c.count {
+    if read.count != c.count {
         return None;
     }
-    let grower = record.picks.grower?;
-    let weight = record.picks.weight?;
-    let oil_yield = record.picks.oil_yield?;
+    let grower = read.picks.grower?;
+    let weight = read.picks.weight?;
+    let oil_yield = read.picks.oil_yield?;
     if MOST_WEIGHT < weight || MOST_YIELD < oil_yield {
         return None;
     }
@@ -185,8 +173,21 @@ fn row_at(text: &[u8], at: usize, c: Columns) -> Option<Row>
     };
     Some(Row {
         delivery,
-        next: record.next,
+        next: read.next,
     })
+}
+
+// The row at a byte. A record of short numbers is tried first; `any_record` is called in one place, so that it is inlined, and `row_of` in two,
+// so that of short numbers, which are there, it asks nothing again.
+fn row_at(text: &[u8], at: usize, c: Columns) -> Option<Row>
+    requires { at ≤ length text.now }
+    ensures { RowIs text.now at c result }
+{
+    if let Some(record) = short_record(text, at, c) {
+        return row_of(record, c);
+    }
+    let record = any_record(text, at, c)?;
+    row_of(record, c)
 }
 
 // How many rows there are from a byte on, each judged, and stored in its order if it is among the first `room`; none if one is bad. Both passes over a text are

@@ -4,4 +4,3 @@ pub mod Judging
 pub mod Numbers
 pub mod LentColumns
 pub mod Putting
-pub mod Judgements

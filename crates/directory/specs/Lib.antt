@@ -1,4 +1,3 @@
 -- What judging a directory answers, and its numbers.
 pub mod Shapes
 pub mod Numbers
-pub mod Judgements

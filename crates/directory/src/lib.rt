@@ -10,9 +10,8 @@ ghost use Rattle.model.specs.Place.{place};
 ghost use Rattle.model.specs.Partitions.{start_of, one_more, one_fewer};
 ghost use Rattle.model.specs.Directory.{directory_size, partition_count, directory_of, directory_block_ok, directory_ok, with_lengths};
 ghost use Rattle.model.specs.Accesses.{onward};
-ghost use Rattle.model.specs.Lent.{slices_given, records_given, column_given, column_in};
+ghost use Rattle.model.specs.Lent.{slices_given, records_given, column_given};
 ghost use Rattle.directory.specs.Shapes.{Carried};
-ghost use Rattle.directory.specs.Judgements.{not_shaped, shape_of, growers_shape_of};
 ghost use Rattle.directory.specs.Numbers.{Numbered, HasPartition, blank, with_partition};
 
 use model::{
@@ -102,70 +101,6 @@ pub fn lent_growers(directory: &[u32], growers: &[u32], grower: u32) -> Result<P
         return Err(Refusal::Slices);
     }
     judged(directory, growers.len(), grower)
-}
-
-// A refusal's number, or 0 and the place: what the callers that have no Result yet are told.
-#[derive(Clone, Copy)]
-pub struct Told {
-    pub refusal: u32,
-    pub used: usize,
-    pub target: usize,
-    pub start: usize,
-}
-
-// A refusal.
-pub fn refused(n: u32) -> Told
-    ensures { result ≡ not_shaped n }
-{
-    Told {
-        refusal: n,
-        used: 0,
-        target: 0,
-        start: 0,
-    }
-}
-
-// `lent` with a number.
-pub fn judged_slices(
-    directory: &[u32],
-    g: &[u32],
-    w: &[u32],
-    y: &[u32],
-    n: &[u32],
-    grower: u32,
-) -> Told
-    ensures { result ≡ shape_of block_limit (column_in directory g w y n) grower }
-{
-    let slices = LentSlices {
-        growers: g,
-        weights: w,
-        yields: y,
-        days: n,
-    };
-    match lent(directory, slices, grower) {
-        Ok(shape) => Told {
-            refusal: 0,
-            used: shape.used,
-            target: shape.target,
-            start: shape.start,
-        },
-        Err(refusal) => refused(refusal.number()),
-    }
-}
-
-// `lent_growers` with a number.
-pub fn judged_growers(directory: &[u32], g: &[u32], grower: u32) -> Told
-    ensures { result ≡ growers_shape_of block_limit directory.now g.now grower }
-{
-    match lent_growers(directory, g, grower) {
-        Ok(place) => Told {
-            refusal: 0,
-            used: place.used,
-            target: place.target,
-            start: place.start,
-        },
-        Err(refusal) => refused(refusal.number()),
-    }
 }
 
 // The block length.

@@ -1,3 +1,2 @@
--- What reading an input answers, and what was read.
-pub mod Within
+-- What was read of an input.
 pub mod Reads

@@ -173,9 +173,9 @@ module _ (x : Place) where
           ∙ here_or_later (ok_by fits longest) most (n - 1 - (i + 1)) k a i (flag_is true e)
 
 -- Block i is passed over, or is the next end.
-module _ {n k a i : ℕ} {fits : List Bool} (c : Choosing n k a i fits) (more : i + 1 < n) where
-  pub choosing_later : Choosing n k a (i + 1) fits
-  choosing_later = record { few = c.few; flags = c.flags; inside = more; first = omega (arith, c.first); count = c.count }
+module _ {n k a i : ℕ} (c : Choosing n k a i) (more : i + 1 < n) where
+  pub choosing_later : Choosing n k a (i + 1)
+  choosing_later = record { inside = more; first = omega (arith, c.first); count = c.count }
 
-  pub choosing_behind : Choosing n (k + 1) (i + 1) (i + 1) fits
-  choosing_behind = record { few = c.few; flags = c.flags; inside = more; first = omega arith; count = omega (arith, c.first, c.count) }
+  pub choosing_behind : Choosing n (k + 1) (i + 1) (i + 1)
+  choosing_behind = record { inside = more; first = omega arith; count = omega (arith, c.first, c.count) }

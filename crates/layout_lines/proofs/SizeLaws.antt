@@ -79,12 +79,12 @@ module _ (ok : ℕ → ℕ → Bool) (most n k a i : ℕ) (h : n ≤ most_listed
 
 -- What the code answers.
 
-pub few_sized : (x : Place) {layouts bytes : ℕ} → Choosing x.n x.k x.a x.i x.fits → LinesSize layouts bytes x.k (followed x) → (layouts ≤ 2048) × (bytes ≤ 335872)
-few_sized x c s =
+pub few_sized : (x : Place) {layouts bytes : ℕ} → x.n ≤ most_listed_blocks → Choosing x.n x.k x.a x.i → LinesSize layouts bytes x.k (followed x) → (layouts ≤ 2048) × (bytes ≤ 335872)
+few_sized x h c s =
     let ok = ok_by x.fits x.longest in
     let f : x.k ≤ x.i = omega (arith, c.first, c.count) in (
-      omega (arith, s.count, few_rests ok x.most x.n x.k x.a x.i c.few c.inside f),
-      omega (arith, s.size, few_bytes ok x.most x.n x.k x.a x.i c.few c.inside f),
+      omega (arith, s.count, few_rests ok x.most x.n x.k x.a x.i h c.inside f),
+      omega (arith, s.size, few_bytes ok x.most x.n x.k x.a x.i h c.inside f),
     )
 
 pub sized_none : {x b k : ℕ} {ls : List (List ℕ)} → x ≡ 0 → b ≡ 0 → ls ≡ [] → LinesSize x b k ls

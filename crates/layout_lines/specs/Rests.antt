@@ -42,10 +42,8 @@ line_after sums k a m front es = number_field (k + length es) ++ (signed_field (
 unfoldable pub lines_after : List ℕ → ℕ → ℕ → ℕ → List ℕ → List (List ℕ) → List ℕ
 lines_after sums k a m front ls = flatten (map (line_after sums k a m front) ls)
 
--- k ends are chosen among the blocks before i, the last of them just before block a; the flags are those of n blocks
-pub record Choosing (n k a i : ℕ) (fits : List Bool) : Type 0 where
-  pub few : n ≤ most_listed_blocks
-  pub flags : n ≤ length fits
+-- k ends are chosen among the blocks before i of n, the last of them just before block a
+pub record Choosing (n k a i : ℕ) : Type 0 where
   pub inside : i < n
   pub first : a ≤ i
   pub count : k ≤ a

@@ -3,6 +3,7 @@
 #![tactic(auto)]
 
 ghost use Rattle.std.specs.Prelude.{◌≡◌, ◌&&◌, ◌+◌, ◌-◌, ◌*◌, ◌^◌, ◌≤◌, ◌<◌, [], ◌∷◌, ◌++◌, length, take, leb, ltb};
+ghost use Rattle.model.specs.Bounds.{most_listed_blocks};
 ghost use Rattle.model.specs.Fields.{number_field, signed_field, line_end};
 ghost use Rattle.std.proofs.Math.IntN.{sub_ℕ};
 ghost use Rattle.fields.specs.Writing.{Wrote, placed};
@@ -29,66 +30,32 @@ pub struct Rules {
     pub blocks: usize,
 }
 
-// How many layouts there are, and the bytes of their lines.
+// Where an end may stand, and what the layouts are held to.
 #[derive(Clone, Copy)]
+pub struct Choices<'a> {
+    pub fits: &'a [bool],
+    pub rules: Rules,
+    pub ghost few: { rules.blocks ≤ most_listed_blocks },
+    pub ghost marked: { rules.blocks ≤ length fits.now },
+}
+
+// How many layouts there are, and the bytes of their lines.
+#[derive(Clone, Copy, Default)]
 pub struct Size {
     pub layouts: u32,
     pub bytes: usize,
 }
 
-// No layout, and one of k ends.
-fn nothing() -> Size
-    ensures { (result.layouts ≡ 0) × (result.bytes ≡ 0) }
-{
-    Size {
-        layouts: 0,
-        bytes: 0,
-    }
-}
-
-fn one_of(k: usize) -> Size
-    requires { k ≤ 12 }
-    ensures { (result.layouts ≡ 1) × (result.bytes ≡ 32 + 11 * k) }
-{
-    Size {
-        layouts: 1,
-        bytes: LINE + WIDTH * k,
-    }
-}
-
-// Whether k chosen ends can go on: there may be one more, and the blocks a ..= i are no longer than a partition may be.
-fn goes_on(rules: Rules, k: usize, a: usize, i: usize) -> bool
-    requires { (a ≤ i) × (i < 12) }
-    ensures { result ≡ ltb k rules.most && leb (i + 1 - a) rules.longest }
-{
-    if rules.most <= k {
-        return false;
-    }
-    i + 1 - a <= rules.longest
-}
-
-// How many layouts k chosen ends can go on to, and the bytes of their lines: the next partition begins at block a, its end is i or later.
-pub fn size_rest(fits: &[bool], rules: Rules, k: usize, a: usize, i: usize) -> Size
-    requires { Choosing rules.blocks k a i fits.now }
-    ensures { LinesSize result.layouts result.bytes k (rests (ok_by fits.now rules.longest) rules.most rules.blocks k a i) }
-{
-    if !goes_on(rules, k, a, i) {
-        return nothing();
-    }
-    if !fits[i] {
-        if i + 1 == rules.blocks {
-            return nothing();
+impl Size {
+    // One layout of k ends.
+    fn of_one(k: usize) -> Size
+        requires { k ≤ 12 }
+        ensures { (result.layouts ≡ 1) × (result.bytes ≡ 32 + 11 * k) }
+    {
+        Size {
+            layouts: 1,
+            bytes: LINE + WIDTH * k,
         }
-        return size_rest(fits, rules, k, a, i + 1);
-    }
-    if i + 1 == rules.blocks {
-        return one_of(k + 1);
-    }
-    let here = size_rest(fits, rules, k + 1, i + 1, i + 1);
-    let later = size_rest(fits, rules, k, a, i + 1);
-    Size {
-        layouts: here.layouts + later.layouts,
-        bytes: here.bytes + later.bytes,
     }
 }
 
@@ -114,53 +81,88 @@ fn choose(sums: Sums, a: usize, i: usize, k: usize, number: u64, row: &mut [u8])
     number + sums.end_price(a, i) - BASE
 }
 
-// The lines of the layouts that k chosen ends can go on to, at a byte of the text: the next partition begins at block a, its end is i or later. The fields
-// of the chosen ends are in front of the row, `number` is BASE and their part of the cost. Where the text goes on.
-fn put_rest(
-    sums: Sums,
-    fits: &[bool],
-    rules: Rules,
-    k: usize,
-    a: usize,
-    i: usize,
-    number: u64,
-    row: &mut [u8],
-    text: &mut [u8],
-    at: usize,
-) -> usize
-    requires blocks { rules.blocks ≤ sums.blocks }
-    requires choosing { Choosing rules.blocks k a i fits.now × Carrying k number row.old }
-    requires i_in_bounds { at + length (lines_after sums.places.now k a number (take (11 * k) row.old)
-        (rests (ok_by fits.now rules.longest) rules.most rules.blocks k a i)) ≤ length text.old }
-    ensures { PutLines sums.entry.places.now k a number (rests (ok_by fits.now rules.longest) rules.most rules.blocks k a i)
-        row.old text.old at row.new text.new result }
-{
-    if !goes_on(rules, k, a, i) {
-        return at;
+impl<'a> Choices<'a> {
+    // Whether k chosen ends can go on: there may be one more, and the blocks a ..= i are no longer than a partition may be.
+    fn goes_on(self, k: usize, a: usize, i: usize) -> bool
+        requires { (a ≤ i) × (i < 12) }
+        ensures { result ≡ ltb k self.entry.rules.most && leb (i + 1 - a) self.entry.rules.longest }
+    {
+        k < self.rules.most && i + 1 - a <= self.rules.longest
     }
-    if !fits[i] {
-        if i + 1 == rules.blocks {
+
+    // How many layouts k chosen ends can go on to, and the bytes of their lines: the next partition begins at block a, its end is i or later.
+    pub fn size_rest(self, k: usize, a: usize, i: usize) -> Size
+        requires { Choosing self.rules.blocks k a i }
+        ensures { LinesSize result.layouts result.bytes k
+            (rests (ok_by self.entry.fits.now self.entry.rules.longest) self.entry.rules.most self.entry.rules.blocks k a i) }
+    {
+        if !self.goes_on(k, a, i) {
+            return Size::default();
+        }
+        if !self.fits[i] {
+            if i + 1 == self.rules.blocks {
+                return Size::default();
+            }
+            return self.size_rest(k, a, i + 1);
+        }
+        if i + 1 == self.rules.blocks {
+            return Size::of_one(k + 1);
+        }
+        let here = self.size_rest(k + 1, i + 1, i + 1);
+        let later = self.size_rest(k, a, i + 1);
+        Size {
+            layouts: here.layouts + later.layouts,
+            bytes: here.bytes + later.bytes,
+        }
+    }
+
+    // The lines of the layouts that k chosen ends can go on to, at a byte of the text: the next partition begins at block a, its end is i or later. The
+    // fields of the chosen ends are in front of the row, `number` is BASE and their part of the cost. Where the text goes on.
+    fn put_rest(
+        self,
+        sums: Sums,
+        k: usize,
+        a: usize,
+        i: usize,
+        number: u64,
+        row: &mut [u8],
+        text: &mut [u8],
+        at: usize,
+    ) -> usize
+        requires blocks { self.rules.blocks ≤ sums.blocks }
+        requires choosing { Choosing self.rules.blocks k a i × Carrying k number row.old }
+        requires room { at + length (lines_after sums.places.now k a number (take (11 * k) row.old)
+            (rests (ok_by self.fits.now self.rules.longest) self.rules.most self.rules.blocks k a i)) ≤ length text.old }
+        ensures { PutLines sums.entry.places.now k a number
+            (rests (ok_by self.entry.fits.now self.entry.rules.longest) self.entry.rules.most self.entry.rules.blocks k a i)
+            row.old text.old at row.new text.new result }
+    {
+        if !self.goes_on(k, a, i) {
             return at;
         }
-        return put_rest(sums, fits, rules, k, a, i + 1, number, row, text, at);
+        if !self.fits[i] {
+            if i + 1 == self.rules.blocks {
+                return at;
+            }
+            return self.put_rest(sums, k, a, i + 1, number, row, text, at);
+        }
+        let next = choose(sums, a, i, k, number, row);
+        if i + 1 == self.rules.blocks {
+            return put_line(text, at, k + 1, next, row);
+        }
+        let e = self.put_rest(sums, k + 1, i + 1, i + 1, next, row, text, at);
+        self.put_rest(sums, k, a, i + 1, number, row, text, e)
     }
-    let next = choose(sums, a, i, k, number, row);
-    if i + 1 == rules.blocks {
-        return put_line(text, at, k + 1, next, row);
-    }
-    let e = put_rest(sums, fits, rules, k + 1, i + 1, i + 1, next, row, text, at);
-    put_rest(sums, fits, rules, k, a, i + 1, number, row, text, e)
-}
 
-// The lines of every layout, from the start of a text on.
-pub fn put_all(sums: Sums, fits: &[bool], rules: Rules, text: &mut [u8])
-    requires blocks { rules.blocks ≤ sums.blocks }
-    requires choosing { Choosing rules.blocks 0 0 0 fits.now }
-    requires blocks_in_bounds { length (lines_after sums.places.now 0 0 (2 ^ 60) [] (rests (ok_by fits.now rules.longest) rules.most rules.blocks 0 0 0))
-        ≤ length text.old }
-    ensures { text.new ≡ placed 0 (lines_after sums.entry.places.now 0 0 (2 ^ 60) []
-        (rests (ok_by fits.now rules.longest) rules.most rules.blocks 0 0 0)) text.old }
-{
-    let mut row = [0u8; ROW];
-    put_rest(sums, fits, rules, 0, 0, 0, BASE, &mut row[..], text, 0);
+    // The lines of every layout, from the start of a text on.
+    pub fn put_all(self, sums: Sums, text: &mut [u8])
+        requires blocks { (0 < self.rules.blocks) × (self.rules.blocks ≤ sums.blocks) }
+        requires room { length (lines_after sums.places.now 0 0 (2 ^ 60) []
+            (rests (ok_by self.fits.now self.rules.longest) self.rules.most self.rules.blocks 0 0 0)) ≤ length text.old }
+        ensures { text.new ≡ placed 0 (lines_after sums.entry.places.now 0 0 (2 ^ 60) []
+            (rests (ok_by self.entry.fits.now self.entry.rules.longest) self.entry.rules.most self.entry.rules.blocks 0 0 0)) text.old }
+    {
+        let mut row = [0u8; ROW];
+        self.put_rest(sums, 0, 0, 0, BASE, &mut row[..], text, 0);
+    }
 }

@@ -43,8 +43,8 @@ pub const SUMS_PER_PLACE: usize = 7;
 // The search is proved for so many blocks.
 const SEARCH_LIMIT: usize = 256;
 
-// The number for no layout where numbers are stored and compared; a call gives None. It is above every other, so that a minimum needs no case for it: a
-// table of Options would be twice as long (fixed memory), and `least` would branch at each end (measured: SPEED).
+// The number for no layout where numbers are stored and compared; else it is None. It is above every other, so that a minimum needs no case for it, and a
+// table of Options would be twice as long (fixed memory).
 const NONE: u64 = 0x4000_0000_0000_0000;
 
 // The number for a cost of 0.

@@ -31,9 +31,9 @@ use Rattle.model.specs.declared.refusal.Refusal.{Refusal}
 use Rattle.model.specs.Refusals.{refusal_number}
 use Rattle.lines.proofs.Reading.{unmet}
 use Rattle.lines.proofs.Storing.{length_column, column_ok_lem}
-use Rattle.layplan_text.specs.declared.Output.{Output}
+use Rattle.lines.specs.declared.output.Output.{Output}
 use Rattle.layplan_text.specs.Week.{calls_at, calls_ok, used_in, week_ok, card_in, limits_in, week_in, plan_in}
-use Rattle.layplan_text.specs.Texts.{output_of, ends_text}
+use Rattle.layplan_text.specs.Texts.{output_size, output_of, ends_text}
 use Rattle.layplan_text.proofs.WeekLaws.{week_at, head, good, layplan_bad, layplan_good}
 use Rattle.layplan_text.proofs.EndLaws.{Fitting, fitting, text_refused, text_planned}
 
@@ -55,7 +55,7 @@ module _ (L : ℕ) {t : List ℕ} (s : Slices) (hs out : List ℕ) {p : PriceCar
   in_week : ◌≡◌ {A = PlanResult} (record { answer = ans; ends = es }) (plan_in L t s hs out)
   in_week = rw (is.card, is.limit, is.block, is.used) at q
 
-  pub plan_refuses : (r : Output) → ans.refusal ≢ 0 → r ≡ output_of (refusal_text ans.refusal) → r ≡ output_of (plan_text (plan_in L t s hs out))
+  pub plan_refuses : (r : Output output_size) → ans.refusal ≢ 0 → r ≡ output_of (refusal_text ans.refusal) → r ≡ output_of (plan_text (plan_in L t s hs out))
   plan_refuses r h g = g ∙ ap output_of (text_refused ans es h ∙ ap plan_text in_week)
 
   pub plan_fits : ans.refusal ≡ 0 → Fitting L p l (set-of f m s) hs out ans es
@@ -64,7 +64,7 @@ module _ (L : ℕ) {t : List ℕ} (s : Slices) (hs out : List ℕ) {p : PriceCar
   pub plan_few : ans.refusal ≡ 0 → length (take ans.count es) ≤ L
   plan_few h = let w = plan_fits h in omega (arith, length-take-le ans.count es w.count_in, w.count_few)
 
-  pub plan_prints : (r : Output) → ans.refusal ≡ 0 → SFits w64 ans.cost → r ≡ output_of (ends_text (to_z w64 (of_z w64 ans.cost)) (take ans.count es))
+  pub plan_prints : (r : Output output_size) → ans.refusal ≡ 0 → SFits w64 ans.cost → r ≡ output_of (ends_text (to_z w64 (of_z w64 ans.cost)) (take ans.count es))
       → r ≡ output_of (plan_text (plan_in L t s hs out))
   plan_prints r h k g =
       g ∙ ap output_of (ap (λ (z : ℤ). ends_text z (take ans.count es)) (held ans.cost k) ∙ text_planned ans es h (plan_fits h).count_in ∙ ap plan_text in_week)
@@ -99,10 +99,10 @@ module _ {t : List ℕ} (s : Slices) {f m q : ℕ} (is : Sizes t f m q) (n : ℕ
   unfolding week_text
   planned_text z = rw (← recorded, eq-eqb n 0 z)
 
-  pub answer_refused : (r : Output) → n ≢ 0 → r ≡ output_of (refusal_text n) → r ≡ output_of (week_text (week_in t s))
+  pub answer_refused : (r : Output output_size) → n ≢ 0 → r ≡ output_of (refusal_text n) → r ≡ output_of (week_text (week_in t s))
   answer_refused r z g = g ∙ ap output_of (refused_text z)
 
-  pub answer-planned : (r : Output) → n ≡ 0 → r ≡ output_of (plan_text (plan_in block_limit t s h (replicate block_limit 0))) → r ≡ output_of (week_text (week_in t s))
+  pub answer-planned : (r : Output output_size) → n ≡ 0 → r ≡ output_of (plan_text (plan_in block_limit t s h (replicate block_limit 0))) → r ≡ output_of (week_text (week_in t s))
   answer-planned r z g = g ∙ ap output_of (planned_text z)
 
 -- The slices.
@@ -146,7 +146,7 @@ zeros_front (suc k) (suc n) h = ap (λ (l : List ℕ). 0 ∷ l) (zeros_front k n
 
 -- The program.
 
-pub program_refused : (t : List ℕ) (x : Refusal) (n : ℕ) (r : Output) → Err x ≡ text_checked (week_ok t) → n ≡ refusal_number x → r ≡ output_of (refusal_text n)
+pub program_refused : (t : List ℕ) (x : Refusal) (n : ℕ) (r : Output output_size) → Err x ≡ text_checked (week_ok t) → n ≡ refusal_number x → r ≡ output_of (refusal_text n)
     → r ≡ output_of (layplan t)
 program_refused t x n r q i g =
     let m = unmet (week_ok t) tt q in
@@ -181,5 +181,5 @@ module _ (t : List ℕ) (m : ℕ) (ok : week_ok t ≡ true) (em : m ≡ used_in 
         let k : m < n = deliveries.few in
         rw (stored t 91 m n k g eg, stored t 102 m n k w ew, stored t 113 m n k y ey, zeros_front (m + 1) n (omega arith), em)
 
-    pub program_answers : (r : Output) → r ≡ output_of (week_text (week_in t given)) → r ≡ output_of (layplan t)
+    pub program_answers : (r : Output output_size) → r ≡ output_of (week_text (week_in t given)) → r ≡ output_of (layplan t)
     program_answers r q = q ∙ ap output_of (ap week_text slots_are ∙ sym (layplan_good t ok))

@@ -4,11 +4,21 @@ use mathlib.Core.Path.{◌≡◌, refl, sym, ap, ◌∙◌, subst}
 use mathlib.Core.Logic.{◌≢◌}
 use mathlib.Core.Bool.{Bool, true, false, cond, ◌&&◌}
 use mathlib.Core.Option.{Option, none, some}
+use lib.Bits.{bit_or, or_add_and, and_le_r}
+use Rattle.std.specs.Int.Bits.{or_zero_l}
+use Rattle.std.specs.Bool.{then_some}
+use Rattle.std.specs.Option.{ok_or}
+use Rattle.std.specs.Result.{IsErrAnd}
+use Rattle.std.specs.Prelude.{Option as Maybe, Some, None, Err}
+use Rattle.model.specs.declared.refusal.Refusal.TheVariants.{Text}
+use Rattle.model.specs.Fields.{nth}
+use Rattle.layplan_text.specs.declared.Call.{Call as CodeCall}
+use Rattle.layplan_text.specs.declared.Call.TheVariants.{Find, Range, Insert, Delete}
 use mathlib.Core.List.{List, [], ◌∷◌}
 use native.Mathlib.Omega.{arith}
 use borrow.Author.Tests.{eq-eqb, ne_eqb}
 use lib.Dec.{T, eqb, eqb→eq}
-use lib.ListN.{length, get_or}
+use lib.ListN.{length}
 use Rattle.model.specs.Bounds.{block_limit}
 use Rattle.model.specs.Lists.{every, only_if, and_then, is_some}
 use Rattle.model.specs.Blocks.{Set}
@@ -20,57 +30,62 @@ use Rattle.model.proofs.Tests.{and_fst, and_snd, of_true, eqb_no, pairs_swap}
 use Rattle.fields.specs.Reading.{field_ok, value_at}
 use Rattle.std.specs.Prelude.{Result, Ok}
 use Rattle.model.specs.declared.refusal.Refusal.{Refusal}
-use Rattle.lines.specs.Lines.{text_checked, line_found, column_at, line_ok, lines_ok, rows_at}
+use Rattle.lines.specs.Lines.{line_found, column_at, line_ok, lines_ok, rows_at}
 use Rattle.lines.proofs.Forms.{both}
-use Rattle.lines.proofs.Reading.{found_line, found_numbers, Judge}
-use Rattle.layplan_text.specs.Week.{call_by, calls_at, call_ok, calls_ok}
+use Rattle.lines.proofs.Reading.{found_line, found_numbers, unmet, passed_on, Judge}
+use Rattle.layplan_text.specs.Week.{call_by, calls_at, call_ok, calls_ok, call_given, call_said, call_told, call_found}
 
--- Unused numbers.
+-- The code's call of five numbers.
 
-is_cond : {A : Type 0} (x : Bool) (v : A) → x ≡ is_some (cond x (some v) none)
-is_cond true v = refl
-is_cond false v = refl
+or_zero : (a b : ℕ) → eqb (bit_or a b) 0 ≡ eqb a 0 && eqb b 0
+or_zero zero b = ap (λ (n : ℕ). eqb n 0) (or_zero_l b)
+or_zero (suc a) b = ne_eqb (bit_or (suc a) b) 0 (λ e. omega (arith, or_add_and (suc a) b, and_le_r (suc a) b)) ∙ sym (ap (λ (t : Bool). t && eqb b 0) (ne_eqb (suc a) 0 (λ e. omega arith)))
 
-is_only : {A : Type 0} (x : Bool) (v : A) → x ≡ is_some (only_if x v)
-is_only true v = refl
-is_only false v = refl
+said : (x : Bool) (v : CodeCall) → call_said (then_some x v) ≡ cond x (some (call_given v)) none
+said true v = refl
+said false v = refl
 
-module _ (k b c d : ℕ) where
-  -- whether the numbers are a call, whatever the first is
-  abbrev Says : Bool → Type 0
-  Says x = (a : ℕ) → x ≡ is_some (call_of (k ∷ a ∷ b ∷ c ∷ d ∷ []))
+said_last : (x : Bool) (v : Call) → x ≡ false → none ≡ only_if x v
+said_last x v e = rw e
 
-  pub find_used_b : k ≡ 1 → b ≢ 0 → Says false
+module _ (ns : List ℕ) where
+  abbrev a : ℕ
+  a = nth 1 ns
+
+  abbrev b : ℕ
+  b = nth 2 ns
+
+  abbrev c : ℕ
+  c = nth 3 ns
+
+  abbrev d : ℕ
+  d = nth 4 ns
+
+  pub said_find : {o : Maybe CodeCall} → nth 0 ns ≡ 1 → o ≡ then_some (eqb (bit_or (bit_or b c) d) 0) (Find a) → call_said o ≡ call_of ns
   unfolding call_of
-  find_used_b e h a = rw (e, ne_eqb b 0 h)
+  said_find e q =
+      let z : eqb (bit_or (bit_or b c) d) 0 ≡ eqb b 0 && eqb c 0 && eqb d 0 = or_zero (bit_or b c) d ∙ ap (λ (t : Bool). t && eqb d 0) (or_zero b c) in
+      ap call_said q ∙ said _ _ ∙ rw (e, z)
 
-  pub find_used_c : k ≡ 1 → b ≡ 0 → c ≢ 0 → Says false
+  pub said_range : {o : Maybe CodeCall} → nth 0 ns ≡ 2 → o ≡ then_some (eqb (bit_or c d) 0) (Range a b) → call_said o ≡ call_of ns
   unfolding call_of
-  find_used_c e f h a = rw (e, f, ne_eqb c 0 h)
+  said_range e q = ap call_said q ∙ said _ _ ∙ rw (e, or_zero c d)
 
-  pub find_d : k ≡ 1 → b ≡ 0 → c ≡ 0 → Says (eqb d 0)
+  pub said_insert : {o : Maybe CodeCall} → nth 0 ns ≡ 3 → o ≡ then_some (eqb d 0) (Insert (delivery a b c 0)) → call_said o ≡ call_of ns
   unfolding call_of
-  find_d e f g a = rw (e, f, g) (is_cond (eqb d 0) (find a))
+  said_insert e q = ap call_said q ∙ said _ _ ∙ rw e
 
-  pub range_used_c : k ≡ 2 → c ≢ 0 → Says false
+  pub said_delete : {o : Maybe CodeCall} → nth 0 ns ≡ 4 → o ≡ then_some (eqb d 0) (Delete (delivery a b c 0)) → call_said o ≡ call_of ns
   unfolding call_of
-  range_used_c e h a = rw (e, ne_eqb c 0 h)
+  said_delete e q = ap call_said q ∙ said _ _ ∙ rw e
 
-  pub range_d : k ≡ 2 → c ≡ 0 → Says (eqb d 0)
+  pub said_move : nth 0 ns ≡ 5 → some (move (delivery a b c 0) d) ≡ call_of ns
   unfolding call_of
-  range_d e f a = rw (e, f) (is_cond (eqb d 0) (range a b))
+  said_move e = rw e
 
-  pub insert_d : k ≡ 3 → Says (eqb d 0)
+  pub said_none : nth 0 ns ≢ 1 → nth 0 ns ≢ 2 → nth 0 ns ≢ 3 → nth 0 ns ≢ 4 → nth 0 ns ≢ 5 → none ≡ call_of ns
   unfolding call_of
-  insert_d e a = rw e (is_cond (eqb d 0) (insert (delivery a b c 0)))
-
-  pub delete_d : k ≡ 4 → Says (eqb d 0)
-  unfolding call_of
-  delete_d e a = rw e (is_cond (eqb d 0) (delete (delivery a b c 0)))
-
-  pub move_or_none : k ≢ 1 → k ≢ 2 → k ≢ 3 → k ≢ 4 → Says (eqb k 5)
-  unfolding call_of
-  move_or_none p q r s a = rw (ne_eqb k 1 p, ne_eqb k 2 q, ne_eqb k 3 r, ne_eqb k 4 s) (is_only (eqb k 5) (move (delivery a b c 0) d))
+  said_none p q r s t = rw (ne_eqb _ 1 p, ne_eqb _ 2 q, ne_eqb _ 3 r, ne_eqb _ 4 s, ne_eqb _ 5 t)
 
 -- A call by its kind.
 
@@ -172,14 +187,6 @@ module _ (at : ℕ) (t : List ℕ) where
   unfolding call_ok
   no_call e = rw e
 
-  pub call_decided : (ns : List ℕ) → Ok ns ≡ line_found 5 at t
-      → (x : Bool) → ((a : ℕ) → x ≡ is_some (call_of (get_or ns 0 0 ∷ a ∷ get_or ns 2 0 ∷ get_or ns 3 0 ∷ get_or ns 4 0 ∷ []))) → text_checked x ≡ text_checked (call_ok at t)
-  unfolding call_ok column_at
-  call_decided ns f x e =
-      let q = found_numbers 5 at t ns f in
-      let ok = found_line 5 at t ns f in
-      ap text_checked (e (get_or ns 1 0) ∙ ap (λ (l : List ℕ). is_some (call_of (get_or l 0 0 ∷ get_or l 1 0 ∷ get_or l 2 0 ∷ get_or l 3 0 ∷ get_or l 4 0 ∷ []))) q ∙ rw ok)
-
 module _ (t : List ℕ) where
   -- the five numbers of a line
   pub five : (at : ℕ) → column_at 11 at 5 t
@@ -190,6 +197,24 @@ module _ (t : List ℕ) where
   line_form : (at : ℕ) → call_of (column_at 11 at 5 t) ≡ only_if (is_some (call_of (column_at 11 at 5 t))) (call_by (column_at 11 at 5 t))
   unfolding column_at
   line_form at = call_form (value_at at t) (value_at (at + 11) t) (value_at (at + 11 + 11) t) (value_at (at + 11 + 11 + 11) t) (value_at (at + 11 + 11 + 11 + 11) t)
+
+  -- The code's call of the line at a byte.
+
+  told : (x : Bool) (v : Call) (o : Maybe CodeCall) → call_said o ≡ only_if x v → call_told (ok_or o Text) ≡ cond x (Ok v) (Err Text)
+  told true v (Some w) e = ap Ok (let z : call_given w ≡ v = cc in z)
+  told true v None e = absurd (let z : ⊥ = cc in z)
+  told false v (Some w) e = absurd (let z : ⊥ = cc in z)
+  told false v None e = refl
+
+  module _ (at : ℕ) (r : Result CodeCall Refusal) where
+    pub call_read : {ns : List ℕ} (o : Maybe CodeCall) → Ok ns ≡ line_found 5 at t → call_said o ≡ call_of ns → r ≡ ok_or o Text → call_told r ≡ call_found at t
+    unfolding call_ok
+    call_read {ns} o f e q =
+        ap call_told q ∙ told (is_some (call_of (column_at 11 at 5 t))) (call_by (column_at 11 at 5 t)) o (e ∙ ap call_of (found_numbers 5 at t ns f) ∙ line_form at)
+        ∙ rw (found_line 5 at t ns f)
+
+    pub call_not_read : {x : Refusal} → IsErrAnd r (λ y. y ≡ x) → Err x ≡ line_found 5 at t → call_told r ≡ call_found at t
+    call_not_read {x} q e = let m = unmet (line_ok 5 at t) (column_at 11 at 5 t) e in ap call_told (passed_on r x q) ∙ ap Err m.1 ∙ sym (rw (no_call at t m.0))
 
   -- Calls one after the other.
 

@@ -1,10 +1,10 @@
 -- The output, written line by line into an array of zeros. Assumes nothing.
 use Prim.Native.Nat.{ℕ, ◌+◌, ◌*◌, ◌≤◌, ◌<◌}
-use mathlib.Core.Path.{◌≡◌, refl, sym, ap, ap₂, ◌∙◌}
+use mathlib.Core.Path.{◌≡◌, refl, sym, ap, ◌∙◌}
 use mathlib.Core.List.{List, [], ◌∷◌, ◌++◌}
 use native.Mathlib.Omega.{arith}
 use native.Mathlib.Numerals.{add-one}
-use lib.ListN.{length, get_or, drop, set, replicate, length-append, length-drop, length-set}
+use lib.ListN.{length, get_or, drop, set, length-append, length-drop, length-set}
 use lib.Seq.{drop-cons, drop-length, append_snoc}
 use lib.IntN.{ℤ}
 use mir.Syntax.{w64}
@@ -15,15 +15,10 @@ use Rattle.model.specs.Program.{partition_texts}
 use Rattle.fields.specs.Writing.{placed}
 use Rattle.model.proofs.FieldLaws.{length-number, length_signed}
 use Rattle.model.proofs.LineLaws.{length-line}
-use Rattle.fields.proofs.Placing.{length-placed, placed_none, placed_first, placed_one, placed-joined}
+use Rattle.fields.proofs.Placing.{length-placed, placed_none, placed_one, placed-joined}
 use Rattle.fields.proofs.Signs.{held}
-use Rattle.layplan_text.specs.declared.Output.{Output}
-use Rattle.layplan_text.specs.Texts.{output_size, output_of, ends_text}
-
--- what was placed at the front of zeros
-pub output_is : (bs text : List ℕ) (n : ℕ) → text ≡ placed 0 bs (replicate output_size 0) → n ≡ length bs → record { bytes = text; count = n } ≡ output_of bs
-unfolding output_of
-output_is bs text n e h = ap₂ (λ (b : List ℕ) (k : ℕ). record { bytes = b; count = k }) (e ∙ placed_first bs (replicate output_size 0)) h
+pub use Rattle.lines.proofs.Outputs.{output_within, output_front}
+use Rattle.layplan_text.specs.Texts.{output_size, ends_text}
 
 -- Partition lines.
 
@@ -118,11 +113,3 @@ module _ (cost : ℤ) (ends : List ℕ) where
         e₄ ∙ ap (placed 32 (partition_texts 0 ends)) line_done
         ∙ placed-joined 0 32 (p ++ 10 ∷ []) (partition_texts 0 ends) z (omega arith) (omega (arith, length-parts 0 ends))
         ∙ ap (λ (l : List ℕ). placed 0 l z) (append_snoc p 10 (partition_texts 0 ends))
-
--- the count is within the array
-pub output_within : (o : Output) (bs : List ℕ) → o ≡ output_of bs → o.count ≤ length o.bytes
-unfolding output_of
-output_within o bs e =
-    let k : o.count ≡ length bs = ap (λ (x : Output). x.count) e in
-    let b : o.bytes ≡ bs ++ drop (length bs) (replicate output_size 0) = ap (λ (x : Output). x.bytes) e in
-    omega (arith, ap length b, length-append bs (drop (length bs) (replicate output_size 0)))

@@ -18,8 +18,7 @@ use Rattle.model.specs.Fields.{Taken, taken, take_line, take_lines, nth}
 use Rattle.model.specs.Program.{Week, calls_of, set_of, sizes_ok, take_sizes, read_week, week_text, refusal_text, layplan}
 use Rattle.model.proofs.Tests.{of_true, and_fst, and_snd, leb_no}
 use Rattle.fields.specs.Reading.{field_ok}
-use Rattle.std.specs.Prelude.{Result, Ok}
-use Rattle.model.specs.declared.refusal.Refusal.{Refusal}
+use Rattle.std.specs.Prelude.{Ok}
 use Rattle.lines.specs.Lines.{text_checked, line_found, column_at, line_length, line_ok, lines_ok, rows_at}
 use Rattle.lines.proofs.Reading.{found_line, found_number}
 use Rattle.lines.proofs.Forms.{chain, line_at, lines_at, column_of_lem, nothing_left}

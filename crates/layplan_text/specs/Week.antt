@@ -1,5 +1,11 @@
 -- An input of layplan: what is asked of its bytes, and where each number of a good one stands.
 use Rattle.std.specs.Prelude.{ℕ, zero, suc, ◌+◌, ◌*◌, Bool, true, cond, ◌&&◌, List, [], ◌∷◌, length, leb, eqb}
+use Rattle.std.specs.Prelude.{Option, Some, None, Result, Ok, Err}
+use Rattle.std.proofs.Math.Option.{Option as PathOption, some, none}
+use Rattle.model.specs.declared.refusal.Refusal.{Refusal}
+use Rattle.model.specs.declared.refusal.Refusal.TheVariants.{Text}
+use Rattle.layplan_text.specs.declared.Call.{Call as CodeCall}
+use Rattle.layplan_text.specs.declared.Call.TheVariants.{Find, Range, Insert, Delete, Move}
 use Rattle.model.specs.declared.PriceCard.{PriceCard}
 use Rattle.model.specs.declared.Limits.{Limits}
 use Rattle.model.specs.Lists.{is_some}
@@ -21,6 +27,18 @@ call_by ns =
     (cond (eqb (nth 0 ns) 4) (delete (delivery (nth 1 ns) (nth 2 ns) (nth 3 ns) 0))
     (move (delivery (nth 1 ns) (nth 2 ns) (nth 3 ns) 0) (nth 4 ns)))))
 
+-- the code's call, and what it says of five numbers
+abbrev pub call_given : CodeCall → Call
+call_given (Find g) = find g
+call_given (Range lo hi) = range lo hi
+call_given (Insert d) = insert d
+call_given (Delete d) = delete d
+call_given (Move d g) = move d g
+
+abbrev pub call_said : Option CodeCall → PathOption Call
+call_said (Some c) = some (call_given c)
+call_said None = none
+
 -- the call of the line of five numbers at a byte, and the calls of q such lines
 abbrev pub call_at : ℕ → List ℕ → Call
 call_at at t = call_by (column_at 11 at 5 t)
@@ -32,6 +50,14 @@ calls_at (suc q) at t = call_at at t ∷ calls_at q (at + 56) t
 -- is the line at a byte five numbers that are a call? q such lines?
 unfoldable pub call_ok : ℕ → List ℕ → Bool
 call_ok at t = line_ok 5 at t && is_some (call_of (column_at 11 at 5 t))
+
+-- "a bad line, M, Q or kind gives 14": the line's call or that refusal
+abbrev pub call_told : Result CodeCall Refusal → Result Call Refusal
+call_told (Ok c) = Ok (call_given c)
+call_told (Err r) = Err r
+
+abbrev pub call_found : ℕ → List ℕ → Result Call Refusal
+call_found at t = cond (call_ok at t) (Ok (call_at at t)) (Err Text)
 
 unfoldable pub calls_ok : ℕ → ℕ → List ℕ → Bool
 calls_ok zero at t = true

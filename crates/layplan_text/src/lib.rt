@@ -2,20 +2,19 @@
 // The whole text is judged first; then the calls are recorded straight from it, so that no list of calls is kept.
 #![tactic(auto)]
 
-ghost use Rattle.std.specs.Prelude.{◌≡◌, ℕ, ◌+◌, ◌*◌, ◌≤◌, [], ◌∷◌, length, replicate, T};
+ghost use Rattle.std.specs.Prelude.{◌≡◌, ℕ, ◌+◌, ◌*◌, ◌≤◌, length, replicate, T};
 ghost use Rattle.model.specs.Bounds.{block_limit, most_calls};
-ghost use Rattle.model.specs.Lists.{is_some};
 ghost use Rattle.model.specs.Recorder.{record_call};
-ghost use Rattle.model.specs.Program.{call_of, sizes_ok, record_until_refused, refusal_text, partition_texts, week_text, plan_text, layplan};
+ghost use Rattle.model.specs.Program.{call_of, sizes_ok, record_until_refused, partition_texts, week_text, plan_text, layplan};
 ghost use Rattle.model.specs.Lent.{set_given, slices_in};
 ghost use Rattle.model.specs.Refusals.{number_of};
 ghost use Rattle.fields.specs.Writing.{placed};
 ghost use Rattle.lines.specs.Lines.{text_checked, line_ok};
-ghost use Rattle.layplan_text.specs.Week.{call_at, calls_at, call_ok, calls_ok, head_ok, week_ok, card_in, limits_in, week_in, plan_in};
+ghost use Rattle.layplan_text.specs.Week.{call_said, call_told, call_found, call_at, calls_at, calls_ok, head_ok, week_ok, card_in, limits_in, week_in, plan_in};
 ghost use Rattle.layplan_text.specs.Texts.{output_of, ends_text, EndsFit};
 
 use fields::{SIGNED_WIDTH, WIDTH};
-use lines::{ONE, THREE, TWO};
+use lines::{Output, THREE, TWO};
 use model::{
     BLOCK_LIMIT, Delivery, HISTOGRAMS_SIZE, LentSet, LentSlices, Limits, PriceCard, Refusal,
     number_of,
@@ -60,50 +59,42 @@ const PARTITIONS_AT: usize = BILL_END + 1;
 
 const OUTPUT: usize = PARTITIONS_AT + TWO * BLOCK_LIMIT;
 
-// The output: its bytes at the front, zeros past them, and how many there are.
+// A call of a week (01: find, range, insert, delete, move).
 #[derive(Clone, Copy)]
-pub struct Output {
-    pub bytes: [u8; OUTPUT],
-    pub count: usize,
+enum Call {
+    Find(u32),
+    Range(u32, u32),
+    Insert(Delivery),
+    Delete(Delivery),
+    Move(Delivery, u32),
 }
 
-// Whether a call's numbers are a call: a kind from 1 to 5, each unused number 0.
-fn unused_ok(kind: u32, b: u32, c: u32, d: u32) -> bool
-    ensures { (a : ℕ) → result ≡ is_some (call_of (kind ∷ a ∷ b ∷ c ∷ d ∷ [])) }
+// The call that the five numbers of a line say: the kind, then each unused number 0.
+fn call_of(numbers: [u32; 5]) -> Option<Call>
+    ensures { call_said result ≡ call_of numbers }
 {
-    if kind == FIND {
-        if b != 0 {
-            return false;
-        }
-        if c != 0 {
-            return false;
-        }
-        return d == 0;
+    let [kind, a, b, c, d] = numbers;
+    let delivery = Delivery {
+        grower: a,
+        weight: b,
+        oil_yield: c,
+        day: 0,
+    };
+    match kind {
+        FIND => (b | c | d == 0).then_some(Call::Find(a)),
+        RANGE => (c | d == 0).then_some(Call::Range(a, b)),
+        INSERT => (d == 0).then_some(Call::Insert(delivery)),
+        DELETE => (d == 0).then_some(Call::Delete(delivery)),
+        MOVE => Some(Call::Move(delivery, d)),
+        _ => None,
     }
-    if kind == RANGE {
-        if c != 0 {
-            return false;
-        }
-        return d == 0;
-    }
-    if kind == INSERT {
-        return d == 0;
-    }
-    if kind == DELETE {
-        return d == 0;
-    }
-    kind == MOVE
 }
 
-// Whether a call's line stands at a byte.
-fn check_call(text: &[u8], at: usize) -> Result<(), Refusal>
-    ensures { result ≡ text_checked (call_ok at text.now) }
+// The call of the line at a byte.
+fn call_at(text: &[u8], at: usize) -> Result<Call, Refusal>
+    ensures { call_told result ≡ call_found at text.now }
 {
-    let [kind, _, b, c, d] = lines::line_at::<5>(text, at)?;
-    if !unused_ok(kind, b, c, d) {
-        return Err(Refusal::Text);
-    }
-    Ok(())
+    call_of(lines::line_at::<5>(text, at)?).ok_or(Refusal::Text)
 }
 
 // Whether q such lines stand there.
@@ -113,7 +104,7 @@ fn check_calls(text: &[u8], at: usize, q: usize) -> Result<(), Refusal>
 {
     let mut e = at;
     for i in 0..q {
-        check_call(text, e)?;
+        call_at(text, e)?;
         e += FIVE;
     }
     Ok(())
@@ -123,13 +114,7 @@ fn check_calls(text: &[u8], at: usize, q: usize) -> Result<(), Refusal>
 fn sizes_ok(m: u32, q: u32) -> bool
     ensures { result ≡ sizes_ok m q }
 {
-    if m < 1 {
-        return false;
-    }
-    if MOST_DELIVERIES < m as usize {
-        return false;
-    }
-    q <= MOST_CALLS
+    1 <= m && m as usize <= MOST_DELIVERIES && q <= MOST_CALLS
 }
 
 // Whether a text has its first three lines, M and Q in range.
@@ -211,15 +196,6 @@ fn record_lines(text: &[u8], at: usize, q: usize, histograms: &mut [u32], set: L
     0
 }
 
-// The output that is only a refusal number.
-fn refused(n: u32) -> Output
-    ensures { result ≡ output_of (refusal_text n) }
-{
-    let mut bytes = [0u8; OUTPUT];
-    lines::put_line(&mut bytes, 0, &[n]);
-    Output { bytes, count: ONE }
-}
-
 // Each partition's first and last block, from a byte on.
 fn put_ends(text: &mut [u8], at: usize, ends: &[u32])
     requires { (at + 23 * length ends.now ≤ length text.old) × EndsFit block_limit ends.now }
@@ -238,7 +214,7 @@ fn put_ends(text: &mut [u8], at: usize, ends: &[u32])
 }
 
 // The output of a plan: K, the bill, and the partitions.
-fn planned(cost: i64, ends: &[u32]) -> Output
+fn planned(cost: i64, ends: &[u32]) -> Output<OUTPUT>
     requires { (length ends.now ≤ block_limit) × EndsFit block_limit ends.now }
     ensures { result ≡ output_of (ends_text cost ends.now) }
 {
@@ -283,7 +259,7 @@ fn plan(
     weights: &[u32],
     yields: &[u32],
     days: &[u32],
-) -> Output
+) -> Output<OUTPUT>
     requires { T (head_ok text.now) }
     ensures { result ≡ output_of (plan_text (plan_in block_limit text.now
         (slices_in growers weights yields days) histograms.now (replicate block_limit 0))) }
@@ -308,12 +284,18 @@ fn plan(
             let k = p.count as usize;
             planned(p.cost, &ends[..k])
         }
-        Err(refusal) => refused(refusal.number()),
+        Err(refusal) => Output::one_number(refusal.number()),
     }
 }
 
 // Records the calls and plans, the deliveries in slices.
-fn answer(text: &[u8], growers: &[u32], weights: &[u32], yields: &[u32], days: &[u32]) -> Output
+fn answer(
+    text: &[u8],
+    growers: &[u32],
+    weights: &[u32],
+    yields: &[u32],
+    days: &[u32],
+) -> Output<OUTPUT>
     requires { T (week_ok text.now) }
     ensures { result ≡ output_of (week_text (week_in text.now (slices_in growers weights yields days))) }
 {
@@ -334,17 +316,17 @@ fn answer(text: &[u8], growers: &[u32], weights: &[u32], yields: &[u32], days: &
     };
     let stop = record_lines(text, a, q, &mut histograms[..], set);
     if stop != 0 {
-        return refused(stop);
+        return Output::one_number(stop);
     }
     plan(text, &histograms[..], growers, weights, yields, days)
 }
 
 // The program's output for an input.
-pub fn layplan_text(text: &[u8]) -> Output
+pub fn layplan_text(text: &[u8]) -> Output<OUTPUT>
     ensures { result ≡ output_of (layplan text.now) }
 {
     if let Err(refusal) = check_week(text) {
-        return refused(refusal.number());
+        return Output::one_number(refusal.number());
     }
     let m = fields::spelled_at(text, USED_AT) as usize;
     let mut growers = [0u32; SLOTS];

@@ -3,3 +3,4 @@ pub mod Storing
 pub mod Reading
 pub mod Forms
 pub mod Putting
+pub mod Outputs

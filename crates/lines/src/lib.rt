@@ -1,6 +1,8 @@
 // Lines of numbers in a text (01: book and program): checked, taken column by column, and written.
 #![tactic(auto)]
 
+mod output;
+
 ghost use Rattle.std.specs.Prelude.{◌≡◌, ◌+◌, ◌*◌, ◌≤◌, ◌<◌, length, drop, T};
 ghost use Rattle.model.specs.Bounds.{most_slots};
 ghost use Rattle.model.specs.Lists.{is_some};
@@ -10,6 +12,7 @@ ghost use Rattle.lines.specs.Lines.{text_checked, line_found, column_at, column_
 
 use fields::WIDTH;
 use model::Refusal;
+pub use output::Output;
 
 // The bytes of a line of one number, of two and of three.
 pub const ONE: usize = WIDTH + 1;

@@ -10,7 +10,7 @@ ghost use Rattle.block_costs.specs.Terms.{PricesPass};
 ghost use Rattle.listing.specs.Answers.{rules_of};
 
 use block_costs::PricedCounts;
-use layout_lines::Rules;
+use layout_lines::{Choices, Rules};
 use layout_search::{SUMS_PER_PLACE, Sums};
 use model::{LentSet, Limits, Listing, MOST_LISTED_BLOCKS, PriceCard, Refusal};
 
@@ -51,7 +51,11 @@ pub fn list_layouts(
     let rules = rules_of(card, limits, n);
     let mut fits = [false; MOST_LISTED_BLOCKS];
     permitted::mark(checked, &mut fits[..]);
-    let s = layout_lines::size_rest(&fits[..], rules, 0, 0, 0);
+    let choices = Choices {
+        fits: &fits[..],
+        rules,
+    };
+    let s = choices.size_rest(0, 0, 0);
     if s.layouts == 0 {
         return Err(Refusal::NoLayout);
     }
@@ -65,7 +69,7 @@ pub fn list_layouts(
         places: &sums[..],
         blocks: n,
     };
-    layout_lines::put_all(given, &fits[..], rules, text);
+    choices.put_all(given, text);
     Ok(Listing {
         layouts: s.layouts,
         bytes: s.bytes as u64,

@@ -61,7 +61,7 @@ pub fn record_range_days(
     ensures { record { refusal = number_of result; histograms = histograms.new }
         ≡ record_call block_limit (set_given set.entry) histograms.old (range_days lo hi (span_given days)) }
 {
-    let named = checks::span_ok(days.first, days.last);
+    let named = checks::span_ok(days);
     let checked = sets::check_counted(histograms, set, lo <= hi, true, named)?;
     let a = checked.block_of(lo);
     let b = checked.block_of(hi);

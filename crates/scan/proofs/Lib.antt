@@ -1,4 +1,3 @@
 -- Laws of the scan and of each call's answer.
-pub mod Judging
 pub mod Fitting
 pub mod Scanning

@@ -13,46 +13,25 @@ ghost use Rattle.std.specs.Prelude.{◌≡◌, IfSome, IfErr, OnOk};
 ghost use Rattle.std.specs.Io.KnownBytes.{Appends, Keeps};
 ghost use Rattle.model.specs.SheetCalls.{settlement};
 
-use input::Input;
-use std::fmt::{self, Display, Formatter};
+use input::Failure;
 use std::io::{Read, Write};
 
 // One byte more than the longest book of 64 partitions and 512 deliveries: a longer one, cut there, has the same output (the
 // law `cut_short` of settlement_text).
 const ROOM: usize = 34 + 23 * 64 + 34 * 512 + 1;
 
-// Which stream failed.
-#[derive(Clone, Copy)]
-enum Failure {
-    Input,
-    Output,
-}
-
-impl Display for Failure {
-    fn fmt<W: fmt::Write>(&self, f: &mut Formatter<W>) -> fmt::Result {
-        f.write_str(match self {
-            Failure::Input => "standard input cannot be read",
-            Failure::Output => "standard output cannot be written",
-        })
-    }
-}
-
-// The whole input read, and its output written.
+// The whole input read, and its output written. The program layplan has the same four lines over its own text: one function for both, over
+// a closure, would say what is written by the closure's predicates, and each program would still need this contract on a `run` of its own.
 fn run<R: Read, W: Write>(reader: &mut R, writer: &mut W) -> Result<(), Failure>
     ensures written { OnOk result (IfSome (R.remaining reader.old) (λ text.
         Appends (W.contents writer.old) (W.contents writer.new) (settlement text))) }
     ensures unread { IfErr result (λ e. e ≡ Failure.Input → Keeps (W.contents writer.old) (W.contents writer.new)) }
 {
     let mut input = [0u8; ROOM];
-    let Input::Bytes(n) = input::read_all(reader, &mut input) else {
-        return Err(Failure::Input);
-    };
+    let n = input::read_all(reader, &mut input).or(Err(Failure::Input))?;
     let out = settlement_text::settlement_text(&input[..n]);
-    let bytes = &out.bytes[..];
-    match writer.write_all(&bytes[..out.count]) {
-        Ok(()) => Ok(()),
-        Err(_) => Err(Failure::Output),
-    }
+    writer.write_all(out.as_slice()).or(Err(Failure::Output))?;
+    Ok(())
 }
 
 fn main(rt: HostRuntime) {

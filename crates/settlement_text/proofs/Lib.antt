@@ -1,4 +1,3 @@
 -- The program's output, and an input that is cut short.
-pub mod Outputs
 pub mod Sheets
 pub mod CutShort

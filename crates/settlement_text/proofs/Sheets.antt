@@ -30,7 +30,9 @@ use Rattle.model.proofs.SheetLaws.{sheet_length, once_fewer}
 use Rattle.theorems.proofs.ValidColumn.{every_passes, Valid, length_records, lent_pass}
 use Rattle.theorems.proofs.Snapshot.{read_valid}
 use Rattle.snapshot.specs.Answers.{result_of}
-use Rattle.settlement_text.specs.declared.Output.{Output}
+pub use Rattle.lines.proofs.Outputs.{output_within, output_front}
+use Rattle.lines.specs.declared.output.Output.{Output}
+use Rattle.lines.specs.Outputs.{output_of as text_output}
 use Rattle.settlement_text.specs.Texts.{output_size, output_of}
 
 -- numbers that are all 0, as many as there are slots
@@ -46,7 +48,7 @@ module _ (t : List ℕ) (a : Applied) (s : Slices) (e : result_of a s ≡ book_r
   refusal_is = ap (λ (r : ReadResult). r.refusal) e
 
   -- a text that is not read
-  pub program_refused : (x : Output) → (a.refusal ≡ 0 → ⊥) → x ≡ output_of (refusal_text a.refusal) → x ≡ output_of (settlement t)
+  pub program_refused : (x : Output output_size) → (a.refusal ≡ 0 → ⊥) → x ≡ output_of (refusal_text a.refusal) → x ≡ output_of (settlement t)
   unfolding settlement
   program_refused x n q = q ∙ sym (rw (sym refusal_is, ne_eqb a.refusal 0 n))
 
@@ -95,8 +97,8 @@ module _ (t : List ℕ) (a : Applied) (s : Slices) (e : result_of a s ≡ book_r
 
     pub program_prints : (x : Result ℕ Refusal) (n : ℕ) (bytes order work : List ℕ)
         → record { answer = written_of x; text = bytes; order = order; work = work } ≡ sheet_call block_limit col blank zeros zeros
-        → n ≡ result_unwrap_or x 0 → record { bytes = bytes; count = n } ≡ output_of (settlement t)
-    unfolding output_of
+        → n ≡ result_unwrap_or x 0 → ◌≡◌ {A = Output output_size} (record { bytes = bytes; count = n }) (output_of (settlement t))
+    unfolding text_output
     program_prints x n bytes order work q u =
         let r = q ∙ sheet_is in
         ap₂ (λ (b : List ℕ) (k : ℕ). record { bytes = b; count = k }) (ap (λ (s : SheetResult). s.text) r) (u ∙ counted x ∙ ap (λ (s : SheetResult). s.answer.bytes) r)

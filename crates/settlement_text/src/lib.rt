@@ -2,11 +2,10 @@
 #![tactic(auto)]
 
 ghost use Rattle.std.specs.Prelude.{◌≡◌};
-ghost use Rattle.model.specs.Program.{refusal_text};
 ghost use Rattle.model.specs.SheetCalls.{settlement};
 ghost use Rattle.settlement_text.specs.Texts.{output_of};
 
-use lines::ONE;
+use lines::Output;
 use model::LentSlices;
 use sheet_lines::{LAST, LINE};
 
@@ -15,24 +14,8 @@ const SLOTS: usize = 512;
 
 const OUTPUT: usize = LINE * SLOTS + LAST;
 
-// The output: its bytes at the front, zeros past them, and how many there are.
-#[derive(Clone, Copy)]
-pub struct Output {
-    pub bytes: [u8; OUTPUT],
-    pub count: usize,
-}
-
-// The output that is only a refusal number.
-fn refused(n: u32) -> Output
-    ensures { result ≡ output_of (refusal_text n) }
-{
-    let mut bytes = [0u8; OUTPUT];
-    lines::put_line(&mut bytes, 0, &[n]);
-    Output { bytes, count: ONE }
-}
-
 // The program's output for an input. A book that is read makes a sound column, and there is room for its sheet: the sheet is not refused.
-pub fn settlement_text(text: &[u8]) -> Output
+pub fn settlement_text(text: &[u8]) -> Output<OUTPUT>
     ensures { result ≡ output_of (settlement text.now) }
 {
     let mut growers = [0u32; SLOTS];
@@ -48,7 +31,7 @@ pub fn settlement_text(text: &[u8]) -> Output
     );
     let directory = match read {
         Ok(directory) => directory,
-        Err(refusal) => return refused(refusal.number()),
+        Err(refusal) => return Output::one_number(refusal.number()),
     };
     let mut bytes = [0u8; OUTPUT];
     let mut order = [0u32; SLOTS];

@@ -45,7 +45,7 @@ fn check_sheet<'a>(
     ensures refused { number_of result ≡ span_refusal block_limit (column_given directory.now slices.entry) days room order_room work_room }
     ensures accepted { IfOk result (IsSized block_limit (column_given directory.now slices.entry) days) }
 {
-    let records = snapshot::checked_records(directory, slices)?;
+    let records = snapshot::check_column(directory, slices)?;
     let Some(days) = days else {
         return Err(Refusal::Days);
     };

@@ -1,7 +1,7 @@
 // Loops over slices of numbers that several crates share. Each flag loop has one test and no early return, so that it is vectorised.
 #![tactic(auto)]
 
-ghost use Rattle.std.specs.Prelude.{◌≡◌, ℕ, Bool, cond, true, false, ◌&&◌, ◌+◌, ◌≤◌, ◌<◌, length, replicate, MatchOption, T};
+ghost use Rattle.std.specs.Prelude.{◌≡◌, ℕ, Bool, cond, true, false, ◌&&◌, ◌+◌, ◌≤◌, ◌<◌, length, MatchOption, T};
 ghost use Rattle.model.specs.Bounds.{block_limit, most_slots};
 ghost use Rattle.model.specs.declared.Delivery.{Delivery};
 ghost use Rattle.model.specs.Lists.{sum_of, keep, rising, never_falls};
@@ -73,13 +73,6 @@ pub fn total(s: &[u32]) -> u64
         sum += u64::from(x);
     }
     sum
-}
-
-// All numbers 0.
-pub fn clear(s: &mut [u32])
-    ensures { s.new ≡ replicate (length s.old) 0 }
-{
-    s.fill(0);
 }
 
 // The place of g among rising keys: how many of all but the last are less.

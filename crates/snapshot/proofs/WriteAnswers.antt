@@ -35,8 +35,7 @@ use Rattle.checks.proofs.Answers.{failed_first, numbered, passed_first, passed_b
 use Rattle.directory.proofs.LentColumns.{LentColumn, lent_column, count_lengths, count_fences}
 use Rattle.fields.specs.Writing.{placed}
 use Rattle.fields.proofs.Placing.{placed_first, placed-joined}
-use Rattle.snapshot.specs.declared.Checked.{Checked}
-use Rattle.snapshot.specs.Answers.{used_slices, not_checked, sound_checks, checked_column}
+use Rattle.snapshot.specs.Answers.{used_slices, sound_checks}
 use Rattle.snapshot.proofs.Putting.{rows_of, length_partitions, length-rows-of}
 
 -- L is the block limit
@@ -143,12 +142,6 @@ parts_lent L c l el ef =
 -- The checks of a column that is to be written.
 
 module _ (L : ℕ) (c : Column) where
-  pub check_lent : (x : Checked) (n : ℕ) → n ≡ first_failed (lent_checks L c) → (n ≡ 0 → ⊥) → x ≡ not_checked n → x ≡ checked_column L c
-  unfolding checked_column
-  check_lent x n e z q =
-      let f : first_failed (sound_checks L c) ≡ n = sym (e ∙ failed_first (lent_checks L c) _ (λ y. z (e ∙ y))) in
-      q ∙ sym (rw (f, ne_eqb n 0 z))
-
   pub lent_refused : (n : ℕ) → n ≡ first_failed (lent_checks L c) → (n ≡ 0 → ⊥) → n ≡ first_failed (sound_checks L c)
   lent_refused n e z = e ∙ failed_first (lent_checks L c) _ (λ y. z (e ∙ y))
 
@@ -175,42 +168,6 @@ module _ (L : ℕ) (c : Column) where
     pub all_passed : sound L c ≡ true → every in_range (all_records L c) ≡ true → 0 ≡ first_failed (sound_checks L c)
     unfolding first_failed
     all_passed e v = sym (checks_are ∙ rw (e, v))
-
-    pub check_sound : (x : Checked) → sound L c ≡ false → x ≡ not_checked 6 → x ≡ checked_column L c
-    unfolding checked_column first_failed
-    check_sound x e q = let f : first_failed (sound_checks L c) ≡ 6 = checks_are ∙ rw e in q ∙ sym (rw f)
-
-    module _ (e : sound L c ≡ true) where
-      pub check_values : (x : Checked) → every in_range (all_records L c) ≡ false → x ≡ not_checked 8 → x ≡ checked_column L c
-      unfolding checked_column first_failed
-      check_values x v q = let f : first_failed (sound_checks L c) ≡ 8 = checks_are ∙ rw (e, v) in q ∙ sym (rw f)
-
-      pub check_good : every in_range (all_records L c) ≡ true → (x : Checked) (m : ℕ) → m ≡ used L c → x ≡ record { refusal = 0; used = m } → x ≡ checked_column L c
-      unfolding checked_column first_failed
-      check_good v x m u q = let f : first_failed (sound_checks L c) ≡ 0 = checks_are ∙ rw (e, v) in q ∙ ap (λ (n : ℕ). record { refusal = 0; used = n }) u ∙ sym (rw f)
-
--- What is known of a column that passed them, and the check of the room behind them: it is put where the others passed.
-
-pub record Passed (L : ℕ) (c : Column) (x : Checked) : Type 0 where
-  pub all : first_failed (sound_checks L c) ≡ 0
-  pub lent : LentColumn L c
-  pub is_sound : T (sound L c)
-  pub values : T (every in_range (all_records L c))
-  pub used_is : x.used ≡ used L c
-
-module _ (L : ℕ) (c : Column) (x : Checked) (e : x ≡ checked_column L c) where
-  refusal_there : x.refusal ≡ first_failed (sound_checks L c)
-  unfolding checked_column
-  refusal_there = ap (λ (y : Checked). y.refusal) e
-
-  pub passed : x.refusal ≡ 0 → Passed L c x
-  unfolding checked_column numbered
-  passed n =
-      let p : first_failed (sound_checks L c) ≡ 0 = sym refusal_there ∙ n in
-      let b = passed_both (lent_checks L c) (ask 6 (sound L c) ∷ ask 8 (every in_range (all_records L c)) ∷ []) tt p in
-      let f = yes_first 5 (sound L c) (ask 8 (every in_range (all_records L c)) ∷ []) b.1 in
-      let g = yes_first 7 (every in_range (all_records L c)) [] f.1 in
-      record { all = p; lent = lent_column L c b.0; is_sound = f.0; values = g.0; used_is = ap (λ (y : Checked). y.used) e ∙ rw p }
 
 -- Writing, past these.
 

@@ -7,14 +7,13 @@ use Rattle.model.specs.declared.Applied.{Applied}
 use Rattle.model.specs.Lists.{sum_of, every, rising}
 use Rattle.model.specs.Deliveries.{Slices, each_slice, in_range}
 use Rattle.model.specs.Directory.{Directory, directory_of, directory_numbers}
-use Rattle.model.specs.Checks.{Check, ask, first_failed}
+use Rattle.model.specs.Checks.{Check, ask}
 use Rattle.model.specs.Column.{Column, lengths_of, all_records, sound}
 use Rattle.model.specs.Lent.{LentMut, slices_out}
 use Rattle.model.specs.Questions.{lent_checks}
 use Rattle.model.specs.Snapshot.{Book, read_book, slots_for_book}
 use Rattle.model.specs.SnapshotCalls.{ReadResult}
 use Rattle.snapshot.specs.declared.Judged.{Judged}
-use Rattle.snapshot.specs.declared.Checked.{Checked}
 use Rattle.snapshot.specs.Texts.{parts_ok}
 
 -- an answer and the slices as one result: the slices given, and those after the call
@@ -23,10 +22,6 @@ result_of a s = record { refusal = a.refusal; column = record { directory = a.di
 
 abbrev pub read_out : Applied → LentMut → LentMut → LentMut → LentMut → ReadResult
 read_out a g w y n = result_of a (slices_out g w y n)
-
--- the checks of writing refused
-abbrev pub not_checked : ℕ → Checked
-not_checked n = record { refusal = n; used = 0 }
 
 -- do the fences rise, do the lengths add up to m, are the delivery lines from a byte on right?
 abbrev pub right_parts : List ℕ → ℕ → Directory → ℕ → Bool
@@ -50,11 +45,6 @@ module _ (L : ℕ) where
   unfoldable pub judged_of : List ℕ → ℕ → Result Judged Refusal
   judged_of t n = cond (slots_for_book L t n) (judged_book (read_book L t)) (Err Full)
 
-  -- the checks of writing but for days and room, 2 3 6 6 8, and how many deliveries there are
+  -- the checks of writing but for days and room: 2 3 6 6 8
   abbrev pub sound_checks : Column → List Check
   sound_checks c = lent_checks L c ++ ask 6 (sound L c) ∷ ask 8 (every in_range (all_records L c)) ∷ []
-
-  unfoldable pub checked_column : Column → Checked
-  checked_column c =
-      let n : ℕ = first_failed (sound_checks c) in
-      record { refusal = n; used = cond (eqb n 0) (sum_of (lengths_of L c)) 0 }

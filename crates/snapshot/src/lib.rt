@@ -7,7 +7,7 @@ ghost use Rattle.model.specs.Bounds.{block_limit};
 ghost use Rattle.model.specs.Lists.{sum_of, rising};
 ghost use Rattle.model.specs.Deliveries.{rows};
 ghost use Rattle.model.specs.Column.{sound_growers};
-ghost use Rattle.model.specs.Lent.{column_in, slices_in_mut, records_given, column_given};
+ghost use Rattle.model.specs.Lent.{slices_in_mut, records_given, column_given};
 ghost use Rattle.model.specs.Fields.{lines};
 ghost use Rattle.model.specs.Snapshot.{header_ok, partition_rows, delivery_row};
 ghost use Rattle.model.specs.Refusals.{number_of};
@@ -20,7 +20,7 @@ ghost use Rattle.directory.specs.Numbers.{Numbered};
 ghost use Rattle.fields.specs.Writing.{placed};
 ghost use Rattle.lines.specs.Lines.{text_checked};
 ghost use Rattle.snapshot.specs.Texts.{head_found, listed_in, low_of, high_of, delivery_ok, deliveries_ok, parts_ok, all_from};
-ghost use Rattle.snapshot.specs.Answers.{numbers_ok, judged_of, read_out, used_slices, sound_checks, not_checked, checked_column};
+ghost use Rattle.snapshot.specs.Answers.{numbers_ok, judged_of, read_out, used_slices, sound_checks};
 
 use fields::WIDTH;
 use lines::{THREE, TWO};
@@ -268,10 +268,7 @@ fn sound_ok(g: &[u32], lens: &[u32], fences: &[u32]) -> bool
 }
 
 // Checks 2, 3, 6, 6 and 8 of a column that is to be written: the records of its used slots.
-pub fn checked_records<'a>(
-    directory: &[u32],
-    slices: LentSlices<'a>,
-) -> Result<Records<'a>, Refusal>
+pub fn check_column<'a>(directory: &[u32], slices: LentSlices<'a>) -> Result<Records<'a>, Refusal>
     ensures refused { number_of result ≡ first_failed (sound_checks block_limit (column_given directory.now slices.entry)) }
     ensures accepted { IfOk result (λ r. records_given r ≡ used_slices block_limit (column_given directory.now slices.entry)) }
 {
@@ -299,7 +296,7 @@ fn check_write<'a>(
     ensures refused { number_of result ≡ first_failed (write_checks block_limit (column_given directory.now slices.entry) room) }
     ensures accepted { IfOk result (λ r. records_given r ≡ used_slices block_limit (column_given directory.now slices.entry)) }
 {
-    let records = checked_records(directory, slices)?;
+    let records = check_column(directory, slices)?;
     if !checks::undated(records.days) {
         return Err(Refusal::Days);
     }
@@ -331,46 +328,4 @@ pub fn write(directory: &[u32], slices: LentSlices<'_>, text: &mut [u8]) -> Resu
     );
     put_rows(text, start, records);
     Ok((start + THREE * used) as u64)
-}
-
-// What checking a column finds: a refusal, or how many deliveries there are.
-#[derive(Clone, Copy)]
-pub struct Checked {
-    pub refusal: u32,
-    pub used: usize,
-}
-
-pub fn not_checked(n: u32) -> Checked
-    ensures { result ≡ not_checked n }
-{
-    Checked {
-        refusal: n,
-        used: 0,
-    }
-}
-
-// The same checks with the refusal's number.
-pub fn check_column(directory: &[u32], g: &[u32], w: &[u32], y: &[u32], n: &[u32]) -> Checked
-    ensures { result ≡ checked_column block_limit (column_in directory g w y n) }
-{
-    let shape = directory::judged_slices(directory, g, w, y, n, 0);
-    let refusal = shape.refusal;
-    if refusal != 0 {
-        return not_checked(refusal);
-    }
-    let m = shape.used;
-    if !sound_ok(
-        g,
-        directory::lengths(directory),
-        directory::fences(directory),
-    ) {
-        return not_checked(6);
-    }
-    if !checks::values_ok(&w[..m], &y[..m]) {
-        return not_checked(8);
-    }
-    Checked {
-        refusal: 0,
-        used: m,
-    }
 }

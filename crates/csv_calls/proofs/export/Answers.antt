@@ -12,7 +12,7 @@ put_header-start-requires c = header_room _ _ _ c.in_ok-records.ensures.accepted
 
 pub put_rows-end-requires : goal.put_rows-end-requires
 put_rows-end-requires c =
-    let r = c.in_ok-records.ensures in (c.in_ok-records.records.even, rows_room _ _ _ r.accepted r.refused c.put_header-start.ensures)
+    let r = c.in_ok-records.ensures in rows_room _ _ _ r.accepted r.refused c.put_header-start.ensures
 
 pub returns : goal.returns
 returns c = let r = c.in_ok-records.ensures in export_done _ _ _ r.accepted r.refused c.put_header-start.ensures c.put_rows-end.ensures

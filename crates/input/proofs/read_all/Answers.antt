@@ -1,6 +1,7 @@
 -- What one more read gave stands behind what was read before it.
 use Rattle.std.proofs.Common.{◌≡◌, ℕ, ◌+◌, ◌-◌, ◌≤◌, List, ◌++◌, rules, length, take, sym, ap, ◌∙◌, subst, le_refl, drop_at, length-take-le}
 use Rattle.std.proofs.lemmas.Slice.{take-put_mid_below}
+use Rattle.std.proofs.lemmas.Result.{MatchResult-at_ok}
 use Rattle.std.proofs.KnownBytes.{Consumes-trans}
 use Rattle.std.specs.Io.KnownBytes.{Consumes}
 use borrow.Rule.Slice.PartMut.{put_mid, post_of}
@@ -19,9 +20,11 @@ take-put_mid at k n xs ys within fits =
 pub loop-n-preserved : goal.loop-n-preserved
 loop-n-preserved g c =
     let w = c.loop-n.invariant in
-    let joined = take-put_mid c.loop-n.n (length c.loop-n.input - c.loop-n.n) c.in-Ok.k c.loop-n.input c.read.new.buf w.within c.in-Ok.ensures.bound.0 in
+    let within = MatchResult-at_ok _ _ c.in_ok-k.k c.in_ok-k.was c.read.ensures.bound in
+    let given = MatchResult-at_ok _ _ c.in_ok-k.k c.in_ok-k.was c.read.ensures.bytes in
+    let joined = take-put_mid c.loop-n.n (length c.loop-n.input - c.loop-n.n) c.in_ok-k.k c.loop-n.input c.read.new.buf w.within within.0 in
     record {
       same_length = search rules;
       within = search rules;
-      bytes = subst (Consumes _ _) joined (Consumes-trans _ _ _ _ _ w.bytes c.in-Ok.ensures.bytes.0);
+      bytes = subst (Consumes _ _) joined (Consumes-trans _ _ _ _ _ w.bytes given.0);
     }

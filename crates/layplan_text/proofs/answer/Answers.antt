@@ -23,7 +23,7 @@ pub returns-then-stop-ne0 : goal.returns-then-stop-ne0
 returns-then-stop-ne0 c =
     let n : Sizes c.args.text.now c.spelled_at-block.result c.spelled_at-used.result c.spelled_at-q.result
     = record { block = c.spelled_at-block.ensures; used = c.spelled_at-used.ensures; count = c.spelled_at-q.ensures } in
-    answer_refused _ n _ _ c.record_lines-stop.ensures _ (λ z. omega (arith, z)) c.refused.ensures
+    answer_refused _ n _ _ c.record_lines-stop.ensures _ (λ z. omega (arith, z)) c.one_number.ensures
 
 pub plan-requires : goal.plan-requires
 plan-requires c = (good _ c.requires).first

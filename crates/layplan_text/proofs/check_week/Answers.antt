@@ -1,9 +1,8 @@
 -- What is missing first refuses the text, and then what is left over.
-use Rattle.std.proofs.Common.{◌≡◌, refl, true, false, arith}
+use Rattle.std.proofs.Common.{true, false, arith}
 use Rattle.model.proofs.Tests.{of_true}
 use Rattle.lines.proofs.Reading.{met, refused_on}
-use Rattle.layplan_text.specs.Week.{head_ok}
-use Rattle.layplan_text.proofs.WeekLaws.{Head, head, no_head, no_deliveries, no_calls, week_decided}
+use Rattle.layplan_text.proofs.WeekLaws.{head, no_head, no_deliveries, no_calls, week_decided}
 use Rattle.layplan_text.proofs.check_week.Goals as goal
 use borrow.Author.Tests.{le-leb, lt-leb}
 

@@ -14,7 +14,7 @@ held : (t : List ℕ) (m : ℕ) → Ok tt ≡ text_checked (week_ok t) → m ≡
 held t m e q = deliveries t m (met _ _ e).0 q
 
 pub returns-in-Err : goal.returns-in-Err
-returns-in-Err c = program_refused _ _ _ _ c.in-Err.ensures c.number.ensures c.refused.ensures
+returns-in-Err c = program_refused _ _ _ _ c.in-Err.ensures c.number.ensures c.one_number.ensures
 
 pub spelled_at-m-requires : goal.spelled_at-m-requires
 spelled_at-m-requires c = (head _ (good _ (of_true _ (met _ _ c.in_default.ensures).0)).first).used

@@ -43,4 +43,4 @@ pub returns-in-Err : goal.returns-in-Err
 returns-in-Err c =
     let p : Prices c.args.text.now c.card_of-card.result c.limits_of-limits.result c.spelled_at-block.result c.spelled_at-used.result
     = record { card = c.card_of-card.ensures; limit = c.limits_of-limits.ensures; block = c.spelled_at-block.ensures; used = c.spelled_at-used.ensures } in
-    plan_refuses block_limit _ _ _ p _ _ c.in-Err.ensures _ (refusal_some _) (c.refused.ensures ∙ ap (λ (n : ℕ). output_of (refusal_text n)) c.number.ensures)
+    plan_refuses block_limit _ _ _ p _ _ c.in-Err.ensures _ (refusal_some _) (c.one_number.ensures ∙ ap (λ (n : ℕ). output_of (refusal_text n)) c.number.ensures)

@@ -1,5 +1,4 @@
 -- The line written is the first of those that are left.
-use Rattle.std.proofs.Common.{arith}
 use Rattle.layplan_text.proofs.Outputs.{put_ends_next, put_ends_end}
 use Rattle.layplan_text.proofs.put_ends.Goals as goal
 

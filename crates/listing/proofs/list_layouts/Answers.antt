@@ -28,17 +28,15 @@ rules_of-rules-requires c = (plan_given block_limit _ _ _ _ (sym c.in_ok-checked
 pub mark-requires : goal.mark-requires
 mark-requires c = omega (arith, c.block_count-n.ensures)
 
+pub invariant_of-choices : goal.invariant_of-choices
+invariant_of-choices c =
+    let b = ap (λ (x : Rules). x.blocks) c.rules_of-rules.ensures in
+    record { few = omega (arith, b); marked = omega (arith, b, c.mark.ensures.long) }
+
 pub size_rest-s-requires : goal.size_rest-s-requires
 size_rest-s-requires c =
     let b = ap (λ (x : Rules). x.blocks) c.rules_of-rules.ensures in
-    let n = c.block_count-n.ensures in
-    record {
-      few = omega (arith, b);
-      flags = omega (arith, b, c.mark.ensures.long);
-      inside = omega (arith, b, n, blocks-least c.in_ok-checked.checked.sized);
-      first = omega arith;
-      count = omega arith;
-    }
+    record { inside = omega (arith, b, c.block_count-n.ensures, blocks-least c.in_ok-checked.checked.sized); first = omega arith; count = omega arith }
 
 pub returns-then-s-eq0 : goal.returns-then-s-eq0
 returns-then-s-eq0 c =
@@ -68,21 +66,12 @@ invariant_of-given c =
     record { hold = summed_holds _ _ _ _ _ l.summed g.prices g.counts (omega arith) (omega (arith, l.long)) }
 
 pub put_all-requires-clause-blocks : goal.put_all-requires-clause-blocks
-put_all-requires-clause-blocks c = omega (arith, ap (λ (x : Rules). x.blocks) c.rules_of-rules.ensures)
-
-pub put_all-requires-clause-choosing : goal.put_all-requires-clause-choosing
-put_all-requires-clause-choosing c =
+put_all-requires-clause-blocks c =
     let b = ap (λ (x : Rules). x.blocks) c.rules_of-rules.ensures in
-    record {
-      few = omega (arith, b);
-      flags = omega (arith, b, c.mark.ensures.long);
-      inside = omega (arith, b, c.block_count-n.ensures, blocks-least c.in_ok-checked.checked.sized);
-      first = omega arith;
-      count = omega arith;
-    }
+    omega (arith, b, c.block_count-n.ensures, blocks-least c.in_ok-checked.checked.sized)
 
-pub put_all-requires-clause-blocks_in_bounds : goal.put_all-requires-clause-blocks_in_bounds
-put_all-requires-clause-blocks_in_bounds c =
+pub put_all-requires-clause-room : goal.put_all-requires-clause-room
+put_all-requires-clause-room c =
     let s = c.in_ok-checked.ensures in
     let n = c.block_count-n.ensures ∙ ap blocks s.accepted in
     let g = plan_given block_limit _ _ _ _ (sym s.answer) in

@@ -2,7 +2,7 @@
 use Rattle.std.proofs.Common.{◌∙◌, arith}
 use Rattle.model.specs.Bounds.{block_limit}
 use Rattle.lines.proofs.Reading.{passed_on}
-use Rattle.snapshot.proofs.ReadAnswers.{few, most, answer_no_head, answer_few, answer_size, answer-lines, numbers_listed, answer_numbers, answer_yes}
+use Rattle.snapshot.proofs.ReadAnswers.{few, answer_no_head, answer_few, answer_size, answer-lines, numbers_listed, answer_numbers, answer_yes}
 use Rattle.snapshot.proofs.check_text.Goals as goal
 
 pub returns-in_err-head : goal.returns-in_err-head

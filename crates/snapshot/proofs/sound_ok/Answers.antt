@@ -1,5 +1,5 @@
 -- A partition whose growers lie between its fences leaves those behind it, since the fences rise.
-use Rattle.std.proofs.Common.{sym, ◌∙◌, arith}
+use Rattle.std.proofs.Common.{arith}
 use Rattle.snapshot.proofs.Sounding.{fit_slice, sound_start, sound_room, tested, sound_stop, sound_next, sound_end}
 use Rattle.snapshot.proofs.sound_ok.Goals as goal
 
