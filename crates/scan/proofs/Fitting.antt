@@ -107,7 +107,8 @@ module _ {A : Type 0} (all : List Delivery → A) (ss : Slices) (p : Even ss) (a
         let z : e ≡ i + (e - i) = omega arith in
         ap (λ (n : ℕ). take n (rows ss)) z ∙ take-add i (e - i) (rows ss) ∙ ap (λ (l : List Delivery). take i (rows ss) ++ l) (sym (o ∙ lent e))
 
-    pub fitting_next : (more : A → ℕ → List Delivery → A) → ((x y : List Delivery) → all (x ++ y) ≡ more (all x) (length x) y) → all_fit ds ≡ true → (r : A) → r ≡ more a i ds → Fitting all ss r e
+    pub fitting_next : (more : A → ℕ → List Delivery → A) → ((x y : List Delivery) → all (x ++ y) ≡ more (all x) (length x) y)
+        → all_fit ds ≡ true → (r : A) → r ≡ more a i ds → Fitting all ss r e
     fitting_next more joined f r q =
         let z : length (take i (rows ss)) ≡ i = length-take-le i (rows ss) (omega (arith, k.at, length-rows ss p)) in
         record {
@@ -133,7 +134,8 @@ pub sum_joined : (lo hi : ℕ) (z : Span) (a b : List Delivery) → totals_durin
 sum_joined lo hi z a b = during-joined lo hi z a b
 
 -- the totals stay small
-pub sum_small : (lo hi : ℕ) (z : Span) (ss : Slices) (p : Even ss) (few : length ss.growers ≤ most_slots) (t : Totals) (i : ℕ) → Fitting (totals_during lo hi z) ss t i → LightTotals most_slots t
+pub sum_small : (lo hi : ℕ) (z : Span) (ss : Slices) (p : Even ss) (few : length ss.growers ≤ most_slots) (t : Totals) (i : ℕ)
+    → Fitting (totals_during lo hi z) ss t i → LightTotals most_slots t
 sum_small lo hi z ss p few t i k = totals_small lo hi z (take i (rows ss)) k.fit (omega (arith, length-take i (rows ss), length-rows ss p)) t k.so_far
 
 pub seek_start : (d : Delivery) (s : Slices) → Fitting (first_match d) s 0 0
@@ -156,13 +158,15 @@ sum_next lo hi z ss p t i k s e o h m x q r f =
     fitting_next (totals_during lo hi z) ss p t i k e (rows s) (ap rows o) h m (λ u j l. plus_totals u (totals_during lo hi z l)) (sum_joined lo hi z) y.0 r (f ∙ ap (plus_totals t) y.1)
 
 pub seek_next : (d : Delivery) (ss : Slices) (p : Even ss) (n i : ℕ) → Fitting (first_match d) ss n i
-    → (s : Slices) (e : ℕ) → s ≡ slices_part i e ss → i ≤ e → e ≤ length ss.growers → (r : ℕ) → Some r ≡ if_fit (rows s) (sought d n i (rows s)) → Fitting (first_match d) ss r e
+    → (s : Slices) (e : ℕ) → s ≡ slices_part i e ss → i ≤ e → e ≤ length ss.growers → (r : ℕ)
+    → Some r ≡ if_fit (rows s) (sought d n i (rows s)) → Fitting (first_match d) ss r e
 seek_next d ss p n i k s e o h m r q =
     let y = fit_some (rows s) r (sought d n i (rows s)) q in
     fitting_next (first_match d) ss p n i k e (rows s) (ap rows o) h m (sought d) (first_joined d) y.0 r y.1
 
 -- the totals of records that were lent are small
-pub lent_small : (lo hi : ℕ) (z : Span) (s : Slices) → Even s → length s.growers ≤ most_slots → (x : Totals) → Some x ≡ if_fit (rows s) (totals_during lo hi z (rows s)) → LightTotals most_slots x
+pub lent_small : (lo hi : ℕ) (z : Span) (s : Slices) → Even s → length s.growers ≤ most_slots → (x : Totals)
+    → Some x ≡ if_fit (rows s) (totals_during lo hi z (rows s)) → LightTotals most_slots x
 lent_small lo hi z s p few x q =
     let y = fit_some (rows s) x (totals_during lo hi z (rows s)) q in
     totals_small lo hi z (rows s) y.0 (omega (arith, length-rows s p)) x y.1
@@ -173,6 +177,7 @@ ended all ss p a i k h = let y = fitting_end all ss p a i k h in fit_yes (rows s
 
 -- a search of the rest of the records is one of all
 pub seek_end : (d : Delivery) (ss : Slices) (p : Even ss) (n i : ℕ) → Fitting (first_match d) ss n i
-    → (s : Slices) (e : ℕ) → s ≡ slices_part i e ss → i ≤ e → e ≡ length ss.growers → (r : Option ℕ) → r ≡ if_fit (rows s) (sought d n i (rows s)) → r ≡ if_fit (rows ss) (first_match d (rows ss))
+    → (s : Slices) (e : ℕ) → s ≡ slices_part i e ss → i ≤ e → e ≡ length ss.growers → (r : Option ℕ)
+    → r ≡ if_fit (rows s) (sought d n i (rows s)) → r ≡ if_fit (rows ss) (first_match d (rows ss))
 seek_end d ss p n i k s e o h m (Some r) q = ended (first_match d) ss p r e (seek_next d ss p n i k s e o h (omega arith) r q) (omega arith)
 seek_end d ss p n i k s e o h m None q = stopped (first_match d) ss p n i k s e o h (omega arith) (sought d n i (rows s)) q

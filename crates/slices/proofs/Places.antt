@@ -72,7 +72,8 @@ unfolding sum_of
 survey_start lens fences g h =
     record { at = h; chained = chain_start ltb fences; used_is = refl; used_most = omega arith; start_most = omega arith; target_most = omega arith; found = λ o. (count_start fences g h, refl) }
 
-module _ (lens fences : List ℕ) (g : ℕ) (up : Bool) (used target start i : ℕ) (h : i + 1 < length fences) (k : length fences ≡ length lens) (w : Surveying lens fences g up used target start i) where
+module _ (lens fences : List ℕ) (g : ℕ) (up : Bool) (used target start i : ℕ) (h : i + 1 < length fences) (k : length fences ≡ length lens)
+    (w : Surveying lens fences g up used target start i) where
   -- a turn counts u partitions and their a slots
   turn : (v : Bool) (u a : ℕ) → Chained ltb fences v (i + 1) → get_or lens i 0 ≤ 4294967295 → u ≤ target + 1 → a ≤ start + get_or lens i 0
       → (T (rising fences) → Counted fences g u (i + 1) × (a ≡ sum_of (take u lens))) → Surveying lens fences g v (used + get_or lens i 0) u a (i + 1)
@@ -102,7 +103,8 @@ module _ (lens fences : List ℕ) (g : ℕ) (up : Bool) (used target start i : �
       → Surveying lens fences g v (used + get_or lens i 0) target start (i + 1)
   survey_not v c n l = turn v target start c n (omega arith) (omega arith) (λ o. (count-not fences g target i o h (w.found o).0 l, (w.found o).1))
 
-pub survey_end : (lens fences : List ℕ) (g : ℕ) (up : Bool) (used target start i : ℕ) → length fences ≤ i + 1 → length fences ≡ length lens → Surveying lens fences g up used target start i
+pub survey_end : (lens fences : List ℕ) (g : ℕ) (up : Bool) (used target start i : ℕ) → length fences ≤ i + 1 → length fences ≡ length lens
+    → Surveying lens fences g up used target start i
     → (up ≡ rising fences) × (used + get_or lens i 0 ≡ sum_of lens) × (T (rising fences) → (target ≡ place fences g) × (start ≡ start_of lens (place fences g)))
 survey_end lens fences g up used target start i h k w =
     let e : take (i + 1) lens ≡ lens = take_all (i + 1) lens (omega arith) in

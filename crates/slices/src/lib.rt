@@ -25,7 +25,7 @@ pub fn within(s: &[u32], most: u32) -> bool
     good
 }
 
-// Whether all of two slices of one length are 0.
+// Whether all of two slices of one length are 0: one pass over both, where `within` would take two.
 pub fn zeros(s: &[u32], u: &[u32]) -> bool
     requires { length u.now ≡ length s.now }
     ensures { result ≡ all_zero s.now && all_zero u.now }
@@ -196,7 +196,8 @@ fn if_taken(taken: bool, x: u64) -> u64
 fn total_of<F: Fn(Delivery) -> bool>(r: Records, pass: F) -> Totals
     requires measured { Measured (records_given r) }
     requires callable { F.IsAlwaysCallable pass }
-    ensures { (p : Delivery → Bool) → ((d : Delivery) (t : Bool) → F.post pass d t → t ≡ p d) → result ≡ totals_of (keep p (rows (records_given r.entry))) }
+    ensures { (p : Delivery → Bool) → ((d : Delivery) (t : Bool) → F.post pass d t → t ≡ p d)
+        → result ≡ totals_of (keep p (rows (records_given r.entry))) }
 {
     let mut records: u64 = 0;
     let mut weight: u64 = 0;
@@ -305,7 +306,7 @@ pub fn total_stride_days(r: Records, lo: u32, hi: u32, days: DaySpan) -> Totals
     )
 }
 
-// The first record that is the delivery, or how many there are; each tested.
+// The first record that is the delivery, or how many there are, as the definition has it: a search goes on from either. Each is tested.
 fn first_tested(r: Records, d: Delivery) -> usize
     ensures { result ≡ first_match d (rows (records_given r.entry)) }
 {
