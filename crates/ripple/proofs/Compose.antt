@@ -35,12 +35,12 @@ module _ {A : Type 0} where
   unfolding delete_at
   delete_from t i ps = rw (part-drop, drop-drop)
 
-  inserted_from : (ns : List ℕ) (t : ℕ) (x : A) (s : List A)
+  pub inserted_from : (ns : List ℕ) (t : ℕ) (x : A) (s : List A)
       → inserted ns t x s ≡ take (sum_of (take t ns)) s ++ inserted (drop t ns) 0 x (drop (sum_of (take t ns)) s)
   unfolding inserted
   inserted_from ns t x s = rw (insert_from, flatten-append, flatten-take, drop-parts, append_assoc, free_cut t ns s)
 
-  deleted_from : (ns : List ℕ) (t i : ℕ) (z : A) (s : List A)
+  pub deleted_from : (ns : List ℕ) (t i : ℕ) (z : A) (s : List A)
       → deleted ns t i z s ≡ take (sum_of (take t ns)) s ++ deleted (drop t ns) 0 i z (drop (sum_of (take t ns)) s)
   unfolding deleted
   deleted_from ns t i z s = rw (delete_from, flatten-append, flatten-take, drop-parts, append_assoc, free_cut t ns s)

@@ -1,6 +1,6 @@
 -- The two loops over the four slices at once. Assumes nothing.
 use Prim.Native.Nat.{ℕ, ◌+◌, ◌-◌, ◌≤◌, ◌<◌}
-use mathlib.Core.Path.{◌≡◌, ap, ◌∙◌}
+use mathlib.Core.Path.{◌≡◌, refl, ap, ◌∙◌}
 use mathlib.Core.List.{List}
 use native.Mathlib.Omega.{arith}
 use lib.ListN.{length, get_or, take, set, length-set}
@@ -12,6 +12,11 @@ use Rattle.model.specs.Moves.{inserted, deleted, moved}
 use Rattle.ripple.specs.Held.{carried}
 use Rattle.ripple.proofs.Loops.{Spot, Lifted, Lowered, lifted_start, lifted_turn, lowered_start, lowered_turn}
 use Rattle.ripple.proofs.Compose.{insert_end, delete_end, forward_law, within_law, backward_law}
+
+-- the first partition starts at 0
+pub start_first : (ns : List ℕ) → start_of ns 0 ≡ 0
+unfolding start_of sum_of
+start_first ns = refl
 
 -- a number stored in slot p
 abbrev pub stored : ℕ → ℕ → List ℕ → List ℕ

@@ -2,3 +2,4 @@
 pub mod Loops
 pub mod Compose
 pub mod EachSlice
+pub mod PutBack

@@ -1,4 +1,5 @@
-// The moves of a call on the slices (01: the ripple). A record moves whole, and no slot ahead of the first that is named is written.
+// The moves of a call on the slices (01: the ripple). A record moves whole; what is lent begins where the first partition that changes begins, so no
+// slot ahead of it can be written.
 #![tactic(auto)]
 
 ghost use Rattle.std.specs.Prelude.{◌≡◌, ◌+◌, ◌≤◌, ◌<◌, length, get_or, set};
@@ -37,20 +38,15 @@ fn store(r: &mut RecordsMut<'_>, p: usize, d: Delivery)
     r.days[p] = d.day;
 }
 
-// d goes past the end of a partition; used is where the last of lens ends. Each later one gives its first slot's record to the slot past its end.
-pub fn insert_slots(
-    r: &mut RecordsMut<'_>,
-    lens: &[u32],
-    partition: usize,
-    used: usize,
-    d: Delivery,
-)
-    requires { (partition < length lens.now) × (used ≡ sum_of lens.now) × (used < length r.old.growers.now) }
-    ensures slots { slices_held r.new ≡ storing (inserted lens.now partition) d (slices_held r.old) }
+// d goes past the end of the first partition of lens; end is where the last one ends. Each later one gives its first slot's record to the slot
+// past its end.
+pub fn insert_slots(r: &mut RecordsMut<'_>, lens: &[u32], end: usize, d: Delivery)
+    requires { (1 ≤ length lens.now) × (end ≡ sum_of lens.now) × (end < length r.old.growers.now) }
+    ensures slots { slices_held r.new ≡ storing (inserted lens.now 0) d (slices_held r.old) }
     ensures keeps { Keeps r.old r.new }
 {
-    let mut p = used;
-    for j in (partition + 1..lens.len()).rev() {
+    let mut p = end;
+    for j in (1..lens.len()).rev() {
         let q = p - lens[j] as usize;
         carry(r, q, p);
         p = q;
@@ -58,23 +54,16 @@ pub fn insert_slots(
     store(r, p, d);
 }
 
-// A slot of a partition, which begins at start, goes, and d fills the slot that is freed at the end of the last of lens.
-pub fn delete_slots(
-    r: &mut RecordsMut<'_>,
-    lens: &[u32],
-    partition: usize,
-    start: usize,
-    slot: usize,
-    d: Delivery,
-)
-    requires { (partition < length lens.now) × (start ≡ start_of lens.now partition) × (slot < get_or lens.now partition 0)
-        × (sum_of lens.now ≤ length r.old.growers.now) }
-    ensures slots { slices_held r.new ≡ storing (deleted lens.now partition slot) d (slices_held r.old) }
+// A slot of the first partition of lens goes, and d fills the slot that is freed at the end of the last one. Each later one gives its last slot's
+// record to the slot ahead of its start.
+pub fn delete_slots(r: &mut RecordsMut<'_>, lens: &[u32], slot: usize, d: Delivery)
+    requires { (1 ≤ length lens.now) × (slot < get_or lens.now 0 0) × (sum_of lens.now ≤ length r.old.growers.now) }
+    ensures slots { slices_held r.new ≡ storing (deleted lens.now 0 slot) d (slices_held r.old) }
     ensures keeps { Keeps r.old r.new }
 {
-    let mut p = start + lens[partition] as usize - 1;
-    carry(r, p, start + slot);
-    for j in partition + 1..lens.len() {
+    let mut p = lens[0] as usize - 1;
+    carry(r, p, slot);
+    for j in 1..lens.len() {
         let q = p + lens[j] as usize;
         carry(r, q, p);
         p = q;
@@ -82,27 +71,33 @@ pub fn delete_slots(
     store(r, p, d);
 }
 
-// A slot's record goes from one partition, which begins at start, to another, as d. Forward the last record of each fills the gap, backward the first.
-pub fn move_slots(
+// A slot's record goes from the first partition of lens to another, or stays in it, as d.
+pub fn forward_slots(r: &mut RecordsMut<'_>, lens: &[u32], slot: usize, to: usize, d: Delivery)
+    requires { (to < length lens.now) × (slot < get_or lens.now 0 0) × (sum_of lens.now ≤ length r.old.growers.now) }
+    ensures slots { slices_held r.new ≡ storing (moved lens.now 0 slot to) d (slices_held r.old) }
+    ensures keeps { Keeps r.old r.new }
+{
+    if to == 0 {
+        delete_slots(r, &lens[..1], slot, d);
+    } else {
+        delete_slots(r, &lens[..to], slot, d);
+    }
+}
+
+// A slot's record goes from a later partition, which begins at start, to the first of lens, as d: its own partition fills the gap from the front.
+pub fn backward_slots(
     r: &mut RecordsMut<'_>,
     lens: &[u32],
     from: usize,
     start: usize,
     slot: usize,
-    to: usize,
     d: Delivery,
 )
-    requires { (from < length lens.now) × (to < length lens.now) × (start ≡ start_of lens.now from) × (slot < get_or lens.now from 0)
+    requires { (1 ≤ from) × (from < length lens.now) × (start ≡ start_of lens.now from) × (slot < get_or lens.now from 0)
         × (sum_of lens.now ≤ length r.old.growers.now) }
-    ensures slots { slices_held r.new ≡ storing (moved lens.now from slot to) d (slices_held r.old) }
+    ensures slots { slices_held r.new ≡ storing (moved lens.now from slot 0) d (slices_held r.old) }
     ensures keeps { Keeps r.old r.new }
 {
-    if from < to {
-        delete_slots(r, &lens[..to], from, start, slot, d);
-    } else if from == to {
-        delete_slots(r, &lens[..to + 1], from, start, slot, d);
-    } else {
-        carry(r, start, start + slot);
-        insert_slots(r, &lens[..from], to, start, d);
-    }
+    carry(r, start, start + slot);
+    insert_slots(r, &lens[..from], start, d);
 }

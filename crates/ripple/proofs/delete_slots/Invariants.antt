@@ -9,5 +9,5 @@ abbrev pub invariant-loop-j : goal.invariant-loop-j
 invariant-loop-j l = record {
   spot : Spot l.lens (l.p + 1) l.j;
   keeps : Keeps l.initial.r l.r;
-  slots : EachLowered l.lens l.d (slices_held l.initial.r) l.initial.p (l.partition + 1) (slices_held l.r) l.p l.j;
+  slots : EachLowered l.lens l.d (slices_held l.initial.r) l.initial.p (1) (slices_held l.r) l.p l.j;
 }

@@ -31,5 +31,5 @@ loop-j-preserved c =
 pub returns-clause-slots : goal.returns-clause-slots
 returns-clause-slots c =
     let i = c.loop-j.invariant in
-    let e : c.loop-j.j ≡ c.args.partition + 1 = omega arith in
+    let e : c.loop-j.j ≡ 1 = omega arith in
     c.store.ensures.slots ∙ each_insert_end _ _ _ _ _ _ c.args.r.now.even (omega arith) i.room (rw e at i.spot) (rw e at i.slots)

@@ -8,7 +8,7 @@ use Rattle.ripple.proofs.insert_slots.Given as goal
 abbrev pub invariant-loop-j : goal.invariant-loop-j
 invariant-loop-j l = record {
   spot : Spot l.lens l.p l.j;
-  past : l.partition + 1 ≤ l.j;
+  past : 1 ≤ l.j;
   room : l.p < length l.initial.r.growers.now;
   keeps : Keeps l.initial.r l.r;
   slots : EachLifted l.lens (slices_held l.initial.r) (slices_held l.r) l.p l.j;
