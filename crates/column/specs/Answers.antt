@@ -16,14 +16,8 @@ use Rattle.model.specs.Accesses.{no_counts, blocks_of, reads_of, scan_near}
 use Rattle.model.specs.ColumnCalls.{column_refusal, refused_counts, slot_of, freed, move_slices}
 use Rattle.slices.specs.declared.Place.{Place}
 use Rattle.directory.specs.Numbers.{HasPartition}
-use Rattle.ripple.specs.declared.records.RecordsMut.{RecordsMut}
-use Rattle.ripple.specs.Held.{slices_held}
 use Rattle.column.specs.declared.Sought.{Sought}
 use Rattle.column.specs.declared.Located.{Located}
-
--- the column of a directory and the slices that a write moves records in
-abbrev pub column_held : List ℕ → RecordsMut → Column
-column_held ns r = record { directory = ns; slices = slices_held r }
 
 -- checks 8, 19 and 13 of delete and move in a partition that holds the records ds
 abbrev pub part_checks : Delivery → List Delivery → List Check

@@ -6,11 +6,12 @@
 ghost use Rattle.std.specs.Prelude.{◌≡◌, ◌+◌, ◌-◌, ◌≤◌, ◌<◌, length, get_or, T, IfOk, MatchResult};
 ghost use Rattle.model.specs.Bounds.{block_limit, most_slots};
 ghost use Rattle.model.specs.Lists.{sum_of};
-ghost use Rattle.model.specs.Deliveries.{rows, no_totals};
+ghost use Rattle.model.specs.Deliveries.{rows, no_totals, storing};
 ghost use Rattle.model.specs.Checks.{first_failed};
 ghost use Rattle.model.specs.Calls.{find, range, range_days, insert, delete, move};
 ghost use Rattle.model.specs.Place.{place};
 ghost use Rattle.model.specs.Partitions.{start_of};
+ghost use Rattle.model.specs.Moves.{moved};
 ghost use Rattle.model.specs.Directory.{partition_count, directory_of, directory_ok};
 ghost use Rattle.model.specs.Accesses.{no_counts, and_also};
 ghost use Rattle.model.specs.Questions.{lent_checks};
@@ -19,18 +20,15 @@ ghost use Rattle.model.specs.Growers.{up, down};
 ghost use Rattle.model.specs.GrowerCalls.{grower_call};
 ghost use Rattle.model.specs.Refusals.{number_of};
 ghost use Rattle.model.specs.Answers.{answer_of, grower_answer_of, slice_answer_of};
-ghost use Rattle.model.specs.Lent.{records_given, span_given, column_given, column_out, column_in_mut};
-ghost use Rattle.directory.specs.Numbers.{HasPartition};
-ghost use Rattle.ripple.specs.Held.{Keeps};
+ghost use Rattle.model.specs.Lent.{records_given, span_given, column_of, column_given, column_out, column_in_mut, slices_in_mut, slices_out};
 ghost use Rattle.column.specs.Answers.{RefusedBy, IsSought, NotSought, IsLocated, IsOpen, part_of};
-ghost use Rattle.column.specs.Answers.{Ready, column_held, put_of, taken_of, shifted_of};
+ghost use Rattle.column.specs.Answers.{Ready, put_of, taken_of, shifted_of};
 
 use growers::{Downward, Upward, Way};
 use model::{
     Counts, DaySpan, Delivery, GrowerReport, LentSlices, MOST_DAY, PartitionPlace, PartitionSlice,
     Records, Refusal, Refused, Report, Totals,
 };
-use ripple::RecordsMut;
 use slices::Place;
 
 // hi's partition, the last that a read scans. A find's is the one that its checks found.
@@ -188,29 +186,48 @@ fn open(directory: &[u32], slices: LentSlices<'_>, d: Delivery) -> Result<Place,
     })
 }
 
-// The slots and the length of an insert into a partition.
-fn put(directory: &mut [u32], r: &mut RecordsMut<'_>, partition: usize, used: usize, d: Delivery)
-    requires { HasPartition block_limit directory.old partition × (used ≡ sum_of (directory_of block_limit directory.old).lengths)
-        × (used < length r.old.growers.now) }
-    ensures column { column_held directory.new r.new ≡ put_of block_limit (column_held directory.old r.old) partition d }
-    ensures keeps { Keeps r.old r.new }
+// The slots and the length of an insert into a partition, which begins at start. The ripple is lent that partition's records and all behind them.
+fn put(
+    directory: &mut [u32],
+    g: &mut [u32],
+    w: &mut [u32],
+    y: &mut [u32],
+    n: &mut [u32],
+    partition: usize,
+    start: usize,
+    used: usize,
+    d: Delivery,
+)
+    requires { Ready block_limit (column_of directory.old g.old w.old y.old n.old) partition start
+        × (used ≡ sum_of (directory_of block_limit directory.old).lengths) × (used < length g.old) }
+    ensures { column_out directory g w y n ≡ put_of block_limit (column_in_mut directory g w y n) partition d }
 {
-    ripple::insert_slots(r, directory::lengths(directory), partition, used, d);
+    ripple::insert_slots(
+        &mut g[start..],
+        &mut w[start..],
+        &mut y[start..],
+        &mut n[start..],
+        &directory::lengths(directory)[partition..],
+        used - start,
+        d,
+    );
     directory::grow(directory, partition);
 }
 
 // The slots and the length of a delete of a slot of a partition, which begins at start.
 fn take_out(
     directory: &mut [u32],
-    r: &mut RecordsMut<'_>,
+    g: &mut [u32],
+    w: &mut [u32],
+    y: &mut [u32],
+    n: &mut [u32],
     partition: usize,
     start: usize,
     slot: usize,
 )
-    requires { Ready block_limit (column_held directory.old r.old) partition start
+    requires { Ready block_limit (column_of directory.old g.old w.old y.old n.old) partition start
         × (slot < get_or (directory_of block_limit directory.old).lengths partition 0) }
-    ensures column { column_held directory.new r.new ≡ taken_of block_limit (column_held directory.old r.old) partition slot }
-    ensures keeps { Keeps r.old r.new }
+    ensures { column_out directory g w y n ≡ taken_of block_limit (column_in_mut directory g w y n) partition slot }
 {
     let freed = Delivery {
         grower: 0,
@@ -219,33 +236,82 @@ fn take_out(
         day: 0,
     };
     ripple::delete_slots(
-        r,
-        directory::lengths(directory),
-        partition,
-        start,
+        &mut g[start..],
+        &mut w[start..],
+        &mut y[start..],
+        &mut n[start..],
+        &directory::lengths(directory)[partition..],
         slot,
         freed,
     );
     directory::shrink(directory, partition);
 }
 
-// The slots and the lengths of a move: a slot's record goes from one partition, which begins at start, to another, as d.
-fn shift(
-    directory: &mut [u32],
-    r: &mut RecordsMut<'_>,
+// The slots of a move: a slot's record goes from one partition, which begins at start, to another, as d. The ripple is lent the records of the
+// earlier of the two and all behind them.
+fn shift_slots(
+    directory: &[u32],
+    g: &mut [u32],
+    w: &mut [u32],
+    y: &mut [u32],
+    n: &mut [u32],
     from: usize,
     start: usize,
     slot: usize,
     to: usize,
     d: Delivery,
 )
-    requires { Ready block_limit (column_held directory.old r.old) from start
+    requires { Ready block_limit (column_of directory.now g.old w.old y.old n.old) from start
+        × (slot < get_or (directory_of block_limit directory.now).lengths from 0)
+        × (to < partition_count block_limit directory.now) }
+    ensures { slices_out g w y n ≡ storing (moved (directory_of block_limit directory.now).lengths from slot to) d (slices_in_mut g w y n) }
+{
+    if from <= to {
+        ripple::forward_slots(
+            &mut g[start..],
+            &mut w[start..],
+            &mut y[start..],
+            &mut n[start..],
+            &directory::lengths(directory)[from..],
+            slot,
+            to - from,
+            d,
+        );
+        return;
+    }
+    let first = directory::start_of(directory, to);
+    ripple::backward_slots(
+        &mut g[first..],
+        &mut w[first..],
+        &mut y[first..],
+        &mut n[first..],
+        &directory::lengths(directory)[to..],
+        from - to,
+        start - first,
+        slot,
+        d,
+    );
+}
+
+// The slots and the lengths of a move.
+fn shift(
+    directory: &mut [u32],
+    g: &mut [u32],
+    w: &mut [u32],
+    y: &mut [u32],
+    n: &mut [u32],
+    from: usize,
+    start: usize,
+    slot: usize,
+    to: usize,
+    d: Delivery,
+)
+    requires { Ready block_limit (column_of directory.old g.old w.old y.old n.old) from start
         × (slot < get_or (directory_of block_limit directory.old).lengths from 0)
         × (to < partition_count block_limit directory.old) }
-    ensures column { column_held directory.new r.new ≡ shifted_of block_limit (column_held directory.old r.old) from slot to d }
-    ensures keeps { Keeps r.old r.new }
+    ensures { column_out directory g w y n ≡ shifted_of block_limit (column_in_mut directory g w y n) from slot to d }
 {
-    ripple::move_slots(r, directory::lengths(directory), from, start, slot, to, d);
+    shift_slots(directory, g, w, y, n, from, start, slot, to, d);
     directory::shrink(directory, from);
     directory::grow(directory, to);
 }
@@ -293,13 +359,17 @@ pub fn insert(
     let place = open(directory, slices, d)?;
     let target = place.target;
     let each = 1 + directory::onward(directory, target);
-    let mut records = RecordsMut {
+    put(
+        directory,
         growers,
         weights,
         yields,
         days,
-    };
-    put(directory, &mut records, target, place.used, d);
+        target,
+        place.start,
+        place.used,
+        d,
+    );
     Ok(written(Counts {
         rr: each,
         sr: 0,
@@ -328,15 +398,12 @@ pub fn delete(
     let found = locate(directory, slices, d)?;
     let n = directory::onward(directory, found.target);
     let counts = with_more(found.counts, n, 1 + n);
-    let mut records = RecordsMut {
+    take_out(
+        directory,
         growers,
         weights,
         yields,
         days,
-    };
-    take_out(
-        directory,
-        &mut records,
         found.target,
         found.start,
         found.slot,
@@ -367,19 +434,16 @@ pub fn move_delivery(
     let to = directory::partition_of(directory, new_grower);
     let n = found.target.abs_diff(to) as u64;
     let counts = with_more(found.counts, 1 + n, 2 + n);
-    let mut records = RecordsMut {
-        growers,
-        weights,
-        yields,
-        days,
-    };
     let moved = Delivery {
         grower: new_grower,
         ..d
     };
     shift(
         directory,
-        &mut records,
+        growers,
+        weights,
+        yields,
+        days,
         found.target,
         found.start,
         found.slot,

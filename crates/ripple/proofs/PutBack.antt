@@ -4,7 +4,7 @@ use mathlib.Core.Path.{◌≡◌, refl, sym, ap, ◌∙◌}
 use mathlib.Core.List.{List, ◌++◌, append-nil}
 use native.Mathlib.Omega.{arith}
 use lib.ListN.{length, get_or, take, drop, set, length-take, length-drop, drop_of_length-le}
-use lib.Seq.{get_or-drop, take-take, take_all, take-set-le, drop-set-add, length-take-le}
+use lib.Seq.{get_or-drop, take-take, take_all, take-set-le, drop-set-add}
 use Rattle.model.specs.declared.Delivery.{Delivery}
 use Rattle.model.specs.Lists.{sum_of}
 use Rattle.model.specs.Deliveries.{Slices, slices_of, Even, each_slice, storing}
@@ -21,14 +21,42 @@ from_slot a s = take (length s - a) (drop a s)
 abbrev pub put_back : {A : Type 0} → ℕ → List A → List A → List A
 put_back a s l = take a s ++ (l ++ drop (length s - a) (drop a s))
 
-tail_part : {A : Type 0} (a : ℕ) (g : List A) → take (length g - a) (drop a g) ≡ drop a g
+pub tail_part : {A : Type 0} (a : ℕ) (g : List A) → take (length g - a) (drop a g) ≡ drop a g
 tail_part a g = take_all (length g - a) (drop a g) (omega (arith, length-drop a g))
+
+-- the first of the lengths from t on
+pub first_from : (t : ℕ) (ns : List ℕ) → get_or (from_slot t ns) 0 0 ≡ get_or ns t 0
+first_from t ns =
+    let e : t + 0 ≡ t = omega arith in
+    rw (tail_part t ns) (get_or-drop t ns 0 0 ∙ rw e)
+
+-- where a later partition starts there, and how long it is
+pub start_from : (ns : List ℕ) (u t : ℕ) → u ≤ t → start_of ns u + start_of (from_slot u ns) (t - u) ≡ start_of ns t
+unfolding start_of
+start_from ns u t h = rw (tail_part u ns) (sym (sum-span ns u t h))
+
+pub nth_from : (ns : List ℕ) (u t : ℕ) → u ≤ t → get_or (from_slot u ns) (t - u) 0 ≡ get_or ns t 0
+nth_from ns u t h =
+    let e : u + (t - u) ≡ t = omega arith in
+    rw (tail_part u ns) (get_or-drop u ns (t - u) 0 ∙ rw e)
 
 -- the partitions from t on, ahead of u
 span_of : (ns : List ℕ) (t u : ℕ) → t ≤ u → u ≤ length ns → from_slot t (take u ns) ≡ take (u - t) (from_slot t ns)
 span_of ns t u h k =
     let e : t + (u - t) ≡ u = omega arith in
     rw (tail_part t (take u ns), tail_part t ns) (sym (ap (λ (j : ℕ). drop t (take j ns)) e) ∙ drop-take t (u - t) ns)
+
+-- the parts from a on of even slices are even
+from_length : (a : ℕ) (l : List ℕ) → length (from_slot a l) ≡ length l - a
+from_length a l = simp (length-take, length-drop) (omega arith)
+
+pub from_even : (a : ℕ) (s : Slices) → Even s → Even (each_slice (from_slot a) s)
+from_even a s e =
+    record {
+      weights = from_length a s.weights ∙ ap (λ (k : ℕ). k - a) e.weights ∙ sym (from_length a s.growers);
+      yields = from_length a s.yields ∙ ap (λ (k : ℕ). k - a) e.yields ∙ sym (from_length a s.growers);
+      days = from_length a s.days ∙ ap (λ (k : ℕ). k - a) e.days ∙ sym (from_length a s.growers);
+    }
 
 module _ {A : Type 0} where
   tail_back : (a : ℕ) (g ys : List A) → put_back a g ys ≡ take a g ++ ys
@@ -76,7 +104,7 @@ module _ {A : Type 0} where
       let em : get_or (drop u ns) (t - u) 0 ≡ get_or ns t 0 = get_or-drop u ns (t - u) 0 ∙ ap (λ (j : ℕ). get_or ns j 0) et in
       let f₀ : moved (drop u ns) (t - u) i 0 x (drop a s) ≡ inserted (take (t - u) (drop u ns)) 0 x (set (drop a s) (n + i) (get_or (drop a s) n d))
       = rw es at (backward_law d (drop u ns) (t - u) i 0 x (drop a s) (omega arith) (omega (arith, length-drop u ns)) (omega arith)
-          (omega (arith, length-drop a s, sum_cut u ns))) in
+      (omega (arith, length-drop a s, sum_cut u ns))) in
       let g : get_or (drop a s) n d ≡ y = get_or-drop a s n d ∙ ap (λ (j : ℕ). get_or s j d) en in
       let q : set (drop a s) (n + i) y ≡ drop a (set s (b + i) y) = sym (drop-set-add a s (n + i) y) ∙ ap (λ (j : ℕ). drop a (set s j y)) ei in
       let f : take a (set s (b + i) y) ≡ take a s = take-set-le a s (b + i) y (omega arith) in

@@ -1,9 +1,9 @@
-// The moves of a call on the slices (01: the ripple). A record moves whole; what is lent begins where the first partition that changes begins, so no
-// slot ahead of it can be written.
+// The moves of a call on the slices (01: the ripple). A record moves whole, and every store is inside the part that is lent.
 #![tactic(auto)]
 
 ghost use Rattle.std.specs.Prelude.{◌≡◌, ◌+◌, ◌≤◌, ◌<◌, length, get_or, set};
-ghost use Rattle.model.specs.Deliveries.{each_slice, storing};
+ghost use Rattle.model.specs.Deliveries.{each_slice, storing, Even};
+ghost use Rattle.model.specs.Lent.{slices_at_mut, slices_in_mut, slices_out};
 ghost use Rattle.model.specs.Lists.{sum_of};
 ghost use Rattle.model.specs.Partitions.{start_of};
 ghost use Rattle.model.specs.Moves.{inserted, deleted, moved};
@@ -12,7 +12,7 @@ ghost use Rattle.ripple.specs.Held.{slices_held, Keeps, carried};
 mod records;
 
 use model::Delivery;
-pub use records::RecordsMut;
+use records::RecordsMut;
 
 // Slot p takes the record of slot q.
 fn carry(r: &mut RecordsMut<'_>, q: usize, p: usize)
@@ -40,7 +40,7 @@ fn store(r: &mut RecordsMut<'_>, p: usize, d: Delivery)
 
 // d goes past the end of the first partition of lens; end is where the last one ends. Each later one gives its first slot's record to the slot
 // past its end.
-pub fn insert_slots(r: &mut RecordsMut<'_>, lens: &[u32], end: usize, d: Delivery)
+fn insert_ripple(r: &mut RecordsMut<'_>, lens: &[u32], end: usize, d: Delivery)
     requires { (1 ≤ length lens.now) × (end ≡ sum_of lens.now) × (end < length r.old.growers.now) }
     ensures slots { slices_held r.new ≡ storing (inserted lens.now 0) d (slices_held r.old) }
     ensures keeps { Keeps r.old r.new }
@@ -56,7 +56,7 @@ pub fn insert_slots(r: &mut RecordsMut<'_>, lens: &[u32], end: usize, d: Deliver
 
 // A slot of the first partition of lens goes, and d fills the slot that is freed at the end of the last one. Each later one gives its last slot's
 // record to the slot ahead of its start.
-pub fn delete_slots(r: &mut RecordsMut<'_>, lens: &[u32], slot: usize, d: Delivery)
+fn delete_ripple(r: &mut RecordsMut<'_>, lens: &[u32], slot: usize, d: Delivery)
     requires { (1 ≤ length lens.now) × (slot < get_or lens.now 0 0) × (sum_of lens.now ≤ length r.old.growers.now) }
     ensures slots { slices_held r.new ≡ storing (deleted lens.now 0 slot) d (slices_held r.old) }
     ensures keeps { Keeps r.old r.new }
@@ -72,20 +72,20 @@ pub fn delete_slots(r: &mut RecordsMut<'_>, lens: &[u32], slot: usize, d: Delive
 }
 
 // A slot's record goes from the first partition of lens to another, or stays in it, as d.
-pub fn forward_slots(r: &mut RecordsMut<'_>, lens: &[u32], slot: usize, to: usize, d: Delivery)
+fn forward_ripple(r: &mut RecordsMut<'_>, lens: &[u32], slot: usize, to: usize, d: Delivery)
     requires { (to < length lens.now) × (slot < get_or lens.now 0 0) × (sum_of lens.now ≤ length r.old.growers.now) }
     ensures slots { slices_held r.new ≡ storing (moved lens.now 0 slot to) d (slices_held r.old) }
     ensures keeps { Keeps r.old r.new }
 {
     if to == 0 {
-        delete_slots(r, &lens[..1], slot, d);
+        delete_ripple(r, &lens[..1], slot, d);
     } else {
-        delete_slots(r, &lens[..to], slot, d);
+        delete_ripple(r, &lens[..to], slot, d);
     }
 }
 
 // A slot's record goes from a later partition, which begins at start, to the first of lens, as d: its own partition fills the gap from the front.
-pub fn backward_slots(
+fn backward_ripple(
     r: &mut RecordsMut<'_>,
     lens: &[u32],
     from: usize,
@@ -99,5 +99,102 @@ pub fn backward_slots(
     ensures keeps { Keeps r.old r.new }
 {
     carry(r, start, start + slot);
-    insert_slots(r, &lens[..from], start, d);
+    insert_ripple(r, &lens[..from], start, d);
+}
+
+// The calls: what is lent of each slice begins where the first partition of lens begins, so that no slot ahead of it can be written. The four stay
+// apart, since what comes back of a part that went into a struct is not known to the borrow checker.
+
+// d goes past the end of the first partition of lens; end is where the last one ends.
+pub fn insert_slots(
+    growers: &mut [u32],
+    weights: &mut [u32],
+    yields: &mut [u32],
+    days: &mut [u32],
+    lens: &[u32],
+    end: usize,
+    d: Delivery,
+)
+    requires { (1 ≤ length lens.now) × (end ≡ sum_of lens.now) × (end < length growers.old) × Even (slices_at_mut growers weights yields days) }
+    ensures { slices_out growers weights yields days ≡ storing (inserted lens.now 0) d (slices_in_mut growers weights yields days) }
+{
+    let mut r = RecordsMut {
+        growers,
+        weights,
+        yields,
+        days,
+    };
+    insert_ripple(&mut r, lens, end, d);
+}
+
+// A slot of the first partition of lens goes, and the freed slot gets the numbers of d.
+pub fn delete_slots(
+    growers: &mut [u32],
+    weights: &mut [u32],
+    yields: &mut [u32],
+    days: &mut [u32],
+    lens: &[u32],
+    slot: usize,
+    d: Delivery,
+)
+    requires { (1 ≤ length lens.now) × (slot < get_or lens.now 0 0) × (sum_of lens.now ≤ length growers.old)
+        × Even (slices_at_mut growers weights yields days) }
+    ensures { slices_out growers weights yields days ≡ storing (deleted lens.now 0 slot) d (slices_in_mut growers weights yields days) }
+{
+    let mut r = RecordsMut {
+        growers,
+        weights,
+        yields,
+        days,
+    };
+    delete_ripple(&mut r, lens, slot, d);
+}
+
+// A slot's record goes from the first partition of lens to another, or stays in it, as d.
+pub fn forward_slots(
+    growers: &mut [u32],
+    weights: &mut [u32],
+    yields: &mut [u32],
+    days: &mut [u32],
+    lens: &[u32],
+    slot: usize,
+    to: usize,
+    d: Delivery,
+)
+    requires { (to < length lens.now) × (slot < get_or lens.now 0 0) × (sum_of lens.now ≤ length growers.old)
+        × Even (slices_at_mut growers weights yields days) }
+    ensures { slices_out growers weights yields days ≡ storing (moved lens.now 0 slot to) d (slices_in_mut growers weights yields days) }
+{
+    let mut r = RecordsMut {
+        growers,
+        weights,
+        yields,
+        days,
+    };
+    forward_ripple(&mut r, lens, slot, to, d);
+}
+
+// A slot's record goes from a later partition, which begins at start, to the first of lens, as d.
+pub fn backward_slots(
+    growers: &mut [u32],
+    weights: &mut [u32],
+    yields: &mut [u32],
+    days: &mut [u32],
+    lens: &[u32],
+    from: usize,
+    start: usize,
+    slot: usize,
+    d: Delivery,
+)
+    requires { (1 ≤ from) × (from < length lens.now) × (start ≡ start_of lens.now from) × (slot < get_or lens.now from 0)
+        × (sum_of lens.now ≤ length growers.old) × Even (slices_at_mut growers weights yields days) }
+    ensures { slices_out growers weights yields days ≡ storing (moved lens.now from slot 0) d (slices_in_mut growers weights yields days) }
+{
+    let mut r = RecordsMut {
+        growers,
+        weights,
+        yields,
+        days,
+    };
+    backward_ripple(&mut r, lens, from, start, slot, d);
 }

@@ -1,10 +1,10 @@
 -- `open` puts every check. Where it accepts, the partition is there with room (`open_ready`), and what `put` leaves is the model's insert.
-use Rattle.std.proofs.Common.{rules, arith}
+use Rattle.std.proofs.Common.{arith}
 use Rattle.std.proofs.lemmas.Result.{err_from_is_err_and}
 use Rattle.model.specs.Bounds.{block_limit}
 use Rattle.directory.proofs.Numbers.{has_onward}
 use Rattle.column.proofs.Answering.{refused_by}
-use Rattle.column.proofs.Writing.{kept, open_ready, insert_refused, insert_done}
+use Rattle.column.proofs.Writing.{open_ready, insert_refused, insert_done}
 use Rattle.column.proofs.insert.Goals as goal
 
 pub returns-in_err-place : goal.returns-in_err-place
@@ -18,13 +18,8 @@ onward-each-requires c = (open_ready block_limit _ _ _ c.in_ok-place.ensures.acc
 pub overflow_add-each : goal.overflow_add-each
 overflow_add-each c = omega (arith, c.onward-each.ensures, has_onward block_limit _ _ (open_ready block_limit _ _ _ c.in_ok-place.ensures.accepted).here)
 
-pub invariant_of-records : goal.invariant_of-records
-invariant_of-records c = record { even = (open_ready block_limit _ _ _ c.in_ok-place.ensures.accepted).even }
-
 pub put-requires : goal.put-requires
-put-requires c = let o = c.in_ok-place.ensures.accepted in ((open_ready block_limit _ _ _ o).here, o.used_is, o.free)
+put-requires c = let o = c.in_ok-place.ensures.accepted in (open_ready block_limit _ _ _ o, o.used_is, o.free)
 
 pub returns : goal.returns
-returns c =
-    kept _ _ c.put.new.r _ _ _ _ _ (search rules) (search rules) (search rules) (search rules)
-    (insert_done block_limit _ _ _ c.in_ok-place.ensures.accepted _ _ _ c.put.ensures.column c.onward-each.ensures c.written.ensures)
+returns c = insert_done block_limit _ _ _ c.in_ok-place.ensures.accepted _ _ _ c.put.ensures c.onward-each.ensures c.written.ensures

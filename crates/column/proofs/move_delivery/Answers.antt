@@ -1,11 +1,11 @@
 -- `locate` puts every check and finds the slot. Where it accepts, both growers have a partition, so that the counts are few, and what `shift` leaves is the
 -- model's move.
-use Rattle.std.proofs.Common.{rules, arith, ◌≤◌}
+use Rattle.std.proofs.Common.{arith, ◌≤◌}
 use Rattle.std.proofs.lemmas.Result.{err_from_is_err_and}
 use Rattle.model.specs.Bounds.{block_limit}
 use Rattle.directory.proofs.LentColumns.{lent_column, most_shaped}
 use Rattle.column.proofs.Answering.{refused_by}
-use Rattle.column.proofs.Writing.{kept, located_lent, located_ready, scan_small, move_refused, move_few, move_done}
+use Rattle.column.proofs.Writing.{located_lent, located_ready, scan_small, move_refused, move_few, move_done}
 use Rattle.column.proofs.move_delivery.Goals as goal
 
 pub returns-in_err-found : goal.returns-in_err-found
@@ -28,9 +28,6 @@ with_more-counts-requires c =
     let n : c.abs_diff-n.result ≤ block_limit = (move_few block_limit _ _ _ c.in_ok-found.ensures _ _ _ c.partition_of-to.ensures c.abs_diff-n.ensures).1 in
     (s.0, s.1, omega arith, omega arith)
 
-pub invariant_of-records : goal.invariant_of-records
-invariant_of-records c = record { even = (located_ready block_limit _ _ _ c.in_ok-found.ensures).0.even }
-
 pub shift-requires : goal.shift-requires
 shift-requires c =
     let r = located_ready block_limit _ _ _ c.in_ok-found.ensures in
@@ -38,6 +35,5 @@ shift-requires c =
 
 pub returns : goal.returns
 returns c =
-    kept _ _ c.shift.new.r _ _ _ _ _ (search rules) (search rules) (search rules) (search rules)
-    (move_done block_limit _ _ _ c.in_ok-found.ensures _ _ _ _ c.written.ensures c.args.new_grower _ c.partition_of-to.ensures c.shift.ensures.column
-    c.abs_diff-n.ensures c.with_more-counts.ensures)
+    move_done block_limit _ _ _ c.in_ok-found.ensures _ _ _ _ c.written.ensures c.args.new_grower _ c.partition_of-to.ensures c.shift.ensures c.abs_diff-n.ensures
+    c.with_more-counts.ensures

@@ -1,8 +1,8 @@
 -- A turn gives the first record of the partition before `j` to the slot behind it; at the end `d` goes into the slot past its own partition's end.
-use Rattle.std.proofs.Common.{arith, rules, ◌≡◌, ◌+◌, ◌<◌, ◌∙◌, refl}
+use Rattle.std.proofs.Common.{arith, rules, ◌≡◌, ◌<◌, ◌∙◌, refl}
 use Rattle.ripple.proofs.Loops.{spot_last, spot_sum, spot_down}
 use Rattle.ripple.proofs.EachSlice.{each_lifted_start, each_lifted_turn, each_insert_end}
-use Rattle.ripple.proofs.insert_slots.Goals as goal
+use Rattle.ripple.proofs.insert_ripple.Goals as goal
 
 pub loop-j-init : goal.loop-j-init
 loop-j-init c = record {

@@ -3,7 +3,7 @@ use Rattle.std.proofs.Common.{arith, rules, ◌≡◌, ◌+◌, ◌∙◌, sym, 
 use Rattle.model.proofs.Parts.{stop_le}
 use Rattle.ripple.proofs.Loops.{spot_past, spot_up, spot_room}
 use Rattle.ripple.proofs.EachSlice.{start_first, carried_length, each_lowered_start, each_lowered_turn, each_delete_end}
-use Rattle.ripple.proofs.delete_slots.Goals as goal
+use Rattle.ripple.proofs.delete_ripple.Goals as goal
 
 pub carry-requires : goal.carry-requires
 carry-requires c = omega (arith, stop_le c.args.lens.now 0 c.requires.0)

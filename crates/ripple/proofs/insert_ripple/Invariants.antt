@@ -1,9 +1,9 @@
 -- The first `j` partitions end at `p` and are as they were, and those from `j` on have moved up by one (`Lifted`).
-use Rattle.std.proofs.Common.{◌+◌, ◌≤◌, ◌<◌, length}
+use Rattle.std.proofs.Common.{◌≤◌, ◌<◌, length}
 use Rattle.ripple.specs.Held.{slices_held, Keeps}
 use Rattle.ripple.proofs.Loops.{Spot}
 use Rattle.ripple.proofs.EachSlice.{EachLifted}
-use Rattle.ripple.proofs.insert_slots.Given as goal
+use Rattle.ripple.proofs.insert_ripple.Given as goal
 
 abbrev pub invariant-loop-j : goal.invariant-loop-j
 invariant-loop-j l = record {

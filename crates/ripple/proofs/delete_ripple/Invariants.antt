@@ -3,7 +3,7 @@ use Rattle.std.proofs.Common.{◌+◌}
 use Rattle.ripple.specs.Held.{slices_held, Keeps}
 use Rattle.ripple.proofs.Loops.{Spot}
 use Rattle.ripple.proofs.EachSlice.{EachLowered}
-use Rattle.ripple.proofs.delete_slots.Given as goal
+use Rattle.ripple.proofs.delete_ripple.Given as goal
 
 abbrev pub invariant-loop-j : goal.invariant-loop-j
 invariant-loop-j l = record {
