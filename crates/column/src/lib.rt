@@ -338,7 +338,7 @@ fn with_more(scanned: Counts, reads: u64, writes: u64) -> Counts
     }
 }
 
-// Inserts a delivery. Here and in the two calls below the slices come one by one: that they are of one length, as `RecordsMut` asks, is check 3.
+// Inserts a delivery. Here and in the two calls below the slices come one by one, as the ripple is lent parts of them (01).
 pub fn insert(
     directory: &mut [u32],
     growers: &mut [u32],
