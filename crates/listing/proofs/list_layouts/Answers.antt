@@ -1,6 +1,6 @@
 -- `listing::list_layouts` meets its contract: past the checks of what is given and 23, what `size_rest` counts is the permitted layouts and their lines, which
 -- 11 and 15 are put of; past these, what `add_up` and `mark` leave makes `put_all` write the listing. Assumes nothing.
-use Rattle.std.proofs.Common.{ℕ, List, ◌≤◌, ◌≡◌, sym, ap, ◌∙◌, length, arith}
+use Rattle.std.proofs.Common.{ℕ, List, sym, ap, ◌∙◌, length, arith}
 use Rattle.std.proofs.lemmas.Result.{err_from_is_err_and}
 use Rattle.model.specs.Bounds.{block_limit}
 use Rattle.model.specs.Blocks.{blocks}

@@ -1,6 +1,6 @@
 -- `planner::cost` meets its contract. Past the checks, the layout covers the blocks whose running sums `add_up` leaves, and `cost_answered` takes its number to
 -- its cost. Assumes nothing.
-use Rattle.std.proofs.Common.{◌≤◌, sym, ap, ◌∙◌, arith}
+use Rattle.std.proofs.Common.{sym, ap, ◌∙◌, arith}
 use Rattle.std.proofs.lemmas.Result.{err_from_is_err_and}
 use Rattle.model.specs.Bounds.{block_limit}
 use Rattle.model.specs.Blocks.{blocks}

@@ -1,10 +1,9 @@
 -- `planner::plan` meets its contract. Past the checks, what `add_up` and `mark` leave is the search's task, and `answered_plan` takes the search's answer to
 -- the model's. Assumes nothing.
-use Rattle.std.proofs.Common.{◌≤◌, sym, ap, ◌∙◌, arith}
+use Rattle.std.proofs.Common.{sym, ap, ◌∙◌, arith}
 use Rattle.std.proofs.lemmas.Result.{err_from_is_err_and}
 use Rattle.model.specs.Bounds.{block_limit}
 use Rattle.model.specs.Blocks.{blocks}
-use Rattle.model.specs.Lent.{set_given}
 use Rattle.sets.proofs.Sets.{blocks_most}
 use Rattle.block_costs.proofs.TermLaws.{summed_holds}
 use Rattle.permitted.proofs.Given.{plan_given, marked_same}
