@@ -55,27 +55,7 @@ pub const LENGTHS: usize = 2;
 pub const FENCES: usize = LENGTHS + BLOCK_LIMIT;
 
 pub const DIRECTORY_SIZE: usize = FENCES + BLOCK_LIMIT;
-// The histograms (01: 640 numbers), in the order of 01: which of them each is, how many there are, and how many numbers they have.
-pub const PQ: usize = 0;
-
-pub const RS: usize = 1;
-
-pub const RE: usize = 2;
-
-pub const SC: usize = 3;
-
-pub const DE: usize = 4;
-
-pub const IN: usize = 5;
-
-pub const UDF: usize = 6;
-
-pub const UTF: usize = 7;
-
-pub const UDB: usize = 8;
-
-pub const UTB: usize = 9;
-
+// The histograms (01: 640 numbers): how many there are, and how many numbers they have.
 const HISTOGRAM_COUNT: usize = 10;
 
 pub const HISTOGRAMS_SIZE: usize = HISTOGRAM_COUNT * BLOCK_LIMIT;
