@@ -7,7 +7,8 @@ ghost use Rattle.model.specs.Answers.{planned_of};
 ghost use Rattle.layout_search.specs.Task.{search_limit, Covers};
 ghost use Rattle.layout_search.specs.RunningSums.{sum_number, sum_at, sum_over, Holds, partition_ok};
 ghost use Rattle.layout_search.specs.RunningSums.{LocalPrice, Priced, EndPriced, Numbered};
-ghost use Rattle.layout_search.specs.Table.{Best, Offer, Chose, val_of, Row, Rows, Kept, LocalPrices, LocalRow, Tail, Tails, Small, offered_at, LeastOf, stored, Read};
+ghost use Rattle.layout_search.specs.Table.{Best, Offer, Chose, val_of, Row, Rows, Kept, LocalPrices, LocalRow, Tail};
+ghost use Rattle.layout_search.specs.Table.{Tails, Small, offered_at, LeastOf, stored, Read};
 ghost use Rattle.layout_search.specs.Table.{Lowest, Written};
 ghost use Rattle.layout_search.specs.Answer.{Answered};
 

@@ -9,7 +9,9 @@ invariant_of-offers c =
     let a = c.args in
     let s = a.self in
     record {
-      small = rw (c.local_index-at.ensures, c.end_count.ensures) (all_small s.sums.places.now s.fits.now s.longest _ a.k a.a a.table.now a.tails.now s.sums.hold (omega arith) (omega arith) c.requires.prices c.requires.tails (omega arith));
+      small =
+          rw (c.local_index-at.ensures, c.end_count.ensures)
+          (all_small s.sums.places.now s.fits.now s.longest _ a.k a.a a.table.now a.tails.now s.sums.hold (omega arith) (omega arith) c.requires.prices c.requires.tails (omega arith));
     }
 
 pub returns-then-low-ge-NONE : goal.returns-then-low-ge-NONE
