@@ -86,7 +86,7 @@ pub extern "C" fn meltusk_find(
         yields,
         days,
     };
-    column::find(directory, slices, grower).into()
+    Answer::from(column::find(directory, slices, grower))
 }
 
 // The records of the growers lo to hi.
@@ -108,7 +108,7 @@ pub extern "C" fn meltusk_range(
         yields,
         days,
     };
-    column::range(directory, slices, lo, hi).into()
+    Answer::from(column::range(directory, slices, lo, hi))
 }
 
 // The records of the growers lo to hi on the days first to last.
@@ -132,7 +132,7 @@ pub extern "C" fn meltusk_range_days(
         yields,
         days,
     };
-    column::range_days(directory, slices, lo, hi, DaySpan { first, last }).into()
+    Answer::from(column::range_days(directory, slices, lo, hi, DaySpan { first, last }))
 }
 
 // Inserts a delivery.
@@ -157,7 +157,7 @@ pub extern "C" fn meltusk_insert(
         oil_yield,
         day,
     };
-    column::insert(directory, growers, weights, yields, days, d).into()
+    Answer::from(column::insert(directory, growers, weights, yields, days, d))
 }
 
 // Deletes a delivery.
@@ -182,7 +182,7 @@ pub extern "C" fn meltusk_delete(
         oil_yield,
         day,
     };
-    column::delete(directory, growers, weights, yields, days, d).into()
+    Answer::from(column::delete(directory, growers, weights, yields, days, d))
 }
 
 // Moves a delivery to a new grower.
@@ -208,7 +208,7 @@ pub extern "C" fn meltusk_move(
         oil_yield,
         day,
     };
-    column::move_delivery(directory, growers, weights, yields, days, d, new_grower).into()
+    Answer::from(column::move_delivery(directory, growers, weights, yields, days, d, new_grower))
 }
 
 // The smallest grower at or above the given one who has records.
@@ -229,7 +229,7 @@ pub extern "C" fn meltusk_next_grower(
         yields,
         days,
     };
-    column::next_grower(directory, slices, grower).into()
+    GrowerAnswer::from(column::next_grower(directory, slices, grower))
 }
 
 // The largest grower at or below the given one who has records.
@@ -250,7 +250,7 @@ pub extern "C" fn meltusk_previous_grower(
         yields,
         days,
     };
-    column::previous_grower(directory, slices, grower).into()
+    GrowerAnswer::from(column::previous_grower(directory, slices, grower))
 }
 
 // Where a grower's partition lies in the growers.
@@ -262,7 +262,7 @@ pub extern "C" fn meltusk_partition(
 ) -> PartitionSlice
     ensures { result ≡ partition_call block_limit directory.now growers.now grower }
 {
-    column::partition(directory, growers, grower).into()
+    PartitionSlice::from(column::partition(directory, growers, grower))
 }
 
 // Records a find.
