@@ -62,7 +62,8 @@ fn directory_block_ok(directory: &[u32]) -> bool
     directory.len() != DIRECTORY_SIZE || checks::block_length_ok(directory[BLOCK])
 }
 
-// Checks 2, 3 and 6 of a directory and the slices.
+// Checks 2, 3 and 6 of a directory and the slices. It is laid out in its callers, so that what they don't use of a shape isn't made.
+#[inline(always)]
 pub fn lent<'a>(
     directory: &[u32],
     slices: LentSlices<'a>,

@@ -38,6 +38,8 @@ impl From<Refusal> for Refused {
 impl From<Result<Report, Refused>> for Answer {
     ghost from_gives = { λ r x. x ≡ answer_of r };
 
+    // Laid out in its caller, so that the report is made in place.
+    #[inline(always)]
     fn from(outcome: Result<Report, Refused>) -> Answer {
         match outcome {
             Ok(report) => Answer {
@@ -65,6 +67,7 @@ pub struct GrowerReport {
 impl From<Result<GrowerReport, Refusal>> for GrowerAnswer {
     ghost from_gives = { λ r x. x ≡ grower_answer_of r };
 
+    #[inline(always)]
     fn from(outcome: Result<GrowerReport, Refusal>) -> GrowerAnswer {
         match outcome {
             Ok(report) => GrowerAnswer {
