@@ -123,7 +123,8 @@ module _ (text : List ℕ) (s : Slices) where
       unfolding read_rows
       read = rw p.found.is p.good.is
 
-      pub answer-rows : {gs' ws' ys' z : List ℕ} → 0 ≡ text_refusal text slots → Stored text t.header.next t.header.columns s.growers s.weights s.yields gs' ws' ys' → z ≡ replicate (length (take t.rows s.days)) 0
+      pub answer-rows : {gs' ws' ys' z : List ℕ} → 0 ≡ text_refusal text slots → Stored text t.header.next t.header.columns s.growers s.weights s.yields gs' ws' ys'
+          → z ≡ replicate (length (take t.rows s.days)) 0
           → record { answer = record { refusal = 0; rows = t.rows }; slices = slices_of gs' ws' ys' (z ++ drop t.rows s.days) } ≡ import_call text s
       unfolding import_call
       answer-rows {gs'} {ws'} {ys'} {z} e d q =

@@ -111,7 +111,8 @@ module _ {text : List ℕ} {at : ℕ} {c : Columns} {r : Record} (p : ReadAt tex
         go (some g) none = refl
         go (some g) (some w) = refl
 
-    pub row_good : {x v z : ℕ} → r.picks.grower ≡ Some x → bounded most_weight (number_of r.picks.weight) ≡ some v → bounded most_yield (number_of r.picks.oil_yield) ≡ some z → RowIs text at c (Some (record { delivery = delivery x v z 0; next = r.next }))
+    pub row_good : {x v z : ℕ} → r.picks.grower ≡ Some x → bounded most_weight (number_of r.picks.weight) ≡ some v → bounded most_yield (number_of r.picks.oil_yield) ≡ some z
+        → RowIs text at c (Some (record { delivery = delivery x v z 0; next = r.next }))
     row_good {x} {v} {z} e f i = record {
       within = p.within;
       moves = p.moves;

@@ -127,6 +127,7 @@ fn window(r: Records, q: Wanted, batch: &mut [u32], work: &mut [u32], seen: &mut
 {
     let mut n = 0;
     let mut i = 0;
+    // A `while`, since filling says where it stopped.
     while i < r.len() {
         let f = fill(r, q, i, batch, n, seen);
         n = keep_smallest(r.growers, &mut batch[..f.count], &mut work[..f.count]);

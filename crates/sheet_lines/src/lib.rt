@@ -78,6 +78,7 @@ fn put_lines(text: &mut [u8], order: &[u32], r: Records) -> Lines
     let mut totals = Totals::none();
     let mut at = 0;
     let mut i = 0;
+    // A `while`, since a run is as many slots as the grower has records.
     while i < order.len() {
         let run = run_at(order, r, i);
         put_line(text, at, r.growers[order[i] as usize], run);

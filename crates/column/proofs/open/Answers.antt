@@ -36,7 +36,11 @@ pub returns-clause-accepted : goal.returns-clause-accepted
 returns-clause-accepted c =
     let e = c.in_ok-shape.ensures in
     record {
-      accepted = insert_accepted block_limit _ _ (sym e.refused) (sym c.in_range.ensures ∙ c.if-not-in_range.false) (sym c.day_ok.ensures ∙ c.if-not-day_ok.false) (omega (arith, ap (λ (s : Slices). length s.growers) c.in_ok-shape.ensures.accepted.0, c.in_ok-shape.ensures.accepted.1.used_is));
+      accepted = insert_accepted block_limit _ _ (sym e.refused) (sym c.in_range.ensures ∙ c.if-not-in_range.false) (sym c.day_ok.ensures ∙ c.if-not-day_ok.false) (omega (
+        arith,
+        ap (λ (s : Slices). length s.growers) c.in_ok-shape.ensures.accepted.0,
+        c.in_ok-shape.ensures.accepted.1.used_is,
+      ));
       used_is = e.accepted.1.used_is;
       target_is = e.accepted.1.target_is;
       start_is = e.accepted.1.start_is;

@@ -3,7 +3,8 @@ use Rattle.std.proofs.Common.{arith, rules}
 use Rattle.std.proofs.lemmas.Grind.{common_steps}
 use Rattle.dates.proofs.Answers.{day_refused, too_late, day_answer}
 use Rattle.dates.proofs.day_of.Goals as goal
-use Rattle.dates.proofs.day_of.Goals.{then-not-contains-via-then-not-contains, then-not-contains-via-else-not-contains+then-not-contains-2, then-not-contains-via-else-not-contains+else-not-contains-2+then-day-lt1}
+use Rattle.dates.proofs.day_of.Goals.{then-not-contains-via-then-not-contains, then-not-contains-via-else-not-contains+then-not-contains-2}
+use Rattle.dates.proofs.day_of.Goals.{then-not-contains-via-else-not-contains+else-not-contains-2+then-day-lt1}
 
 pub returns-then-not-contains : goal.returns-then-not-contains
 returns-then-not-contains c =

@@ -13,7 +13,8 @@ pub loop-x-preserved : goal.loop-x-preserved
 loop-x-preserved g c =
     let w : Direction = g.W.Way.direction in
     let x : ℕ = get_or c.args.s.now c.loop-x.x-index 0 in
-    let next : (t : Bool) → at_or_past w c.args.g x ≡ t → c.if-is_past.offered ≡ cond t x (last_number w) → Nearing w c.args.g c.args.s.now (nearer w c.loop-x.nearest c.if-is_past.offered) (c.loop-x.x-index + 1)
+    let next : (t : Bool) → at_or_past w c.args.g x ≡ t → c.if-is_past.offered ≡ cond t x (last_number w)
+    → Nearing w c.args.g c.args.s.now (nearer w c.loop-x.nearest c.if-is_past.offered) (c.loop-x.x-index + 1)
     = nearing_next w c.args.g c.args.s.now c.loop-x.nearest c.loop-x.x-index c.if-is_past.offered (omega arith) (omega (arith, c.type_inv.s c.loop-x.x-index)) c.loop-x.invariant in
     rw c.nearer-nearest.ensures
     (elim c.if-is_past.branch [

@@ -56,7 +56,8 @@ pub loop-x-preserved : goal.loop-x-preserved
 loop-x-preserved g c =
     let x : ℕ = get_or c.args.s.now c.loop-x.x-index 0 in
     flag_and (λ (x : ℕ). not (from_to g.W.Way.direction c.args.g c.args.last x)) c.args.s.now c.loop-x.none c.loop-x.x-index _ (omega arith)
-    (passes g.W.Way.direction x c.args.g c.args.last _ _ c.requires (omega arith) (omega arith) (omega (arith, c.type_inv.s c.loop-x.x-index)) c.either-least.ensures c.either.ensures) c.loop-x.invariant
+    (passes g.W.Way.direction x c.args.g c.args.last _ _ c.requires (omega arith) (omega arith)
+    (omega (arith, c.type_inv.s c.loop-x.x-index)) c.either-least.ensures c.either.ensures) c.loop-x.invariant
 
 pub returns : goal.returns
 returns g c = flag_end (λ (x : ℕ). not (from_to g.W.Way.direction c.args.g c.args.last x)) _ _ _ (omega arith) c.loop-x.invariant

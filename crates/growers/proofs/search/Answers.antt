@@ -84,7 +84,16 @@ overflow_add-blocks g c =
     let m : Met w ns c.args.from c.loop-j.edge c.loop-j.j c.onward.result
     = met w ns c.args.from c.loop-j.edge c.loop-j.j c.onward.result c.requires.0 (rw c.either-j-end.ensures at c.loop-j-test.true) c.loop-j.invariant.here c.onward.ensures in
     let size : get_or ns c.onward.result 0 ≤ most_slots = omega (arith, stop_le ns c.onward.result m.there, c.requires.2, c.args.r.few) in
-    omega (arith, c.loop-j.invariant.few, m.on-path, steps_most w ns c.args.from c.requires.0, c.requires.1, size, blocks_most c.args.block (get_or ns c.onward.result 0) c.requires.3, c.blocks_of-scanned.ensures)
+    omega (
+      arith,
+      c.loop-j.invariant.few,
+      m.on-path,
+      steps_most w ns c.args.from c.requires.0,
+      c.requires.1,
+      size,
+      blocks_most c.args.block (get_or ns c.onward.result 0) c.requires.3,
+      c.blocks_of-scanned.ensures,
+    )
 
 pub returns-then-nearest-gt0 : goal.returns-then-nearest-gt0
 returns-then-nearest-gt0 g c =
@@ -96,7 +105,8 @@ returns-then-nearest-gt0 g c =
     let days : c.loop-j.dated && c.days_ok-dated.result ≡ c.loop-j.dated && every day_ok (rows (lent_part c.loop-j.invariant c.onward.result))
     = days_of c.loop-j.dated c.days_ok-dated.result (records_given c.part_onward-partition.result) _ c.days_ok-dated.ensures c.part_onward-partition.result.even c.part_onward-partition.ensures in
     let o : c.near_all.result ≡ Some c.in_ok-nearest.nearest = c.in_ok-nearest.ensures.ok_part in
-    let e : Some c.in_ok-nearest.nearest ≡ near_all w c.args.grower (rows (lent_part c.loop-j.invariant c.onward.result)) = of_part w c.args.grower o c.near_all.ensures c.part_onward-partition.ensures in
+    let e : Some c.in_ok-nearest.nearest ≡ near_all w c.args.grower
+    (rows (lent_part c.loop-j.invariant c.onward.result)) = of_part w c.args.grower o c.near_all.ensures c.part_onward-partition.ensures in
     c.found.ensures
     ∙ searching_hit c.loop-j.invariant m room e days c.blocks_of-scanned.ensures (omega (arith, c.if-nearest-gt0.true))
 
@@ -111,7 +121,8 @@ loop-j-preserved g c =
     = days_of c.loop-j.dated c.days_ok-dated.result (records_given c.part_onward-partition.result) _ c.days_ok-dated.ensures c.part_onward-partition.result.even c.part_onward-partition.ensures in
     let size : get_or ns c.onward.result 0 ≤ most_slots = omega (arith, stop_le ns c.onward.result m.there, c.requires.2, c.args.r.few) in
     let o : c.near_all.result ≡ Some c.in_ok-nearest.nearest = c.in_ok-nearest.ensures.ok_part in
-    let e : Some c.in_ok-nearest.nearest ≡ near_all w c.args.grower (rows (lent_part c.loop-j.invariant c.onward.result)) = of_part w c.args.grower o c.near_all.ensures c.part_onward-partition.ensures in
+    let e : Some c.in_ok-nearest.nearest ≡ near_all w c.args.grower
+    (rows (lent_part c.loop-j.invariant c.onward.result)) = of_part w c.args.grower o c.near_all.ensures c.part_onward-partition.ensures in
     searching_next c.loop-j.invariant m room e days c.blocks_of-scanned.ensures (omega (arith, c.if-nearest-gt0.false)) c.onward-edge.ensures c.requires.3 size
 
 pub returns : goal.returns

@@ -16,7 +16,8 @@ use Rattle.snapshot.proofs.WriteAnswers.{days_there}
 use Rattle.sheet.specs.Answers.{span_slots}
 use Rattle.sheet.proofs.SheetAnswers.{column_first, days_refused, order_short, work_short, text_short, all_fits, sound_lent, slots_are, text_size}
 use Rattle.sheet.proofs.check_sheet.Goals as goal
-use Rattle.sheet.proofs.check_sheet.Goals.{then-order_room-count-via-then-order_room-count, then-order_room-count-via-else-order_room-count+then-work_room-count, then-order_room-count-via-else-order_room-count+else-work_room-count+then-not-lines_fit}
+use Rattle.sheet.proofs.check_sheet.Goals.{then-order_room-count-via-then-order_room-count, then-order_room-count-via-else-order_room-count+then-work_room-count}
+use Rattle.sheet.proofs.check_sheet.Goals.{then-order_room-count-via-else-order_room-count+else-work_room-count+then-not-lines_fit}
 
 pub returns-in_err-records-clause-refused : goal.returns-in_err-records-clause-refused
 returns-in_err-records-clause-refused c =
@@ -55,7 +56,8 @@ returns-then-order_room-count-clause-refused c =
     rw c.in-Some.is
     elim c.then-order_room-count.branch [
       | then-order_room-count-via-then-order_room-count w ↦ order_short block_limit col (Some c.in-Some.days) c.args.room c.args.order_room c.args.work_room n y k w.if-order_room-count.true
-      | then-order_room-count-via-else-order_room-count+then-work_room-count w ↦ work_short block_limit col (Some c.in-Some.days) c.args.room c.args.order_room c.args.work_room n y k w.if-order_room-count.false w.if-work_room-count.true
+      | then-order_room-count-via-else-order_room-count+then-work_room-count w ↦ work_short block_limit col
+          (Some c.in-Some.days) c.args.room c.args.order_room c.args.work_room n y k w.if-order_room-count.false w.if-work_room-count.true
       | then-order_room-count-via-else-order_room-count+else-work_room-count+then-not-lines_fit w ↦
           text_short block_limit col (Some c.in-Some.days) c.args.room c.args.order_room c.args.work_room n y k (text_size block_limit col l s q) (sym w.lines_fit.ensures ∙ w.if-not-lines_fit.true)
     ]
@@ -73,5 +75,6 @@ returns-clause-refused c =
     let k : c.count_during-count.result ≡ length (span_slots block_limit col s)
     = c.count_during-count.ensures ∙ ap (λ (m : ℕ). length (slots_during s c.in_ok-records.records.days.now m)) e ∙ ap length (slots_are block_limit col l s q) in
     rw c.in-Some.is
-    (all_fits block_limit col (Some c.in-Some.days) c.args.room c.args.order_room c.args.work_room n (d ∙ c.if-not-days_ok.false) k (text_size block_limit col l s q) (sym c.lines_fit.ensures ∙ c.if-not-lines_fit.false)
+    (all_fits block_limit col (Some c.in-Some.days) c.args.room c.args.order_room c.args.work_room n (d ∙ c.if-not-days_ok.false) k (text_size block_limit col l s q)
+    (sym c.lines_fit.ensures ∙ c.if-not-lines_fit.false)
     c.if-order_room-count.false c.if-work_room-count.false)

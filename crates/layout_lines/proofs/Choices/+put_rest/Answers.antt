@@ -70,7 +70,13 @@ put_rest-e-requires t c =
     let rr : 11 * a.k + 11 ≤ length a.row.now = omega (arith, c.requires.choosing.1.room, a.self.few, c.requires.choosing.0.inside, c.requires.choosing.0.first, c.requires.choosing.0.count) in
     let more : a.i + 1 < a.self.rules.blocks = omega (arith, c.requires.choosing.0.inside) in (
       omega arith,
-      (c.requires.blocks, ((choosing_behind c.requires.choosing.0 more, c.choose-next.ensures.carrying), here_room x _ _ _ _ a.text.now c.choose-next.ensures rr (chosen_or_not x short more c.if-not-self-i.false) c.requires.room)),
+      (
+        c.requires.blocks,
+        (
+          (choosing_behind c.requires.choosing.0 more, c.choose-next.ensures.carrying),
+          here_room x _ _ _ _ a.text.now c.choose-next.ensures rr (chosen_or_not x short more c.if-not-self-i.false) c.requires.room,
+        ),
+      ),
     )
 
 pub put_rest-requires-2 : goal.put_rest-requires-2
@@ -84,7 +90,13 @@ put_rest-requires-2 t c =
     let same = c.put_rest-e.auto.row in
     let v = c.requires.choosing.1 in (
       omega arith,
-      (c.requires.blocks, ((choosing_later c.requires.choosing.0 more, record { room = omega (arith, c.choose-next.ensures.carrying.room, same); high = v.high; low = v.low }), past_room x _ _ _ _ _ c.choose-next.ensures rr (chosen_or_not x short more c.if-not-self-i.false) c.requires.room c.put_rest-e.ensures)),
+      (
+        c.requires.blocks,
+        (
+          (choosing_later c.requires.choosing.0 more, record { room = omega (arith, c.choose-next.ensures.carrying.room, same); high = v.high; low = v.low }),
+          past_room x _ _ _ _ _ c.choose-next.ensures rr (chosen_or_not x short more c.if-not-self-i.false) c.requires.room c.put_rest-e.ensures,
+        ),
+      ),
     )
 
 pub returns : goal.returns
