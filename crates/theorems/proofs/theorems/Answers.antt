@@ -2,11 +2,7 @@
 use Rattle.theorems.proofs.Ledger.{ledger_agrees_from, ledger_agrees}
 use Rattle.theorems.proofs.Demand3.{plan_is_best}
 use Rattle.theorems.proofs.Snapshot.{written_is_read, read_is_written}
-use Rattle.theorems.proofs.theorems.Statement.{statement}
-use Rattle.theorems.proofs.theorems.Tie as tie
+use Rattle.theorems.proofs.theorems.Goals as goal
 
-returns : tie.Need-returns
+pub returns : goal.returns
 returns c = (ledger_agrees_from, ledger_agrees, plan_is_best, written_is_read, read_is_written)
-
-pub theorems_spec : {M : Type 1} → statement M
-theorems_spec = tie.close (tie.spec returns)
