@@ -43,23 +43,21 @@ set-of b m s = record { block = b; used = m; slices = s }
 
 -- Planning.
 
-pub record Prices (t : List ℕ) (p : PriceCard) (l : Limits) (f m : ℕ) : Type 0 where
+pub record Prices (t : List ℕ) (p : PriceCard) (l : Limits) : Type 0 where
   pub card : p ≡ card_in t
   pub limit : l ≡ limits_in t
-  pub block : f ≡ value_at 57 t
-  pub used : m ≡ value_at 68 t
 
 -- L is the block limit
-module _ (L : ℕ) {t : List ℕ} (s : Slices) (hs out : List ℕ) {p : PriceCard} {l : Limits} {f m : ℕ} (is : Prices t p l f m) (ans : Planned) (es : List ℕ)
-    (q : ◌≡◌ {A = PlanResult} (record { answer = ans; ends = es }) (plan_call L p l (set-of f m s) hs out)) where
+module _ (L : ℕ) {t : List ℕ} (s : Set) (hs out : List ℕ) {p : PriceCard} {l : Limits} (is : Prices t p l) (ans : Planned) (es : List ℕ)
+    (q : ◌≡◌ {A = PlanResult} (record { answer = ans; ends = es }) (plan_call L p l s hs out)) where
   in_week : ◌≡◌ {A = PlanResult} (record { answer = ans; ends = es }) (plan_in L t s hs out)
-  in_week = rw (is.card, is.limit, is.block, is.used) at q
+  in_week = rw (is.card, is.limit) at q
 
   pub plan_refuses : (r : Output output_size) → ans.refusal ≢ 0 → r ≡ output_of (refusal_text ans.refusal) → r ≡ output_of (plan_text (plan_in L t s hs out))
   plan_refuses r h g = g ∙ ap output_of (text_refused ans es h ∙ ap plan_text in_week)
 
-  pub plan_fits : ans.refusal ≡ 0 → Fitting L p l (set-of f m s) hs out ans es
-  plan_fits h = fitting L p l (set-of f m s) hs out ans es q h
+  pub plan_fits : ans.refusal ≡ 0 → Fitting L p l s hs out ans es
+  plan_fits h = fitting L p l s hs out ans es q h
 
   pub plan_few : ans.refusal ≡ 0 → length (take ans.count es) ≤ L
   plan_few h = let w = plan_fits h in omega (arith, length-take-le ans.count es w.count_in, w.count_few)
@@ -95,14 +93,14 @@ module _ {t : List ℕ} (s : Slices) {f m q : ℕ} (is : Sizes t f m q) (n : ℕ
   unfolding week_text
   refused_text z = rw (← recorded, ne_eqb n 0 z)
 
-  planned_text : n ≡ 0 → plan_text (plan_in block_limit t s h (replicate block_limit 0)) ≡ week_text (week_in t s)
+  planned_text : n ≡ 0 → plan_text (plan_in block_limit t (set-of f m s) h (replicate block_limit 0)) ≡ week_text (week_in t s)
   unfolding week_text
-  planned_text z = rw (← recorded, eq-eqb n 0 z)
+  planned_text z = rw (← recorded, eq-eqb n 0 z, is.block, is.used)
 
   pub answer_refused : (r : Output output_size) → n ≢ 0 → r ≡ output_of (refusal_text n) → r ≡ output_of (week_text (week_in t s))
   answer_refused r z g = g ∙ ap output_of (refused_text z)
 
-  pub answer-planned : (r : Output output_size) → n ≡ 0 → r ≡ output_of (plan_text (plan_in block_limit t s h (replicate block_limit 0))) → r ≡ output_of (week_text (week_in t s))
+  pub answer-planned : (r : Output output_size) → n ≡ 0 → r ≡ output_of (plan_text (plan_in block_limit t (set-of f m s) h (replicate block_limit 0))) → r ≡ output_of (week_text (week_in t s))
   answer-planned r z g = g ∙ ap output_of (planned_text z)
 
 -- The slices.

@@ -302,39 +302,30 @@ pub records_end : {t : List ℕ} {at q : ℕ} {s : Set} {h₀ h : List ℕ} {i e
 unfolding record_until_refused calls_at
 records_end {t} {at} {q} {s} {h₀} {h} {i} {e} l w = let z : q - i ≡ 0 = omega arith in sym (w.work ∙ rw z)
 
--- The call at a byte, recorded by its kind.
+-- The call at a byte, by its kind.
 
-pub record Four (t : List ℕ) (at k a b c : ℕ) : Type 0 where
+pub record Five (t : List ℕ) (at k a b c d : ℕ) : Type 0 where
   pub kind : k ≡ value_at at t
   pub first : a ≡ value_at (at + 11) t
   pub second : b ≡ value_at (at + 11 + 11) t
   pub third : c ≡ value_at (at + 11 + 11 + 11) t
+  pub fourth : d ≡ value_at (at + 11 + 11 + 11 + 11) t
 
--- L is the block limit
-module _ (L : ℕ) {t : List ℕ} {at k a b c : ℕ} (w : Four t at k a b c) (s : Set) (hs : List ℕ) (r : Recorded) where
-  -- the answer of the recorder to the line's call
-  abbrev Here : Type 0
-  Here = r ≡ record_call L s hs (call_by (column_at 11 at 5 t))
+module _ {t : List ℕ} {at k a b c d : ℕ} (w : Five t at k a b c d) where
+  by_kind : {x : Call} → call_by (k ∷ a ∷ b ∷ c ∷ d ∷ []) ≡ x → x ≡ call_by (column_at 11 at 5 t)
+  by_kind j = sym j ∙ rw (five t at, w.kind, w.first, w.second, w.third, w.fourth)
 
-  abbrev fifth : ℕ
-  fifth = value_at (at + 11 + 11 + 11 + 11) t
+  pub find_at : k ≡ 1 → find a ≡ call_by (column_at 11 at 5 t)
+  find_at i = by_kind (by_find k a b c d i)
 
-  by_kind : (d : ℕ) → d ≡ fifth → (x : Call) → call_by (k ∷ a ∷ b ∷ c ∷ d ∷ []) ≡ x → r ≡ record_call L s hs x → Here
-  by_kind d i x j q =
-      let same : call_by (k ∷ a ∷ b ∷ c ∷ d ∷ []) ≡ call_by (column_at 11 at 5 t) = rw (five t at, w.kind, w.first, w.second, w.third, i) in
-      q ∙ ap (record_call L s hs) (sym j ∙ same)
+  pub range_at : k ≡ 2 → range a b ≡ call_by (column_at 11 at 5 t)
+  range_at i = by_kind (by_range k a b c d i)
 
-  pub found_at : k ≡ 1 → r ≡ record_call L s hs (find a) → Here
-  found_at i = by_kind fifth refl (find a) (by_find k a b c fifth i)
+  pub insert_at : k ≡ 3 → insert (delivery a b c 0) ≡ call_by (column_at 11 at 5 t)
+  insert_at i = by_kind (by_insert k a b c d i)
 
-  pub ranged_at : k ≡ 2 → r ≡ record_call L s hs (range a b) → Here
-  ranged_at i = by_kind fifth refl (range a b) (by_range k a b c fifth i)
+  pub delete_at : k ≡ 4 → delete (delivery a b c 0) ≡ call_by (column_at 11 at 5 t)
+  delete_at i = by_kind (by_delete k a b c d i)
 
-  pub inserted-at : k ≡ 3 → r ≡ record_call L s hs (insert (delivery a b c 0)) → Here
-  inserted-at i = by_kind fifth refl (insert (delivery a b c 0)) (by_insert k a b c fifth i)
-
-  pub deleted-at : k ≡ 4 → r ≡ record_call L s hs (delete (delivery a b c 0)) → Here
-  deleted-at i = by_kind fifth refl (delete (delivery a b c 0)) (by_delete k a b c fifth i)
-
-  pub moved_at : (d : ℕ) → d ≡ fifth → k ≢ 1 → k ≢ 2 → k ≢ 3 → k ≢ 4 → r ≡ record_call L s hs (move (delivery a b c 0) d) → Here
-  moved_at d i l m n o = by_kind d i (move (delivery a b c 0) d) (by_move k a b c d l m n o)
+  pub move_at : k ≢ 1 → k ≢ 2 → k ≢ 3 → k ≢ 4 → move (delivery a b c 0) d ≡ call_by (column_at 11 at 5 t)
+  move_at l m n o = by_kind (by_move k a b c d l m n o)

@@ -11,6 +11,7 @@ use Rattle.model.specs.declared.Limits.{Limits}
 use Rattle.model.specs.Lists.{is_some}
 use Rattle.model.specs.Prices.{prices, limits}
 use Rattle.model.specs.Deliveries.{delivery, Slices}
+use Rattle.model.specs.Blocks.{Set}
 use Rattle.model.specs.Calls.{Call, find, range, insert, delete, move}
 use Rattle.model.specs.Fields.{nth}
 use Rattle.model.specs.Planner.{PlanResult, plan_call}
@@ -96,6 +97,6 @@ week_in t s = record {
   calls = calls_at (count_in t) (calls_from t) t;
 }
 
--- the planner's answer to it at the block limit L, from the histograms that its calls left
-abbrev pub plan_in : ℕ → List ℕ → Slices → List ℕ → List ℕ → PlanResult
-plan_in L t s hs out = plan_call L (card_in t) (limits_in t) (week_in t s).set hs out
+-- the planner's answer to it at the block limit L, for its set, from the histograms that its calls left
+abbrev pub plan_in : ℕ → List ℕ → Set → List ℕ → List ℕ → PlanResult
+plan_in L t s hs out = plan_call L (card_in t) (limits_in t) s hs out

@@ -6,18 +6,17 @@ ghost use Rattle.std.specs.Prelude.{◌≡◌, ℕ, ◌+◌, ◌*◌, ◌≤◌,
 ghost use Rattle.model.specs.Bounds.{block_limit, most_calls};
 ghost use Rattle.model.specs.Recorder.{record_call};
 ghost use Rattle.model.specs.Program.{call_of, sizes_ok, record_until_refused, partition_texts, week_text, plan_text, layplan};
-ghost use Rattle.model.specs.Lent.{set_given, slices_in};
+ghost use Rattle.model.specs.Lent.{set_given, slices_given};
 ghost use Rattle.model.specs.Refusals.{number_of};
 ghost use Rattle.fields.specs.Writing.{placed};
 ghost use Rattle.lines.specs.Lines.{text_checked, line_ok};
-ghost use Rattle.layplan_text.specs.Week.{call_said, call_told, call_found, call_at, calls_at, calls_ok, head_ok, week_ok, card_in, limits_in, week_in, plan_in};
+ghost use Rattle.layplan_text.specs.Week.{call_given, call_said, call_told, call_found, call_at, calls_at, calls_ok, head_ok, week_ok, card_in, limits_in, week_in, plan_in};
 ghost use Rattle.layplan_text.specs.Texts.{output_of, ends_text, EndsFit};
 
 use fields::{SIGNED_WIDTH, WIDTH};
 use lines::{Output, THREE, TWO};
 use model::{
     BLOCK_LIMIT, Delivery, HISTOGRAMS_SIZE, LentSet, LentSlices, Limits, PriceCard, Refusal,
-    number_of,
 };
 
 // The kinds of calls (01: find, range, insert, delete, move).
@@ -146,54 +145,65 @@ fn check_week(text: &[u8]) -> Result<(), Refusal>
     Ok(())
 }
 
-// Records the call at a byte.
-fn record_at(text: &[u8], at: usize, h: &mut [u32], set: LentSet) -> Result<(), Refusal>
+// The call of the line at a byte, which has been judged.
+fn judged_call_at(text: &[u8], at: usize) -> Call
     requires { (at ≤ 1000000) × T (line_ok 5 at text.now) }
-    ensures { record { refusal = number_of result; histograms = h.new }
-        ≡ record_call block_limit (set_given set.entry) h.old (call_at at text.now) }
+    ensures { call_given result ≡ call_at at text.now }
 {
     let kind = fields::spelled_at(text, at);
     let a = fields::spelled_at(text, at + WIDTH);
     let p = at + WIDTH + WIDTH;
     let b = fields::spelled_at(text, p);
     let c = fields::spelled_at(text, p + WIDTH);
-    if kind == FIND {
-        return recorder::record_find(h, set, a);
-    }
-    if kind == RANGE {
-        return recorder::record_range(h, set, a, b);
-    }
-    let d = Delivery {
+    let d = fields::spelled_at(text, p + WIDTH + WIDTH);
+    let delivery = Delivery {
         grower: a,
         weight: b,
         oil_yield: c,
         day: 0,
     };
-    if kind == INSERT {
-        return recorder::record_insert(h, set, d);
+    match kind {
+        FIND => Call::Find(a),
+        RANGE => Call::Range(a, b),
+        INSERT => Call::Insert(delivery),
+        DELETE => Call::Delete(delivery),
+        _ => Call::Move(delivery, d),
     }
-    if kind == DELETE {
-        return recorder::record_delete(h, set, d);
+}
+
+// Records a call.
+fn record_one(h: &mut [u32], set: LentSet, call: Call) -> Result<(), Refusal>
+    ensures { record { refusal = number_of result; histograms = h.new }
+        ≡ record_call block_limit (set_given set.entry) h.old (call_given call) }
+{
+    match call {
+        Call::Find(grower) => recorder::record_find(h, set, grower),
+        Call::Range(lo, hi) => recorder::record_range(h, set, lo, hi),
+        Call::Insert(delivery) => recorder::record_insert(h, set, delivery),
+        Call::Delete(delivery) => recorder::record_delete(h, set, delivery),
+        Call::Move(delivery, grower) => recorder::record_move(h, set, delivery, grower),
     }
-    let e = fields::spelled_at(text, p + WIDTH + WIDTH);
-    recorder::record_move(h, set, d, e)
 }
 
 // Records q calls, from a byte on, up to the first that is refused.
-fn record_lines(text: &[u8], at: usize, q: usize, histograms: &mut [u32], set: LentSet) -> u32
+fn record_lines(
+    text: &[u8],
+    at: usize,
+    q: usize,
+    histograms: &mut [u32],
+    set: LentSet,
+) -> Result<(), Refusal>
     requires { (at ≤ 100000) × (q ≤ most_calls) × T (calls_ok q at text.now) }
-    ensures { record { refusal = result; histograms = histograms.new }
+    ensures { record { refusal = number_of result; histograms = histograms.new }
         ≡ record_until_refused (set_given set.entry) histograms.old (calls_at q at text.now) }
 {
     let mut e = at;
     for i in 0..q {
-        let n = number_of(record_at(text, e, histograms, set));
-        if n != 0 {
-            return n;
-        }
+        let call = judged_call_at(text, e);
+        record_one(histograms, set, call)?;
         e += FIVE;
     }
-    0
+    Ok(())
 }
 
 // Each partition's first and last block, from a byte on.
@@ -201,15 +211,12 @@ fn put_ends(text: &mut [u8], at: usize, ends: &[u32])
     requires { (at + 23 * length ends.now ≤ length text.old) × EndsFit block_limit ends.now }
     ensures { text.new ≡ placed at (partition_texts 0 ends.now) text.old }
 {
-    let mut i = 0;
     let mut e = at;
     let mut first = 0;
-    while i < ends.len() {
-        let last = ends[i];
+    for &last in ends {
         lines::put_line(text, e, &[first, last]);
         first = last + 1;
         e += TWO;
-        i += 1;
     }
 }
 
@@ -252,33 +259,14 @@ fn limits_of(text: &[u8]) -> Limits
 }
 
 // Plans from the recorded calls.
-fn plan(
-    text: &[u8],
-    histograms: &[u32],
-    growers: &[u32],
-    weights: &[u32],
-    yields: &[u32],
-    days: &[u32],
-) -> Output<OUTPUT>
+fn plan(text: &[u8], histograms: &[u32], set: LentSet) -> Output<OUTPUT>
     requires { T (head_ok text.now) }
     ensures { result ≡ output_of (plan_text (plan_in block_limit text.now
-        (slices_in growers weights yields days) histograms.now (replicate block_limit 0))) }
+        (set_given set.entry) histograms.now (replicate block_limit 0))) }
 {
     let card = card_of(text);
     let limits = limits_of(text);
-    let block = fields::spelled_at(text, SIZES_AT);
-    let used = fields::spelled_at(text, USED_AT);
     let mut ends = [0u32; BLOCK_LIMIT];
-    let set = LentSet {
-        block,
-        used,
-        slices: LentSlices {
-            growers,
-            weights,
-            yields,
-            days,
-        },
-    };
     match planner::plan(card, limits, set, histograms, &mut ends[..]) {
         Ok(p) => {
             let k = p.count as usize;
@@ -289,15 +277,9 @@ fn plan(
 }
 
 // Records the calls and plans, the deliveries in slices.
-fn answer(
-    text: &[u8],
-    growers: &[u32],
-    weights: &[u32],
-    yields: &[u32],
-    days: &[u32],
-) -> Output<OUTPUT>
+fn answer(text: &[u8], slices: LentSlices) -> Output<OUTPUT>
     requires { T (week_ok text.now) }
-    ensures { result ≡ output_of (week_text (week_in text.now (slices_in growers weights yields days))) }
+    ensures { result ≡ output_of (week_text (week_in text.now (slices_given slices.entry))) }
 {
     let block = fields::spelled_at(text, SIZES_AT);
     let used = fields::spelled_at(text, USED_AT);
@@ -307,18 +289,12 @@ fn answer(
     let set = LentSet {
         block,
         used,
-        slices: LentSlices {
-            growers,
-            weights,
-            yields,
-            days,
-        },
+        slices,
     };
-    let stop = record_lines(text, a, q, &mut histograms[..], set);
-    if stop != 0 {
-        return Output::one_number(stop);
+    if let Err(refusal) = record_lines(text, a, q, &mut histograms[..], set) {
+        return Output::one_number(refusal.number());
     }
-    plan(text, &histograms[..], growers, weights, yields, days)
+    plan(text, &histograms[..], set)
 }
 
 // The program's output for an input.
@@ -337,5 +313,11 @@ pub fn layplan_text(text: &[u8]) -> Output<OUTPUT>
     lines::store(text, WEIGHTS_AT, &mut weights[..m]);
     lines::store(text, YIELDS_AT, &mut yields[..m]);
     let c = m + 1;
-    answer(text, &growers[..c], &weights[..c], &yields[..c], &days[..c])
+    let slices = LentSlices {
+        growers: &growers[..c],
+        weights: &weights[..c],
+        yields: &yields[..c],
+        days: &days[..c],
+    };
+    answer(text, slices)
 }

@@ -52,38 +52,38 @@ store-requires-3 c = let w = held _ _ c.in_default.ensures c.spelled_at-m.ensure
 pub slice_bounds-growers-end-2 : goal.slice_bounds-growers-end-2
 slice_bounds-growers-end-2 c =
     let w = held _ _ c.in_default.ensures c.spelled_at-m.ensures in
-    stored_room c.args.text.now 91 _ _ w.few _ (front_stored _ 91 _ _ w.few _ c.store.ensures)
+    omega (arith, stored_room c.args.text.now 91 _ _ w.few _ (front_stored _ 91 _ _ w.few _ c.store.ensures))
 
-pub slice_bounds-answer-end : goal.slice_bounds-answer-end
-slice_bounds-answer-end c =
+pub slice_bounds-slices-end : goal.slice_bounds-slices-end
+slice_bounds-slices-end c =
     let w = held _ _ c.in_default.ensures c.spelled_at-m.ensures in
-    sym (length-take-le _ _ (stored_room c.args.text.now 91 _ _ w.few _ (front_stored _ 91 _ _ w.few _ c.store.ensures)))
+    sym (length-take-le _ _ (omega (arith, stored_room c.args.text.now 91 _ _ w.few _ (front_stored _ 91 _ _ w.few _ c.store.ensures))))
 
 pub slice_bounds-weights-end-2 : goal.slice_bounds-weights-end-2
 slice_bounds-weights-end-2 c =
     let w = held _ _ c.in_default.ensures c.spelled_at-m.ensures in
-    stored_room c.args.text.now 102 _ _ w.few _ (front_stored _ 102 _ _ w.few _ c.store-2.ensures)
+    omega (arith, stored_room c.args.text.now 102 _ _ w.few _ (front_stored _ 102 _ _ w.few _ c.store-2.ensures))
 
-pub slice_bounds-answer-end-2 : goal.slice_bounds-answer-end-2
-slice_bounds-answer-end-2 c =
+pub slice_bounds-slices-end-2 : goal.slice_bounds-slices-end-2
+slice_bounds-slices-end-2 c =
     let w = held _ _ c.in_default.ensures c.spelled_at-m.ensures in
-    sym (length-take-le _ _ (stored_room c.args.text.now 102 _ _ w.few _ (front_stored _ 102 _ _ w.few _ c.store-2.ensures)))
+    sym (length-take-le _ _ (omega (arith, stored_room c.args.text.now 102 _ _ w.few _ (front_stored _ 102 _ _ w.few _ c.store-2.ensures))))
 
 pub slice_bounds-yields-end-2 : goal.slice_bounds-yields-end-2
 slice_bounds-yields-end-2 c =
     let w = held _ _ c.in_default.ensures c.spelled_at-m.ensures in
-    stored_room c.args.text.now 113 _ _ w.few _ (front_stored _ 113 _ _ w.few _ c.store-3.ensures)
+    omega (arith, stored_room c.args.text.now 113 _ _ w.few _ (front_stored _ 113 _ _ w.few _ c.store-3.ensures))
 
-pub slice_bounds-answer-end-3 : goal.slice_bounds-answer-end-3
-slice_bounds-answer-end-3 c =
+pub slice_bounds-slices-end-3 : goal.slice_bounds-slices-end-3
+slice_bounds-slices-end-3 c =
     let w = held _ _ c.in_default.ensures c.spelled_at-m.ensures in
-    sym (length-take-le _ _ (stored_room c.args.text.now 113 _ _ w.few _ (front_stored _ 113 _ _ w.few _ c.store-3.ensures)))
+    sym (length-take-le _ _ (omega (arith, stored_room c.args.text.now 113 _ _ w.few _ (front_stored _ 113 _ _ w.few _ c.store-3.ensures))))
 
 pub slice_bounds-days-end : goal.slice_bounds-days-end
 slice_bounds-days-end c = omega (arith, (held _ _ c.in_default.ensures c.spelled_at-m.ensures).few)
 
-pub slice_bounds-answer-end-4 : goal.slice_bounds-answer-end-4
-slice_bounds-answer-end-4 c =
+pub slice_bounds-slices-end-4 : goal.slice_bounds-slices-end-4
+slice_bounds-slices-end-4 c =
     sym (length-take-le _ _ (omega (arith, (held _ _ c.in_default.ensures c.spelled_at-m.ensures).few, length-replicate {A = ℕ} (most_deliveries + 1) 0)))
 
 pub returns : goal.returns
