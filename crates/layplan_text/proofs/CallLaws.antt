@@ -1,6 +1,6 @@
 -- The calls of an input, judged and then recorded by their kinds. Assumes nothing.
 use Prim.Native.Nat.{ℕ, zero, suc, ◌+◌, ◌-◌, ◌*◌, ◌≤◌, ◌<◌}
-use mathlib.Core.Path.{◌≡◌, refl, sym, ap, ◌∙◌, subst}
+use mathlib.Core.Path.{◌≡◌, refl, sym, ap, ap₂, ◌∙◌, subst}
 use mathlib.Core.Logic.{◌≢◌}
 use mathlib.Core.Bool.{Bool, true, false, cond, ◌&&◌}
 use mathlib.Core.Option.{Option, none, some}
@@ -13,7 +13,6 @@ use Rattle.std.specs.Prelude.{Option as Maybe, Some, None, Err}
 use Rattle.model.specs.declared.refusal.Refusal.TheVariants.{Text}
 use Rattle.model.specs.Fields.{nth}
 use Rattle.layplan_text.specs.declared.Call.{Call as CodeCall}
-use Rattle.layplan_text.specs.declared.Call.TheVariants.{Find, Range, Insert, Delete}
 use mathlib.Core.List.{List, [], ◌∷◌}
 use native.Mathlib.Omega.{arith}
 use borrow.Author.Tests.{eq-eqb, ne_eqb}
@@ -45,8 +44,9 @@ said : (x : Bool) (v : CodeCall) → call_said (then_some x v) ≡ cond x (some 
 said true v = refl
 said false v = refl
 
-said_last : (x : Bool) (v : Call) → x ≡ false → none ≡ only_if x v
-said_last x v e = rw e
+-- a call where what is unused is 0, and else none
+said_by : {o : Maybe CodeCall} {u v : ℕ} (x : CodeCall) {y : Call} → u ≡ v → call_given x ≡ y → o ≡ then_some (eqb u 0) x → call_said o ≡ cond (eqb v 0) (some y) none
+said_by {u = u} x e j q = ap call_said q ∙ said (eqb u 0) x ∙ ap₂ (λ (n : ℕ) (w : Call). cond (eqb n 0) (some w) none) e j
 
 module _ (ns : List ℕ) where
   abbrev a : ℕ
@@ -61,27 +61,52 @@ module _ (ns : List ℕ) where
   abbrev d : ℕ
   d = nth 4 ns
 
-  pub said_find : {o : Maybe CodeCall} → nth 0 ns ≡ 1 → o ≡ then_some (eqb (bit_or (bit_or b c) d) 0) (Find a) → call_said o ≡ call_of ns
-  unfolding call_of
-  said_find e q =
-      let z : eqb (bit_or (bit_or b c) d) 0 ≡ eqb b 0 && eqb c 0 && eqb d 0 = or_zero (bit_or b c) d ∙ ap (λ (t : Bool). t && eqb d 0) (or_zero b c) in
-      ap call_said q ∙ said _ _ ∙ rw (e, z)
+  -- by kinds
+  pub by_find : nth 0 ns ≡ 1 → find a ≡ call_by ns
+  unfolding call_by
+  by_find e = rw e
 
-  pub said_range : {o : Maybe CodeCall} → nth 0 ns ≡ 2 → o ≡ then_some (eqb (bit_or c d) 0) (Range a b) → call_said o ≡ call_of ns
-  unfolding call_of
-  said_range e q = ap call_said q ∙ said _ _ ∙ rw (e, or_zero c d)
+  pub by_range : nth 0 ns ≡ 2 → range a b ≡ call_by ns
+  unfolding call_by
+  by_range e = rw e
 
-  pub said_insert : {o : Maybe CodeCall} → nth 0 ns ≡ 3 → o ≡ then_some (eqb d 0) (Insert (delivery a b c 0)) → call_said o ≡ call_of ns
-  unfolding call_of
-  said_insert e q = ap call_said q ∙ said _ _ ∙ rw e
+  pub by_insert : nth 0 ns ≡ 3 → insert (delivery a b c 0) ≡ call_by ns
+  unfolding call_by
+  by_insert e = rw e
 
-  pub said_delete : {o : Maybe CodeCall} → nth 0 ns ≡ 4 → o ≡ then_some (eqb d 0) (Delete (delivery a b c 0)) → call_said o ≡ call_of ns
-  unfolding call_of
-  said_delete e q = ap call_said q ∙ said _ _ ∙ rw e
+  pub by_delete : nth 0 ns ≡ 4 → delete (delivery a b c 0) ≡ call_by ns
+  unfolding call_by
+  by_delete e = rw e
 
-  pub said_move : nth 0 ns ≡ 5 → some (move (delivery a b c 0) d) ≡ call_of ns
-  unfolding call_of
-  said_move e = rw e
+  pub by_move : nth 0 ns ≢ 1 → nth 0 ns ≢ 2 → nth 0 ns ≢ 3 → nth 0 ns ≢ 4 → move (delivery a b c 0) d ≡ call_by ns
+  unfolding call_by
+  by_move p q r s = rw (ne_eqb _ 1 p, ne_eqb _ 2 q, ne_eqb _ 3 r, ne_eqb _ 4 s)
+
+  by_five : nth 0 ns ≡ 5 → move (delivery a b c 0) d ≡ call_by ns
+  by_five e = by_move (λ z. omega arith) (λ z. omega arith) (λ z. omega arith) (λ z. omega arith)
+
+  module _ {o : Maybe CodeCall} {u : ℕ} (x : CodeCall) (j : call_given x ≡ call_by ns) (q : o ≡ then_some (eqb u 0) x) where
+    pub said_find : nth 0 ns ≡ 1 → u ≡ bit_or (bit_or b c) d → call_said o ≡ call_of ns
+    unfolding call_of
+    said_find e i =
+        let z : eqb (bit_or (bit_or b c) d) 0 ≡ eqb b 0 && eqb c 0 && eqb d 0 = or_zero (bit_or b c) d ∙ ap (λ (t : Bool). t && eqb d 0) (or_zero b c) in
+        said_by x i (j ∙ sym (by_find e)) q ∙ rw (e, z)
+
+    pub said_range : nth 0 ns ≡ 2 → u ≡ bit_or c d → call_said o ≡ call_of ns
+    unfolding call_of
+    said_range e i = said_by x i (j ∙ sym (by_range e)) q ∙ rw (e, or_zero c d)
+
+    pub said_insert : nth 0 ns ≡ 3 → u ≡ d → call_said o ≡ call_of ns
+    unfolding call_of
+    said_insert e i = said_by x i (j ∙ sym (by_insert e)) q ∙ rw e
+
+    pub said_delete : nth 0 ns ≡ 4 → u ≡ d → call_said o ≡ call_of ns
+    unfolding call_of
+    said_delete e i = said_by x i (j ∙ sym (by_delete e)) q ∙ rw e
+
+    pub said_move : nth 0 ns ≡ 5 → u ≡ 0 → call_said o ≡ call_of ns
+    unfolding call_of
+    said_move e i = said_by x i (j ∙ sym (by_five e)) q ∙ rw e
 
   pub said_none : nth 0 ns ≢ 1 → nth 0 ns ≢ 2 → nth 0 ns ≢ 3 → nth 0 ns ≢ 4 → nth 0 ns ≢ 5 → none ≡ call_of ns
   unfolding call_of
@@ -133,27 +158,6 @@ module _ (k a b c d : ℕ) where
 
   call_form : Form
   call_form = decided k 1 form_1 (λ p. decided k 2 form_2 (λ q. decided k 3 form_3 (λ r. decided k 4 form_4 (λ s. form_5 p q r s))))
-
-  -- by kinds, as the recorder's calls go
-  by_find : k ≡ 1 → call_by ns ≡ find a
-  unfolding call_by
-  by_find e = rw e
-
-  by_range : k ≡ 2 → call_by ns ≡ range a b
-  unfolding call_by
-  by_range e = rw e
-
-  by_insert : k ≡ 3 → call_by ns ≡ insert (delivery a b c 0)
-  unfolding call_by
-  by_insert e = rw e
-
-  by_delete : k ≡ 4 → call_by ns ≡ delete (delivery a b c 0)
-  unfolding call_by
-  by_delete e = rw e
-
-  by_move : k ≢ 1 → k ≢ 2 → k ≢ 3 → k ≢ 4 → call_by ns ≡ move (delivery a b c 0) d
-  unfolding call_by
-  by_move p q r s = rw (ne_eqb k 1 p, ne_eqb k 2 q, ne_eqb k 3 r, ne_eqb k 4 s)
 
 -- The fields of a good line of five.
 
@@ -302,30 +306,9 @@ pub records_end : {t : List ℕ} {at q : ℕ} {s : Set} {h₀ h : List ℕ} {i e
 unfolding record_until_refused calls_at
 records_end {t} {at} {q} {s} {h₀} {h} {i} {e} l w = let z : q - i ≡ 0 = omega arith in sym (w.work ∙ rw z)
 
--- The call at a byte, by its kind.
+-- The call at a byte, number by number.
 
-pub record Five (t : List ℕ) (at k a b c d : ℕ) : Type 0 where
-  pub kind : k ≡ value_at at t
-  pub first : a ≡ value_at (at + 11) t
-  pub second : b ≡ value_at (at + 11 + 11) t
-  pub third : c ≡ value_at (at + 11 + 11 + 11) t
-  pub fourth : d ≡ value_at (at + 11 + 11 + 11 + 11) t
-
-module _ {t : List ℕ} {at k a b c d : ℕ} (w : Five t at k a b c d) where
-  by_kind : {x : Call} → call_by (k ∷ a ∷ b ∷ c ∷ d ∷ []) ≡ x → x ≡ call_by (column_at 11 at 5 t)
-  by_kind j = sym j ∙ rw (five t at, w.kind, w.first, w.second, w.third, w.fourth)
-
-  pub find_at : k ≡ 1 → find a ≡ call_by (column_at 11 at 5 t)
-  find_at i = by_kind (by_find k a b c d i)
-
-  pub range_at : k ≡ 2 → range a b ≡ call_by (column_at 11 at 5 t)
-  range_at i = by_kind (by_range k a b c d i)
-
-  pub insert_at : k ≡ 3 → insert (delivery a b c 0) ≡ call_by (column_at 11 at 5 t)
-  insert_at i = by_kind (by_insert k a b c d i)
-
-  pub delete_at : k ≡ 4 → delete (delivery a b c 0) ≡ call_by (column_at 11 at 5 t)
-  delete_at i = by_kind (by_delete k a b c d i)
-
-  pub move_at : k ≢ 1 → k ≢ 2 → k ≢ 3 → k ≢ 4 → move (delivery a b c 0) d ≡ call_by (column_at 11 at 5 t)
-  move_at l m n o = by_kind (by_move k a b c d l m n o)
+module _ (t : List ℕ) (at : ℕ) {k a b c d : ℕ} where
+  pub these_numbers : k ≡ value_at at t → a ≡ value_at (at + 11) t → b ≡ value_at (at + 11 + 11) t → c ≡ value_at (at + 11 + 11 + 11) t
+      → d ≡ value_at (at + 11 + 11 + 11 + 11) t → call_by (k ∷ a ∷ b ∷ c ∷ d ∷ []) ≡ call_by (column_at 11 at 5 t)
+  these_numbers e₀ e₁ e₂ e₃ e₄ = rw (five t at, e₀, e₁, e₂, e₃, e₄)

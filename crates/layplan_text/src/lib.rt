@@ -10,7 +10,8 @@ ghost use Rattle.model.specs.Lent.{set_given, slices_given};
 ghost use Rattle.model.specs.Refusals.{number_of};
 ghost use Rattle.fields.specs.Writing.{placed};
 ghost use Rattle.lines.specs.Lines.{text_checked, line_ok};
-ghost use Rattle.layplan_text.specs.Week.{call_given, call_said, call_told, call_found, call_at, calls_at, calls_ok, head_ok, week_ok, card_in, limits_in, week_in, plan_in};
+ghost use Rattle.layplan_text.specs.Week.{call_by, call_given, call_said, call_told, call_found, call_at, calls_at, calls_ok};
+ghost use Rattle.layplan_text.specs.Week.{head_ok, week_ok, card_in, limits_in, week_in, plan_in};
 ghost use Rattle.layplan_text.specs.Texts.{output_of, ends_text, EndsFit};
 
 use fields::{SIGNED_WIDTH, WIDTH};
@@ -19,7 +20,7 @@ use model::{
     BLOCK_LIMIT, Delivery, HISTOGRAMS_SIZE, LentSet, LentSlices, Limits, PriceCard, Refusal,
 };
 
-// The kinds of calls (01: find, range, insert, delete, move).
+// The kinds of calls as a text has them (01: find, range, insert, delete, move).
 const FIND: u32 = 1;
 
 const RANGE: u32 = 2;
@@ -68,9 +69,9 @@ enum Call {
     Move(Delivery, u32),
 }
 
-// The call that the five numbers of a line say: the kind, then each unused number 0.
-fn call_of(numbers: [u32; 5]) -> Option<Call>
-    ensures { call_said result ≡ call_of numbers }
+// The call that five numbers say by their kind, the last where it is none of the others, whatever the unused numbers are.
+fn call_by(numbers: [u32; 5]) -> Call
+    ensures { call_given result ≡ call_by numbers }
 {
     let [kind, a, b, c, d] = numbers;
     let delivery = Delivery {
@@ -80,13 +81,28 @@ fn call_of(numbers: [u32; 5]) -> Option<Call>
         day: 0,
     };
     match kind {
-        FIND => (b | c | d == 0).then_some(Call::Find(a)),
-        RANGE => (c | d == 0).then_some(Call::Range(a, b)),
-        INSERT => (d == 0).then_some(Call::Insert(delivery)),
-        DELETE => (d == 0).then_some(Call::Delete(delivery)),
-        MOVE => Some(Call::Move(delivery, d)),
-        _ => None,
+        FIND => Call::Find(a),
+        RANGE => Call::Range(a, b),
+        INSERT => Call::Insert(delivery),
+        DELETE => Call::Delete(delivery),
+        _ => Call::Move(delivery, d),
     }
+}
+
+// The call that the five numbers of a line say: the kind, then each unused number 0.
+fn call_of(numbers: [u32; 5]) -> Option<Call>
+    ensures { call_said result ≡ call_of numbers }
+{
+    let [kind, _, b, c, d] = numbers;
+    let unused = match kind {
+        FIND => b | c | d,
+        RANGE => c | d,
+        INSERT => d,
+        DELETE => d,
+        MOVE => 0,
+        _ => return None,
+    };
+    (unused == 0).then_some(call_by(numbers))
 }
 
 // The call of the line at a byte.
@@ -156,19 +172,7 @@ fn judged_call_at(text: &[u8], at: usize) -> Call
     let b = fields::spelled_at(text, p);
     let c = fields::spelled_at(text, p + WIDTH);
     let d = fields::spelled_at(text, p + WIDTH + WIDTH);
-    let delivery = Delivery {
-        grower: a,
-        weight: b,
-        oil_yield: c,
-        day: 0,
-    };
-    match kind {
-        FIND => Call::Find(a),
-        RANGE => Call::Range(a, b),
-        INSERT => Call::Insert(delivery),
-        DELETE => Call::Delete(delivery),
-        _ => Call::Move(delivery, d),
-    }
+    call_by([kind, a, b, c, d])
 }
 
 // Records a call.

@@ -1,6 +1,6 @@
--- `layplan_text::judged_call_at`: the five numbers stand behind one another, and the kind says which call they are. Assumes nothing.
-use Rattle.std.proofs.Common.{arith}
-use Rattle.layplan_text.proofs.CallLaws.{Five, five_fields, find_at, range_at, insert_at, delete_at, move_at}
+-- `layplan_text::judged_call_at`: the five numbers stand behind one another. Assumes nothing.
+use Rattle.std.proofs.Common.{◌∙◌}
+use Rattle.layplan_text.proofs.CallLaws.{five_fields, these_numbers}
 use Rattle.layplan_text.proofs.judged_call_at.Goals as goal
 
 pub spelled_at-kind-requires : goal.spelled_at-kind-requires
@@ -18,32 +18,7 @@ spelled_at-c-requires c = (five_fields _ _ c.requires.1).third
 pub spelled_at-d-requires : goal.spelled_at-d-requires
 spelled_at-d-requires c = (five_fields _ _ c.requires.1).fourth
 
-pub returns-in-1 : goal.returns-in-1
-returns-in-1 c =
-    let f : Five c.args.text.now c.args.at c.spelled_at-kind.result c.spelled_at-a.result c.spelled_at-b.result c.spelled_at-c.result c.spelled_at-d.result
-    = record { kind = c.spelled_at-kind.ensures; first = c.spelled_at-a.ensures; second = c.spelled_at-b.ensures; third = c.spelled_at-c.ensures; fourth = c.spelled_at-d.ensures } in
-    find_at f c.in-1.is
-
-pub returns-in-2 : goal.returns-in-2
-returns-in-2 c =
-    let f : Five c.args.text.now c.args.at c.spelled_at-kind.result c.spelled_at-a.result c.spelled_at-b.result c.spelled_at-c.result c.spelled_at-d.result
-    = record { kind = c.spelled_at-kind.ensures; first = c.spelled_at-a.ensures; second = c.spelled_at-b.ensures; third = c.spelled_at-c.ensures; fourth = c.spelled_at-d.ensures } in
-    range_at f c.in-2.is
-
-pub returns-in-3 : goal.returns-in-3
-returns-in-3 c =
-    let f : Five c.args.text.now c.args.at c.spelled_at-kind.result c.spelled_at-a.result c.spelled_at-b.result c.spelled_at-c.result c.spelled_at-d.result
-    = record { kind = c.spelled_at-kind.ensures; first = c.spelled_at-a.ensures; second = c.spelled_at-b.ensures; third = c.spelled_at-c.ensures; fourth = c.spelled_at-d.ensures } in
-    insert_at f c.in-3.is
-
-pub returns-in-4 : goal.returns-in-4
-returns-in-4 c =
-    let f : Five c.args.text.now c.args.at c.spelled_at-kind.result c.spelled_at-a.result c.spelled_at-b.result c.spelled_at-c.result c.spelled_at-d.result
-    = record { kind = c.spelled_at-kind.ensures; first = c.spelled_at-a.ensures; second = c.spelled_at-b.ensures; third = c.spelled_at-c.ensures; fourth = c.spelled_at-d.ensures } in
-    delete_at f c.in-4.is
-
-pub returns-in_default : goal.returns-in_default
-returns-in_default c =
-    let f : Five c.args.text.now c.args.at c.spelled_at-kind.result c.spelled_at-a.result c.spelled_at-b.result c.spelled_at-c.result c.spelled_at-d.result
-    = record { kind = c.spelled_at-kind.ensures; first = c.spelled_at-a.ensures; second = c.spelled_at-b.ensures; third = c.spelled_at-c.ensures; fourth = c.spelled_at-d.ensures } in
-    move_at f (λ e. omega arith) (λ e. omega arith) (λ e. omega arith) (λ e. omega arith)
+pub returns : goal.returns
+returns c =
+    c.call_by.ensures
+    ∙ these_numbers c.args.text.now c.args.at c.spelled_at-kind.ensures c.spelled_at-a.ensures c.spelled_at-b.ensures c.spelled_at-c.ensures c.spelled_at-d.ensures

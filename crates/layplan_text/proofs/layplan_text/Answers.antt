@@ -26,8 +26,11 @@ pub slice_bounds-store-end : goal.slice_bounds-store-end
 slice_bounds-store-end c = front_length c.args.text.now 91 _ _ (held _ _ c.in_default.ensures c.spelled_at-m.ensures).few
 
 pub store-requires : goal.store-requires
-store-requires c = let w = held _ _ c.in_default.ensures c.spelled_at-m.ensures in let f = front_length c.args.text.now 91 _ _ w.few in (omega arith, omega (arith, w.few, f),
-    front_ok _ 91 _ _ w.few w.growers)
+store-requires c = let w = held _ _ c.in_default.ensures c.spelled_at-m.ensures in let f = front_length c.args.text.now 91 _ _ w.few in (
+  omega arith,
+  omega (arith, w.few, f),
+  front_ok _ 91 _ _ w.few w.growers,
+)
 
 pub slice_bounds-weights-end : goal.slice_bounds-weights-end
 slice_bounds-weights-end c = omega (arith, (held _ _ c.in_default.ensures c.spelled_at-m.ensures).few)
@@ -36,8 +39,11 @@ pub slice_bounds-store-end-2 : goal.slice_bounds-store-end-2
 slice_bounds-store-end-2 c = front_length c.args.text.now 102 _ _ (held _ _ c.in_default.ensures c.spelled_at-m.ensures).few
 
 pub store-requires-2 : goal.store-requires-2
-store-requires-2 c = let w = held _ _ c.in_default.ensures c.spelled_at-m.ensures in let f = front_length c.args.text.now 102 _ _ w.few in (omega arith, omega (arith, w.few, f),
-    front_ok _ 102 _ _ w.few w.weights)
+store-requires-2 c = let w = held _ _ c.in_default.ensures c.spelled_at-m.ensures in let f = front_length c.args.text.now 102 _ _ w.few in (
+  omega arith,
+  omega (arith, w.few, f),
+  front_ok _ 102 _ _ w.few w.weights,
+)
 
 pub slice_bounds-yields-end : goal.slice_bounds-yields-end
 slice_bounds-yields-end c = omega (arith, (held _ _ c.in_default.ensures c.spelled_at-m.ensures).few)
@@ -46,8 +52,11 @@ pub slice_bounds-store-end-3 : goal.slice_bounds-store-end-3
 slice_bounds-store-end-3 c = front_length c.args.text.now 113 _ _ (held _ _ c.in_default.ensures c.spelled_at-m.ensures).few
 
 pub store-requires-3 : goal.store-requires-3
-store-requires-3 c = let w = held _ _ c.in_default.ensures c.spelled_at-m.ensures in let f = front_length c.args.text.now 113 _ _ w.few in (omega arith, omega (arith, w.few, f),
-    front_ok _ 113 _ _ w.few w.yields)
+store-requires-3 c = let w = held _ _ c.in_default.ensures c.spelled_at-m.ensures in let f = front_length c.args.text.now 113 _ _ w.few in (
+  omega arith,
+  omega (arith, w.few, f),
+  front_ok _ 113 _ _ w.few w.yields,
+)
 
 pub slice_bounds-growers-end-2 : goal.slice_bounds-growers-end-2
 slice_bounds-growers-end-2 c =

@@ -17,7 +17,9 @@ judged_call_at-call-requires c = (omega (arith, c.loop-i.invariant.at-line, c.re
 pub returns-in_err-record_one : goal.returns-in_err-record_one
 returns-in_err-record_one c =
     let p = err_from_is_err_and c.from_residual.result c.from_residual.ensures.1 in
-    rw (p.1, p.2) (records_stop c.loop-i-test.true c.loop-i.invariant _ _ (c.in_err-record_one.ensures ∙ ap (record_call block_limit (set_given c.args.set) c.loop-i.histograms) c.judged_call_at-call.ensures) (refusal_some _))
+    rw (p.1, p.2)
+    (records_stop c.loop-i-test.true c.loop-i.invariant _ _
+    (c.in_err-record_one.ensures ∙ ap (record_call block_limit (set_given c.args.set) c.loop-i.histograms) c.judged_call_at-call.ensures) (refusal_some _))
 
 pub overflow_add-e : goal.overflow_add-e
 overflow_add-e c = omega (arith, c.loop-i.invariant.at-line, c.requires.0, c.requires.1)
