@@ -94,6 +94,7 @@ fn call_of(numbers: [u32; 5]) -> Option<Call>
     ensures { call_said result ≡ call_of numbers }
 {
     let [kind, _, b, c, d] = numbers;
+    // Two arms of d: `INSERT | DELETE` was tried, and gives the proof no name for its kinds.
     let unused = match kind {
         FIND => b | c | d,
         RANGE => c | d,
