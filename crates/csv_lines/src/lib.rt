@@ -73,8 +73,8 @@ fn put_plain(text: &mut [u8], at: usize, n: u32) -> usize
     let digits = plain_length(n);
     let next = at + digits;
     let mut m = n;
-    for k in 0..digits {
-        let j = next - 1 - k;
+    for i in (0..digits).rev() {
+        let j = at + i;
         text[j] = b'0' + (m % 10) as u8;
         m /= 10;
     }
