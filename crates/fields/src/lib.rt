@@ -103,8 +103,8 @@ fn put(text: &mut [u8], at: usize, width: usize, sign: u8, n: u64)
     text[last] = b'0' + (n % 10) as u8;
     let mut m = n / 10;
     let mut s = sign;
-    for k in 1..width {
-        let j = last - k;
+    for i in (0..width - 1).rev() {
+        let j = at + i;
         if m == 0 {
             text[j] = s;
             s = b' ';
