@@ -60,7 +60,13 @@ fn check_listing(
     }
     let rules = rules_of(card, limits, n);
     let mut fits = [false; MOST_LISTED_BLOCKS];
-    permitted::mark(checked, &mut fits[..]);
+    permitted::mark(
+        checked.block,
+        checked.used,
+        checked.records.growers,
+        n,
+        &mut fits[..],
+    );
     let choices = Choices {
         fits: &fits[..],
         rules,

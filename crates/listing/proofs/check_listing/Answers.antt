@@ -5,7 +5,7 @@ use Rattle.std.proofs.lemmas.Result.{err_from_is_err_and}
 use Rattle.model.specs.Bounds.{block_limit}
 use Rattle.model.specs.Blocks.{blocks}
 use Rattle.sets.proofs.Sets.{blocks-least}
-use Rattle.permitted.proofs.Given.{plan_given, marked_same}
+use Rattle.permitted.proofs.Given.{plan_given, marked_all}
 use Rattle.permitted.proofs.Permitted.{flagged}
 use Rattle.layout_lines.specs.declared.Rules.{Rules}
 use Rattle.listing.specs.Answers.{rules_of}
@@ -26,7 +26,7 @@ pub rules_of-rules-requires : goal.rules_of-rules-requires
 rules_of-rules-requires c = (plan_given block_limit _ _ _ _ (sym c.in_ok-checked.ensures.answer)).prices
 
 pub mark-requires : goal.mark-requires
-mark-requires c = omega (arith, c.block_count-n.ensures)
+mark-requires c = record { sized = c.in_ok-checked.checked.sized; n_le_block_limit = (omega arith, omega arith) }
 
 pub invariant_of-choices : goal.invariant_of-choices
 invariant_of-choices c =
@@ -43,7 +43,7 @@ returns-then-s-eq0-clause-refused c =
     let s = c.in_ok-checked.ensures in
     let n = c.block_count-n.ensures ∙ ap blocks s.accepted in
     let r = c.rules_of-rules.ensures ∙ ap (rules_of c.args.card c.args.limits) n in
-    let f = flagged _ _ _ (plan_given block_limit _ _ _ _ (sym s.answer)).some (marked_same s.accepted c.mark.ensures) in
+    let f = flagged _ _ _ (plan_given block_limit _ _ _ _ (sym s.answer)).some (marked_all s.accepted n c.mark.ensures) in
     none_there (counted block_limit _ _ _ _ (sym s.answer) (omega (arith, n)) r f c.size_rest-s.ensures) _ c.if-s-eq0.true
 
 pub returns-then-room-s-clause-refused : goal.returns-then-room-s-clause-refused
@@ -51,7 +51,7 @@ returns-then-room-s-clause-refused c =
     let s = c.in_ok-checked.ensures in
     let n = c.block_count-n.ensures ∙ ap blocks s.accepted in
     let r = c.rules_of-rules.ensures ∙ ap (rules_of c.args.card c.args.limits) n in
-    let f = flagged _ _ _ (plan_given block_limit _ _ _ _ (sym s.answer)).some (marked_same s.accepted c.mark.ensures) in
+    let f = flagged _ _ _ (plan_given block_limit _ _ _ _ (sym s.answer)).some (marked_all s.accepted n c.mark.ensures) in
     too_short (counted block_limit _ _ _ _ (sym s.answer) (omega (arith, n)) r f c.size_rest-s.ensures) _ c.if-s-eq0.false c.if-room-s.true
 
 pub returns : goal.returns
@@ -59,7 +59,7 @@ returns c =
     let s = c.in_ok-checked.ensures in
     let n = c.block_count-n.ensures ∙ ap blocks s.accepted in
     let r = c.rules_of-rules.ensures ∙ ap (rules_of c.args.card c.args.limits) n in
-    let f = flagged _ _ _ (plan_given block_limit _ _ _ _ (sym s.answer)).some (marked_same s.accepted c.mark.ensures) in
+    let f = flagged _ _ _ (plan_given block_limit _ _ _ _ (sym s.answer)).some (marked_all s.accepted n c.mark.ensures) in
     let k = counted block_limit _ _ _ _ (sym s.answer) (omega (arith, n)) r f c.size_rest-s.ensures in
     record {
       refused = all_passed k _ c.if-s-eq0.false c.if-room-s.false;
