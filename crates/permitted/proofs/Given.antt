@@ -10,7 +10,7 @@ use lib.ListN.{length, set, length-set}
 use Rattle.model.specs.declared.PriceCard.{PriceCard}
 use Rattle.model.specs.declared.Limits.{Limits}
 use Rattle.model.specs.Checks.{Check, ask, first_failed}
-use Rattle.model.specs.Prices.{price_ok, prices_ok, limits_ok}
+use Rattle.model.specs.Prices.{prices_ok, limits_ok}
 use Rattle.model.specs.Blocks.{Set, blocks, values_ok, days_ok}
 use Rattle.model.specs.Histograms.{counts_ok}
 use Rattle.model.specs.Layouts.{layout_ok, separates_none, longest_partition}
@@ -19,7 +19,7 @@ use Rattle.model.specs.Questions.{set_checks, apply_checks, cost_checks, planner
 use Rattle.model.specs.Lent.{set_of}
 use Rattle.model.proofs.Tests.{and_fst, yes_first}
 use Rattle.checks.proofs.Answers.{failed_first, numbered, passed_first}
-use Rattle.sets.specs.Sized.{Sized, set_refusal_of, counted_checks}
+use Rattle.sets.specs.Sized.{set_refusal_of, counted_checks}
 use Rattle.sets.proofs.Sets.{sized, set_first, blocks-least, blocks_most}
 use Rattle.layout_search.proofs.RowLaws.{stored_more}
 use Rattle.block_costs.specs.Terms.{PricesPass, Counted}
@@ -96,9 +96,11 @@ module _ (p : PriceCard) (l : Limits) where
   unfolding longest_partition
   longest_none h = rw (lt-leb p.rr l.read h)
 
--- the flags, of the same set, and one after the other
-pub marked_same : {s t : Set} {old fits : List Bool} → s ≡ t → Marked s (blocks s) old fits → Marked t (blocks t) old fits
-marked_same {s} {t} {old} {fits} e m = subst (λ (u : Set). Marked u (blocks u) old fits) e m
+-- the flags of all blocks by a set's growers, and one after the other
+pub marked_all : {s t : Set} {n : ℕ} {old fits : List Bool} → s ≡ t → n ≡ blocks t → Marked (set_of s.block s.used s.slices.growers [] [] []) n old fits → Marked t (blocks t) old fits
+marked_all {s} {t} {n} {old} {fits} e f m =
+    let g = subst (λ (u : Set). Marked (set_of u.block u.used u.slices.growers [] [] []) n old fits) e m in
+    record { long = g.long; here = λ x h. g.here x (omega (arith, f)) }
 
 module _ (s : Set) where
   pub marked_start : (old : List Bool) → Marked s 0 old old

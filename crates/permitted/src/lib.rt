@@ -2,19 +2,19 @@
 // have and how many partitions there may be under the limits, and where an end may stand.
 #![tactic(auto)]
 
-ghost use Rattle.std.specs.Prelude.{◌≡◌, ◌&&◌, ◌≤◌, length, IfOk};
-ghost use Rattle.model.specs.Blocks.{blocks};
+ghost use Rattle.std.specs.Prelude.{◌≡◌, ◌&&◌, ◌≤◌, [], length, IfOk};
 ghost use Rattle.model.specs.Checks.{first_failed};
 ghost use Rattle.model.specs.Prices.{price_ok, prices_ok, limits_ok};
 ghost use Rattle.model.specs.Layouts.{most_partitions, longest_partition};
 ghost use Rattle.model.specs.Bounds.{block_limit};
-ghost use Rattle.model.specs.Lent.{set_given};
+ghost use Rattle.model.specs.Lent.{set_of, set_given};
 ghost use Rattle.model.specs.Refusals.{number_of};
+ghost use Rattle.sets.specs.Sized.{Sized};
 ghost use Rattle.sets.specs.Checked.{checked_set};
 ghost use Rattle.block_costs.specs.Terms.{PricesPass};
 ghost use Rattle.permitted.specs.Given.{given_checks, Marked};
 
-use model::{LentSet, Limits, MOST_LIMIT, MOST_PRICE, PriceCard, Refusal};
+use model::{LentSet, Limits, MOST_LIMIT, MOST_PRICE, PriceCard, Records, Refusal};
 use sets::CheckedSet;
 
 // Check 1 of one price, of the three, and of the limits.
@@ -81,12 +81,24 @@ pub fn most_partitions(card: PriceCard, limits: Limits) -> usize
     (limits.insert / (card.rr + card.rw)).saturating_sub(1) as usize
 }
 
-// Where an end may stand, for each block of a set.
-pub fn mark(set: CheckedSet, fits: &mut [bool])
-    requires { blocks (checked_set set) ≤ length fits.old }
-    ensures { Marked (checked_set set.entry) (blocks (checked_set set.entry)) fits.old fits.new }
+// Where an end may stand, for each of n blocks. The growers alone decide, so that they stand for the weights, yields and days too.
+pub fn mark(block: u32, used: u32, growers: &[u32], n: usize, fits: &mut [bool])
+    requires sized { Sized block_limit block used (length growers.now) }
+    requires n_le_block_limit { (n ≤ block_limit) × (n ≤ length fits.old) }
+    ensures { Marked (set_of block used growers.now [] [] []) n fits.old fits.new }
 {
-    for i in 0..set.block_count() {
-        fits[i as usize] = set.separates_none(i);
+    let set = CheckedSet {
+        block,
+        used,
+        records: Records {
+            growers,
+            weights: growers,
+            yields: growers,
+            days: growers,
+        },
+    };
+    for i in 0..n {
+        let v = set.separates_none(i as u32);
+        fits[i] = v;
     }
 }

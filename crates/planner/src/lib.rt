@@ -80,7 +80,13 @@ pub fn plan(
     let mut fits = [false; BLOCK_LIMIT];
     let counts = PricedCounts { card, histograms };
     counts.add_up(n, &mut sums[..]);
-    permitted::mark(checked, &mut fits[..]);
+    permitted::mark(
+        checked.block,
+        checked.used,
+        checked.records.growers,
+        n,
+        &mut fits[..],
+    );
     let task = Task {
         sums: Sums {
             places: &sums[..],

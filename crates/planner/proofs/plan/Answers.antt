@@ -6,7 +6,7 @@ use Rattle.model.specs.Bounds.{block_limit}
 use Rattle.model.specs.Blocks.{blocks}
 use Rattle.sets.proofs.Sets.{blocks_most}
 use Rattle.block_costs.proofs.TermLaws.{summed_holds}
-use Rattle.permitted.proofs.Given.{plan_given, marked_same}
+use Rattle.permitted.proofs.Given.{plan_given, marked_all}
 use Rattle.planner.proofs.Answers.{plan_not_given, answered_plan}
 use Rattle.planner.proofs.plan.Goals as goal
 
@@ -30,7 +30,10 @@ pub add_up-requires : goal.add_up-requires
 add_up-requires c = omega (arith, blocks_most c.in_ok-checked.checked.sized, c.block_count-n.ensures)
 
 pub mark-requires : goal.mark-requires
-mark-requires c = omega (arith, blocks_most c.in_ok-checked.checked.sized)
+mark-requires c =
+    let z = c.in_ok-checked.checked.sized in
+    let n = c.block_count-n.ensures in
+    record { sized = z; n_le_block_limit = (omega (arith, blocks_most z, n), omega (arith, blocks_most z, n)) }
 
 pub invariant_of-task : goal.invariant_of-task
 invariant_of-task c =
@@ -49,6 +52,7 @@ searched-requires c =
 pub returns : goal.returns
 returns c =
     let s = c.in_ok-checked.ensures in
+    let n = c.block_count-n.ensures ∙ ap blocks s.accepted in
     let g = plan_given block_limit _ _ _ _ (sym s.answer) in
-    answered_plan block_limit _ _ _ _ _ (sym s.answer) _ _ _ _ _ _ _ _ (c.block_count-n.ensures ∙ ap blocks s.accepted) c.longest_partition-longest.ensures
-    c.most_partitions-most.ensures g.some c.add_up.ensures.summed (marked_same s.accepted c.mark.ensures) c.searched.ensures
+    answered_plan block_limit _ _ _ _ _ (sym s.answer) _ _ _ _ _ _ _ _ n c.longest_partition-longest.ensures c.most_partitions-most.ensures g.some c.add_up.ensures.summed
+    (marked_all s.accepted n c.mark.ensures) c.searched.ensures
