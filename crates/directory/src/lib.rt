@@ -46,7 +46,7 @@ fn judged(directory: &[u32], c: usize, grower: u32) -> Result<Place, Refusal>
     if !slices::zeros(&directory[a..FENCES], &directory[f..DIRECTORY_SIZE]) {
         return Err(Refusal::Shape);
     }
-    let Some(place) = slices::surveyed(&directory[LENGTHS..a], &directory[FENCES..f], grower) else {
+    let Ok(place) = slices::surveyed(&directory[LENGTHS..a], &directory[FENCES..f], grower) else {
         return Err(Refusal::Shape);
     };
     if c < place.used {

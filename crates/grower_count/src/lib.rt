@@ -8,7 +8,7 @@ ghost use Rattle.std.specs.Prelude.{◌≡◌, ℕ, ◌+◌, ◌≤◌, ◌<◌,
 ghost use Rattle.model.specs.Bounds.{most_slots};
 ghost use Rattle.model.specs.Lists.{never_falls};
 ghost use Rattle.model.specs.Lent.{records_given, span_given};
-ghost use Rattle.model.specs.Sheet.{each_once};
+ghost use Rattle.model.specs.Sheet.{each_once, slots_during};
 ghost use Rattle.slot_order.specs.Passes.{slots_in, growers_at};
 ghost use Rattle.slot_order.specs.Spans.{slots_on};
 ghost use Rattle.grower_count.specs.Batches.{during, is_new, FilledUp, Cut, Smallest, Window};
@@ -145,7 +145,7 @@ fn number_after(growers: &[u32], slot: u32) -> Option<u32>
 }
 
 // How many growers there are in the records of these days.
-pub fn count(r: Records, days: DaySpan) -> usize
+fn count_records(r: Records, days: DaySpan) -> usize
     ensures { result
         ≡ length (each_once (growers_at r.entry.growers.now (slots_on (span_given days) (records_given r.entry)))) }
 {
@@ -166,4 +166,19 @@ pub fn count(r: Records, days: DaySpan) -> usize
             None => return total,
         }
     }
+}
+
+// How many growers there are in the slots whose day is in the span. Nothing reads the weights and yields, so that the growers stand for them.
+pub fn count(growers: &[u32], days: &[u32], span: DaySpan) -> usize
+    requires { (length growers.now ≤ most_slots) × (length days.now ≡ length growers.now) }
+    ensures { result
+        ≡ length (each_once (growers_at growers.now (slots_during (span_given span) days.now (length growers.now)))) }
+{
+    let records = Records {
+        growers,
+        weights: growers,
+        yields: growers,
+        days,
+    };
+    count_records(records, span)
 }

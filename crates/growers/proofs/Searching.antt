@@ -162,9 +162,10 @@ met down ns t edge j i h k e f =
       next = omega arith;
     }
 
-no_step : (w : Direction) (a : ℕ) → onward w a 0 ≡ a
-no_step up a = omega arith
-no_step down a = omega arith
+-- the edge of an empty partition is that of the next
+edge_stays : (w : Direction) (edge x : ℕ) → x ≡ 0 → edge ≡ onward w edge x
+edge_stays up edge x e = omega arith
+edge_stays down edge x e = omega arith
 
 -- The loop: j partitions of the path have been searched, in n blocks, and none holds a grower at or past k.
 
@@ -194,7 +195,7 @@ module _ {b : ℕ} {w : Direction} {k : ℕ} {ns : List ℕ} {ss : Slices} {t ed
   pub searching_skip : {i : ℕ} → Met w ns t edge j i → 1 ≤ b → get_or ns i 0 ≡ 0 → Searching b w k ns ss t edge (j + 1) n d
   searching_skip {i} m one e =
       record {
-        here = sym (no_step w edge) ∙ ap (onward w edge) (sym e) ∙ m.next;
+        here = edge_stays w edge (get_or ns i 0) e ∙ m.next;
         few = omega (arith, v.few);
         so_far = sym (search_empty b w k (parts ns (rows ss)) i _ d n one (part_none i ns (rows ss) e)) ∙ on m;
       }

@@ -1,8 +1,9 @@
 -- A scan of partitions, one after the other. Assumes nothing.
 use Prim.Native.Nat.{ℕ, ◌+◌, ◌-◌, ◌≤◌, ◌<◌}
 use mathlib.Core.Path.{◌≡◌, refl, sym, ap, ◌∙◌}
-use mathlib.Core.Bool.{true, false, ◌&&◌}
-use Rattle.std.proofs.Common.{Option, Some}
+use mathlib.Core.Bool.{Bool, true, false, cond, ◌&&◌}
+use Rattle.std.proofs.Common.{Option, Some, None}
+use Rattle.std.specs.Prelude.{IfSome}
 use mathlib.Core.List.{List, [], ◌∷◌, ◌++◌, append-nil, map, map-append, flatten}
 use native.Mathlib.Omega.{arith}
 use native.Mathlib.Numerals.{add-one}
@@ -23,7 +24,7 @@ use Rattle.model.proofs.Deliveries.{rows-part, values_rows}
 use Rattle.scan.specs.declared.Scan.{Scan}
 use Rattle.checks.specs.Values.{all_values_ok}
 use Rattle.slices.proofs.Sums.{during-joined, even_part}
-use Rattle.scan.specs.Scans.{all_fit, records_in, scan_of}
+use Rattle.scan.specs.Scans.{all_fit, records_in, found_in, scan_of}
 use Rattle.scan.proofs.Fitting.{fit_joined, fit_broken, fit_yes, totals_small}
 
 -- Partitions, one after the other.
@@ -51,10 +52,46 @@ module _ (b : ℕ) (ns : List ℕ) (p : ℕ) (ds : List Delivery) where
       ∙ ap (λ (x : ℕ). sum_of (map (blocks_of b) (take n l)) + (blocks_of b x + 0)) e
       ∙ omega arith
 
+  -- an empty partition has no record and no block
+  module _ (n : ℕ) (h : p + n < length ns) (e : get_or ns (p + n) 0 ≡ 0) where
+    records_same : records_in ns p (n + 1) ds ≡ records_in ns p n ds
+    records_same = records_next n h ∙ ap (λ (l : List Delivery). records_in ns p n ds ++ l) (part_none (p + n) ns ds e) ∙ append-nil (records_in ns p n ds)
+
+    blocks_same : 1 ≤ b → sum_of (map (blocks_of b) (take (n + 1) (drop p ns))) ≡ sum_of (map (blocks_of b) (take n (drop p ns)))
+    blocks_same one = omega (arith, blocks_next n h, ap (blocks_of b) e, blocks_none b one)
+
+-- an empty partition leaves a scan as it was, of any records
+pub scan_empty : (b : ℕ) (ns : List ℕ) (p lo hi : ℕ) (z : Span) (ds : List Delivery) (n : ℕ) → p + n < length ns → 1 ≤ b → get_or ns (p + n) 0 ≡ 0
+    → scan_of b ns p (n + 1) lo hi z ds ≡ scan_of b ns p n lo hi z ds
+scan_empty b ns p lo hi z ds n h one e = rw (records_same b ns p ds n h e, blocks_same b ns p ds n h e one)
+
 blocks-sum : (b : ℕ) (l : List ℕ) → 1 ≤ b → sum_of (map (blocks_of b) l) ≤ sum_of l
 unfolding sum_of
 blocks-sum b [] h = omega arith
 blocks-sum b (n ∷ l) h = omega (arith, blocks_most b n h, blocks-sum b l h)
+
+-- a scan of at most m records
+pub record Light (m : ℕ) (s : Scan) : Type 0 where
+  pub light : LightTotals m s.totals
+  pub short : s.blocks ≤ m
+
+module _ (b : ℕ) (ns : List ℕ) (p n lo hi : ℕ) (z : Span) (ds : List Delivery) (one : 1 ≤ b) (room : sum_of ns ≤ length ds) (few : length ds ≤ most_slots) where
+  -- the counters stay small
+  found_light : all_fit (records_in ns p n ds) ≡ true → (s : Scan) → s ≡ found_in b ns p n lo hi z ds → Light most_slots s
+  found_light e s f =
+      let len : length (records_in ns p n ds) ≤ length ds = rw (drop-parts, take-parts, flatten-parts, length-take, length-drop) (omega arith) in
+      record {
+        light = totals_small lo hi z (records_in ns p n ds) e (omega (arith, len)) s.totals (ap (λ (x : Scan). x.totals) f);
+        short = omega (arith, ap (λ (x : Scan). x.blocks) f, sum-take_le (drop p ns) n, sum_cut p ns, blocks-sum b (take n (drop p ns)) one);
+      }
+
+  -- of any records, what a scan finds
+  pub scan_light : IfSome (scan_of b ns p n lo hi z ds) (Light most_slots)
+  scan_light = go (all_fit (records_in ns p n ds)) refl
+    where
+      go : (t : Bool) → all_fit (records_in ns p n ds) ≡ t → IfSome (cond t (Some (found_in b ns p n lo hi z ds)) None) (Light most_slots)
+      go true e = found_light e (found_in b ns p n lo hi z ds) refl
+      go false e = tt
 
 -- The loop.
 
@@ -131,29 +168,29 @@ module _ (b : ℕ) (ns : List ℕ) (p lo hi : ℕ) (z : Span) (ss : Slices) (at 
   -- an empty partition is passed over
   pub scanning_skip : 1 ≤ b → get_or ns i 0 ≡ 0 → Scanning b ns p lo hi z (rows ss) at (i + 1) t n
   scanning_skip one e =
-      let none : part (p + (i - p)) (parts ns (rows ss)) ≡ [] = part_none (p + (i - p)) ns (rows ss) (rw place e) in
       let x : p + (i - p) < length ns = omega (arith, place) in
+      let none : get_or ns (p + (i - p)) 0 ≡ 0 = rw place e in
       let same : records_in ns p (i + 1 - p) (rows ss) ≡ records_in ns p (i - p) (rows ss)
-      = ap (λ (k : ℕ). records_in ns p k (rows ss)) next ∙ records_next b ns p (rows ss) (i - p) x
-      ∙ ap (λ (l : List Delivery). records_in ns p (i - p) (rows ss) ++ l) none ∙ append-nil (records_in ns p (i - p) (rows ss)) in
+      = ap (λ (k : ℕ). records_in ns p k (rows ss)) next ∙ records_same b ns p (rows ss) (i - p) x none in
       record {
         from = omega (arith, w.from);
         here = omega (arith, w.here, start_next ns i h, e);
         fit = ap all_fit same ∙ w.fit;
         totalled = w.totalled ∙ ap (totals_during lo hi z) (sym same);
-        counted = omega (arith, counted_next, ap (blocks_of b) e, blocks_none b one);
+        counted = w.counted ∙ sym (blocks_same b ns p (rows ss) (i - p) x none one) ∙ ap (λ (k : ℕ). sum_of (map (blocks_of b) (take k (drop p ns)))) (sym next);
       }
 
 module _ (b : ℕ) (ns : List ℕ) (p lo hi : ℕ) (z : Span) (ds : List Delivery) (at i : ℕ) (t : Totals) (n : ℕ) (w : Scanning b ns p lo hi z ds at i t n)
     (one : 1 ≤ b) (room : sum_of ns ≤ length ds) (few : length ds ≤ most_slots) where
-  -- the counters stay small
+  -- the scan so far
+  so_far : Light most_slots (record { totals = t; blocks = n })
+  so_far = found_light b ns p (i - p) lo hi z ds one room few w.fit (record { totals = t; blocks = n }) (λ j. record { totals = w.totalled j; blocks = w.counted j })
+
   pub scanning_light : LightTotals most_slots t
-  scanning_light =
-      let len : length (records_in ns p (i - p) ds) ≤ length ds = rw (drop-parts, take-parts, flatten-parts, length-take, length-drop) (omega arith) in
-      totals_small lo hi z (records_in ns p (i - p) ds) w.fit (omega arith) t w.totalled
+  scanning_light = so_far.light
 
   pub scanning_short : n ≤ most_slots
-  scanning_short = omega (arith, w.counted, sum-take_le (drop p ns) (i - p), sum_cut p ns, blocks-sum b (take (i - p) (drop p ns)) one)
+  scanning_short = so_far.short
 
 pub scanning_end : (b : ℕ) (ns : List ℕ) (p lo hi : ℕ) (z : Span) (ds : List Delivery) (at i : ℕ) (t : Totals) (n m : ℕ) → Scanning b ns p lo hi z ds at i t n → i - p ≡ m
     → ◌≡◌ {A = Option Scan} (Some (record { totals = t; blocks = n })) (scan_of b ns p m lo hi z ds)

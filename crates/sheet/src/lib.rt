@@ -30,7 +30,7 @@ fn lines_fit(r: Records, days: DaySpan, k: usize, room: usize) -> bool
     ensures { result
         ≡ leb (81 * length (each_once (growers_at r.entry.growers.now (slots_on (span_given days) (records_given r.entry)))) + 61) room }
 {
-    LINE * k + LAST <= room || LINE * grower_count::count(r, days) + LAST <= room
+    LINE * k + LAST <= room || LINE * grower_count::count(r.growers, r.days, days) + LAST <= room
 }
 
 // Checks 2, 3, 6, 6, 8, 19 and 15 of a sheet of these days.

@@ -1,7 +1,7 @@
 // Loops over slices of numbers that several crates share. Each flag loop has one test and no early return, so that it is vectorised.
 #![tactic(auto)]
 
-ghost use Rattle.std.specs.Prelude.{◌≡◌, ℕ, Bool, cond, true, false, ◌&&◌, ◌+◌, ◌≤◌, ◌<◌, length, MatchOption, T};
+ghost use Rattle.std.specs.Prelude.{◌≡◌, ℕ, Bool, cond, true, false, ◌&&◌, ◌+◌, ◌≤◌, ◌<◌, length, MatchResult, T};
 ghost use Rattle.model.specs.Bounds.{block_limit, most_slots};
 ghost use Rattle.model.specs.declared.Delivery.{Delivery};
 ghost use Rattle.model.specs.Lists.{sum_of, keep, rising, never_falls};
@@ -97,11 +97,12 @@ pub struct Place {
     pub start: usize,
 }
 
-// Nothing where the fences don't rise. Each sum has its own test, so that the pass is vectorised.
-pub fn surveyed(lens: &[u32], fences: &[u32], g: u32) -> Option<Place>
+// Where the fences don't rise, how many slots are used is all that it says. Each sum has its own test, so that the pass is vectorised.
+pub fn surveyed(lens: &[u32], fences: &[u32], g: u32) -> Result<Place, usize>
     requires { (1 ≤ length lens.now) × (length lens.now ≤ block_limit) × (length fences.now ≡ length lens.now) }
-    ensures { MatchOption result (rising fences.now ≡ false) (λ s. (rising fences.now ≡ true) × (s.used ≡ sum_of lens.now)
-        × (s.target ≡ place fences.now g) × (s.start ≡ start_of lens.now (place fences.now g))) }
+    ensures { MatchResult result (λ s. (rising fences.now ≡ true) × (s.used ≡ sum_of lens.now)
+        × (s.target ≡ place fences.now g) × (s.start ≡ start_of lens.now (place fences.now g)))
+        (λ used. (rising fences.now ≡ false) × (used ≡ sum_of lens.now)) }
 {
     let mut rising = true;
     let mut used: usize = 0;
@@ -118,11 +119,12 @@ pub fn surveyed(lens: &[u32], fences: &[u32], g: u32) -> Option<Place>
             start += n;
         }
     }
+    let all = used + lens[last] as usize;
     if !rising {
-        return None;
+        return Err(all);
     }
-    Some(Place {
-        used: used + lens[last] as usize,
+    Ok(Place {
+        used: all,
         target: target as usize,
         start,
     })

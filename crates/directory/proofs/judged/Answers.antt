@@ -22,11 +22,11 @@ returns-then-not-zeros-clause-refused c =
 
 pub returns-in_default-clause-refused : goal.returns-in_default-clause-refused
 returns-in_default-clause-refused c =
-    judged_not block_limit _ _ (λ s. no_such s.rises (ap rising (sym (fences_part block_limit _ s.size s.few)) ∙ c.in_default.ensures))
+    judged_not block_limit _ _ (λ s. no_such s.rises (ap rising (sym (fences_part block_limit _ s.size s.few)) ∙ c.in_default.ensures.0))
 
 pub returns-then-c-place-clause-refused : goal.returns-then-c-place-clause-refused
 returns-then-c-place-clause-refused c =
-    judged_not block_limit _ _ (λ s. let h = s.room in omega (arith, c.in-Some.ensures.1 ∙ ap sum_of (lengths_part block_limit c.args.directory.now s.size s.few)))
+    judged_not block_limit _ _ (λ s. let h = s.room in omega (arith, c.in-Ok.ensures.1 ∙ ap sum_of (lengths_part block_limit c.args.directory.now s.size s.few)))
 
 few : (c : Else-c-place) → get_or c.args.directory.now 1 0 ≤ block_limit
 few c = omega arith
@@ -35,7 +35,7 @@ pub returns-clause-refused : goal.returns-clause-refused
 returns-clause-refused c =
     let ns = c.args.directory.now in
     let size : length ns ≡ directory_size block_limit = c.if-directory-ne-DIRECTORY_SIZE.false in
-    let s = c.in-Some.ensures in
+    let s = c.in-Ok.ensures in
     let up = of_true _ s.0 in
     let sum = s.1 ∙ ap sum_of (lengths_part block_limit ns size (few c)) in
     judged_yes block_limit c.args.c ns (record {
@@ -53,5 +53,5 @@ returns-clause-accepted c =
     let size : length ns ≡ directory_size block_limit = c.if-directory-ne-DIRECTORY_SIZE.false in
     let lens = lengths_part block_limit ns size (few c) in
     let fences = fences_part block_limit ns size (few c) in
-    let s = c.in-Some.ensures in
+    let s = c.in-Ok.ensures in
     record { used_is = s.1 ∙ ap sum_of lens; target_is = rw fences at s.2; start_is = rw (lens, fences) at s.3 }

@@ -20,7 +20,9 @@ loop-i-preserved c =
 
 pub returns-then-not-rising : goal.returns-then-not-rising
 returns-then-not-rising c =
-    sym (survey_end _ _ _ _ _ _ _ _ (omega arith) c.requires.2 c.loop-i.invariant).0 ∙ c.if-not-rising.true
+    let last : c.loop-i.i ≡ length c.args.lens.now - 1 = omega arith in
+    let e = survey_end _ _ _ _ _ _ _ _ (omega arith) c.requires.2 c.loop-i.invariant in
+    rw (← last) (sym e.0 ∙ c.if-not-rising.true, e.1)
 
 pub returns : goal.returns
 returns c =

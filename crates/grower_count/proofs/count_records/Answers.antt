@@ -1,8 +1,8 @@
--- `grower_count::count`: a full window is counted, and `lo` is past the grower of its last slot, so that fewer are left; a window that is not full holds all
+-- `grower_count::count_records`: a full window is counted, and `lo` is past the grower of its last slot, so that fewer are left; a window that is not full holds all
 -- that are left. Assumes nothing.
 use Rattle.std.proofs.Common.{arith}
 use Rattle.grower_count.proofs.Counting.{counted_none, counting_fits, counting_end, last_slot, counting_less, counting_more, counting_last}
-use Rattle.grower_count.proofs.count.Goals as goal
+use Rattle.grower_count.proofs.count_records.Goals as goal
 
 pub loop-days-init : goal.loop-days-init
 loop-days-init c = counted_none _ _
