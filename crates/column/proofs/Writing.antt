@@ -19,7 +19,7 @@ use Rattle.model.specs.Lists.{sum_of}
 use Rattle.model.specs.Refusals.{refusal_number}
 use Rattle.model.specs.Answers.{refused_ahead, answer_of}
 use Rattle.model.specs.Checks.{first_failed}
-use Rattle.model.specs.Deliveries.{Slices, Even, each_slice, storing, with_grower, in_range, day_ok, no_totals}
+use Rattle.model.specs.Deliveries.{Slices, storing, with_grower, in_range, day_ok, no_totals}
 use Rattle.model.specs.Calls.{insert, delete, move}
 use Rattle.model.specs.Partitions.{start_of, one_more, one_fewer}
 use Rattle.model.specs.Directory.{Directory, partition_count, directory_of, with_lengths}
@@ -30,8 +30,6 @@ use Rattle.model.specs.ColumnCalls.{Called, column_refusal, column_after, column
 use Rattle.model.proofs.DirectoryLaws.{Shaped, Kept, with_lengths_lem, shaped, shaped_passes, shaped_with, length_lengths}
 use Rattle.model.proofs.AccessLaws.{reads_small}
 use Rattle.model.proofs.MovesLengths.{sum-one_fewer}
-use Rattle.model.proofs.Parts.{start_le, start_rest}
-use Rattle.ripple.proofs.PutBack.{from_slot, from_even, tail_part}
 use Rattle.slices.specs.declared.Place.{Place}
 use Rattle.directory.specs.Numbers.{HasPartition}
 use Rattle.directory.proofs.LentColumns.{lent_column, has_partition, count_lengths}
@@ -117,19 +115,6 @@ module _ (L : ℕ) where
   ready c g h =
       let l = lent_column L c h in
       record { here = has_partition L c l (target L c g) (target_there L c h g); start = refl; room = l.shape.room; even = l.even }
-
-  -- a part from the start of a partition on: it begins in each slice, its slices are of one length, and it holds the records from there on
-  module _ (c : Column) (room : sum_of (lengths_of L c) ≤ length c.slices.growers) (e : Even c.slices) (m a : ℕ) (h : a ≡ start_of (lengths_of L c) m) where
-    pub part_inside : (a ≤ length c.slices.growers) × (a ≤ length c.slices.weights) × (a ≤ length c.slices.yields) × (a ≤ length c.slices.days)
-    part_inside = let k = start_le (lengths_of L c) m in let w = e.weights in let y = e.yields in let n = e.days in omega arith
-
-    pub part_even : Even (each_slice (from_slot a) c.slices)
-    part_even = from_even a c.slices e
-
-    pub part_room : (sum_of (from_slot m (lengths_of L c)) + a ≡ sum_of (lengths_of L c)) × (a ≤ sum_of (lengths_of L c))
-    part_room =
-        let k = start_rest (lengths_of L c) m in
-        (rw (tail_part m (lengths_of L c)) (omega arith), omega (arith, start_le (lengths_of L c) m))
 
   module _ (c : Column) (d : Delivery) where
     -- no insert reports what it read

@@ -186,7 +186,7 @@ fn open(directory: &[u32], slices: LentSlices<'_>, d: Delivery) -> Result<Place,
     })
 }
 
-// The slots and the length of an insert into a partition, which begins at start. The ripple is lent that partition's records and all behind them.
+// The slots and the length of an insert into a partition, which begins at start.
 fn put(
     directory: &mut [u32],
     g: &mut [u32],
@@ -203,12 +203,14 @@ fn put(
     ensures { column_out directory g w y n ≡ put_of block_limit (column_in_mut directory g w y n) partition d }
 {
     ripple::insert_slots(
-        &mut g[start..],
-        &mut w[start..],
-        &mut y[start..],
-        &mut n[start..],
-        &directory::lengths(directory)[partition..],
-        used - start,
+        g,
+        w,
+        y,
+        n,
+        directory::lengths(directory),
+        partition,
+        start,
+        used,
         d,
     );
     directory::grow(directory, partition);
@@ -236,19 +238,20 @@ fn take_out(
         day: 0,
     };
     ripple::delete_slots(
-        &mut g[start..],
-        &mut w[start..],
-        &mut y[start..],
-        &mut n[start..],
-        &directory::lengths(directory)[partition..],
+        g,
+        w,
+        y,
+        n,
+        directory::lengths(directory),
+        partition,
+        start,
         slot,
         freed,
     );
     directory::shrink(directory, partition);
 }
 
-// The slots of a move: a slot's record goes from one partition, which begins at start, to another, as d. The ripple is lent the records of the
-// earlier of the two and all behind them.
+// The slots of a move: a slot's record goes from one partition, which begins at start, to another, as d.
 fn shift_slots(
     directory: &[u32],
     g: &mut [u32],
@@ -268,27 +271,31 @@ fn shift_slots(
 {
     if from <= to {
         ripple::forward_slots(
-            &mut g[start..],
-            &mut w[start..],
-            &mut y[start..],
-            &mut n[start..],
-            &directory::lengths(directory)[from..],
+            g,
+            w,
+            y,
+            n,
+            directory::lengths(directory),
+            from,
+            start,
             slot,
-            to - from,
+            to,
             d,
         );
         return;
     }
     let first = directory::start_of(directory, to);
     ripple::backward_slots(
-        &mut g[first..],
-        &mut w[first..],
-        &mut y[first..],
-        &mut n[first..],
-        &directory::lengths(directory)[to..],
-        from - to,
-        start - first,
+        g,
+        w,
+        y,
+        n,
+        directory::lengths(directory),
+        from,
+        start,
         slot,
+        to,
+        first,
         d,
     );
 }
@@ -338,7 +345,7 @@ fn with_more(scanned: Counts, reads: u64, writes: u64) -> Counts
     }
 }
 
-// Inserts a delivery. Here and in the two calls below the slices come one by one, as the ripple is lent parts of them (01).
+// Inserts a delivery. Here and in the two calls below the slices come one by one, as the ripple cuts each (01).
 pub fn insert(
     directory: &mut [u32],
     growers: &mut [u32],

@@ -11,7 +11,7 @@ use Rattle.model.specs.Deliveries.{Slices, slices_of, Even, each_slice, storing}
 use Rattle.model.specs.Partitions.{start_of}
 use Rattle.model.specs.Moves.{inserted, deleted, moved}
 use Rattle.model.proofs.ListLaws.{sum-span, sum_cut, drop-take}
-use Rattle.model.proofs.Parts.{start_take}
+use Rattle.model.proofs.Parts.{start_rest, start_take}
 use Rattle.ripple.proofs.Compose.{inserted_from, deleted_from, forward_law, within_law, backward_law}
 
 -- the part of a list from a on, as it is lent, and the list with it put back
@@ -21,7 +21,7 @@ from_slot a s = take (length s - a) (drop a s)
 abbrev pub put_back : {A : Type 0} → ℕ → List A → List A → List A
 put_back a s l = take a s ++ (l ++ drop (length s - a) (drop a s))
 
-pub tail_part : {A : Type 0} (a : ℕ) (g : List A) → take (length g - a) (drop a g) ≡ drop a g
+tail_part : {A : Type 0} (a : ℕ) (g : List A) → take (length g - a) (drop a g) ≡ drop a g
 tail_part a g = take_all (length g - a) (drop a g) (omega (arith, length-drop a g))
 
 -- the first of the lengths from t on
@@ -46,17 +46,25 @@ span_of ns t u h k =
     let e : t + (u - t) ≡ u = omega arith in
     rw (tail_part t (take u ns), tail_part t ns) (sym (ap (λ (j : ℕ). drop t (take j ns)) e) ∙ drop-take t (u - t) ns)
 
--- the parts from a on of even slices are even
 from_length : (a : ℕ) (l : List ℕ) → length (from_slot a l) ≡ length l - a
 from_length a l = simp (length-take, length-drop) (omega arith)
 
-pub from_even : (a : ℕ) (s : Slices) → Even s → Even (each_slice (from_slot a) s)
+-- the parts from a on of even slices are even
+from_even : (a : ℕ) (s : Slices) → Even s → Even (each_slice (from_slot a) s)
 from_even a s e =
     record {
       weights = from_length a s.weights ∙ ap (λ (k : ℕ). k - a) e.weights ∙ sym (from_length a s.growers);
       yields = from_length a s.yields ∙ ap (λ (k : ℕ). k - a) e.yields ∙ sym (from_length a s.growers);
       days = from_length a s.days ∙ ap (λ (k : ℕ). k - a) e.days ∙ sym (from_length a s.growers);
     }
+
+-- what is lent from the start of partition t on: its lengths, their sum, the slots, and the slices of one length
+pub part_is : (ns : List ℕ) (t a : ℕ) (s : Slices) → a ≡ start_of ns t → Even s
+    → (length (from_slot t ns) ≡ length ns - t) × (sum_of (from_slot t ns) + a ≡ sum_of ns) × (length (from_slot a s.growers) ≡ length s.growers - a)
+    × Even (each_slice (from_slot a) s)
+part_is ns t a s e v =
+    let k = start_rest ns t in
+    (from_length t ns, rw (tail_part t ns) (omega arith), from_length a s.growers, from_even a s v)
 
 module _ {A : Type 0} where
   tail_back : (a : ℕ) (g ys : List A) → put_back a g ys ≡ take a g ++ ys

@@ -102,11 +102,11 @@ fn backward_ripple(
     insert_ripple(r, &lens[..from], start, d);
 }
 
-// The calls: what is lent of each slice begins where the first partition of lens begins, so that no slot ahead of it can be written. The four stay
-// apart, since what comes back of a part that went into a struct is not known to the borrow checker.
+// A call's parts, which begin where the first partition of lens begins. The four stay apart from the calls below, which cut the parts, since what comes
+// back of a part that went into a struct is not known to the borrow checker.
 
 // d goes past the end of the first partition of lens; end is where the last one ends.
-pub fn insert_slots(
+fn insert_part(
     growers: &mut [u32],
     weights: &mut [u32],
     yields: &mut [u32],
@@ -128,7 +128,7 @@ pub fn insert_slots(
 }
 
 // A slot of the first partition of lens goes, and the freed slot gets the numbers of d.
-pub fn delete_slots(
+fn delete_part(
     growers: &mut [u32],
     weights: &mut [u32],
     yields: &mut [u32],
@@ -151,7 +151,7 @@ pub fn delete_slots(
 }
 
 // A slot's record goes from the first partition of lens to another, or stays in it, as d.
-pub fn forward_slots(
+fn forward_part(
     growers: &mut [u32],
     weights: &mut [u32],
     yields: &mut [u32],
@@ -175,7 +175,7 @@ pub fn forward_slots(
 }
 
 // A slot's record goes from a later partition, which begins at start, to the first of lens, as d.
-pub fn backward_slots(
+fn backward_part(
     growers: &mut [u32],
     weights: &mut [u32],
     yields: &mut [u32],
@@ -197,4 +197,124 @@ pub fn backward_slots(
         days,
     };
     backward_ripple(&mut r, lens, from, start, slot, d);
+}
+
+// The calls: each cuts the four slices once, where the first partition that changes begins, so that no slot ahead of it can be written.
+
+// The delivery goes into a partition, which begins at start; used is where the last one ends.
+#[tactic(auto, using(model::proofs::Parts::start_le))]
+pub fn insert_slots(
+    growers: &mut [u32],
+    weights: &mut [u32],
+    yields: &mut [u32],
+    days: &mut [u32],
+    lens: &[u32],
+    partition: usize,
+    start: usize,
+    used: usize,
+    d: Delivery,
+)
+    requires { (partition < length lens.now) × (start ≡ start_of lens.now partition) × (used ≡ sum_of lens.now) × (used < length growers.old)
+        × Even (slices_at_mut growers weights yields days) }
+    ensures { slices_out growers weights yields days ≡ storing (inserted lens.now partition) d (slices_in_mut growers weights yields days) }
+{
+    insert_part(
+        &mut growers[start..],
+        &mut weights[start..],
+        &mut yields[start..],
+        &mut days[start..],
+        &lens[partition..],
+        used - start,
+        d,
+    );
+}
+
+// A slot of a partition, which begins at start, goes, and the freed slot gets the numbers of d.
+#[tactic(auto, using(model::proofs::Parts::start_le))]
+pub fn delete_slots(
+    growers: &mut [u32],
+    weights: &mut [u32],
+    yields: &mut [u32],
+    days: &mut [u32],
+    lens: &[u32],
+    partition: usize,
+    start: usize,
+    slot: usize,
+    d: Delivery,
+)
+    requires { (partition < length lens.now) × (start ≡ start_of lens.now partition) × (slot < get_or lens.now partition 0)
+        × (sum_of lens.now ≤ length growers.old) × Even (slices_at_mut growers weights yields days) }
+    ensures { slices_out growers weights yields days ≡ storing (deleted lens.now partition slot) d (slices_in_mut growers weights yields days) }
+{
+    delete_part(
+        &mut growers[start..],
+        &mut weights[start..],
+        &mut yields[start..],
+        &mut days[start..],
+        &lens[partition..],
+        slot,
+        d,
+    );
+}
+
+// A slot's record goes from one partition to another, no earlier one, as d.
+#[tactic(auto, using(model::proofs::Parts::start_le))]
+pub fn forward_slots(
+    growers: &mut [u32],
+    weights: &mut [u32],
+    yields: &mut [u32],
+    days: &mut [u32],
+    lens: &[u32],
+    from: usize,
+    from_start: usize,
+    slot: usize,
+    to: usize,
+    d: Delivery,
+)
+    requires { (from ≤ to) × (to < length lens.now) × (from_start ≡ start_of lens.now from) × (slot < get_or lens.now from 0)
+        × (sum_of lens.now ≤ length growers.old) × Even (slices_at_mut growers weights yields days) }
+    ensures { slices_out growers weights yields days ≡ storing (moved lens.now from slot to) d (slices_in_mut growers weights yields days) }
+{
+    forward_part(
+        &mut growers[from_start..],
+        &mut weights[from_start..],
+        &mut yields[from_start..],
+        &mut days[from_start..],
+        &lens[from..],
+        slot,
+        to - from,
+        d,
+    );
+}
+
+// A slot's record goes from one partition to an earlier one, as d.
+#[tactic(auto, using(model::proofs::Parts::start_le))]
+pub fn backward_slots(
+    growers: &mut [u32],
+    weights: &mut [u32],
+    yields: &mut [u32],
+    days: &mut [u32],
+    lens: &[u32],
+    from: usize,
+    from_start: usize,
+    slot: usize,
+    to: usize,
+    to_start: usize,
+    d: Delivery,
+)
+    requires { (to < from) × (from < length lens.now) × (from_start ≡ start_of lens.now from) × (to_start ≡ start_of lens.now to)
+        × (slot < get_or lens.now from 0) × (sum_of lens.now ≤ length growers.old) × Even (slices_at_mut growers weights yields days) }
+    ensures { slices_out growers weights yields days ≡ storing (moved lens.now from slot to) d (slices_in_mut growers weights yields days) }
+{
+    backward_part(
+        &mut growers[to_start..],
+        &mut weights[to_start..],
+        &mut yields[to_start..],
+        &mut days[to_start..],
+        &lens[to..],
+        from - to,
+        from_start - to_start,
+        slot,
+        d,
+    );
 }
