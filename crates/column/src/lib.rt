@@ -42,7 +42,9 @@ fn last_scanned(directory: &[u32], from: usize, lo: u32, hi: u32) -> usize
     directory::partition_of(directory, hi)
 }
 
-// The records of the growers lo to hi on the days first to last, all four included; if last is earlier than first, none.
+// The records of the growers lo to hi on the days first to last, all four included; if last is earlier than first, none. The three reads are laid
+// out in their callers, so that a report is made in place.
+#[inline(always)]
 pub fn range_days(
     directory: &[u32],
     slices: LentSlices<'_>,
@@ -74,6 +76,7 @@ pub fn range_days(
 }
 
 // The records of the growers lo to hi, both included, on any day.
+#[inline(always)]
 pub fn range(directory: &[u32], slices: LentSlices<'_>, lo: u32, hi: u32) -> Result<Report, Refused>
     ensures { answer_of result ≡ (column_call block_limit (column_given directory.now slices.entry) (range lo hi)).answer }
 {
@@ -85,6 +88,7 @@ pub fn range(directory: &[u32], slices: LentSlices<'_>, lo: u32, hi: u32) -> Res
 }
 
 // The records of one grower.
+#[inline(always)]
 pub fn find(directory: &[u32], slices: LentSlices<'_>, grower: u32) -> Result<Report, Refused>
     ensures { answer_of result ≡ (column_call block_limit (column_given directory.now slices.entry) (find grower)).answer }
 {

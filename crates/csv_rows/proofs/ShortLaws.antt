@@ -19,16 +19,16 @@ record Ordered (c : Columns) : Type 0 where
   pub weight : c.weight ≡ 1
   pub oil : c.oil_yield ≡ 2
 
-ordered : (c : Columns) → in_order c ≡ true → Ordered c
-ordered c e = record { counted = grind arith; grower = grind arith; weight = grind arith; oil = grind arith }
+ordered : (c : Columns) → c.count ≡ 3 → in_order c ≡ true → Ordered c
+ordered c k e = record { counted = k; grower = grind arith; weight = grind arith; oil = grind arith }
 
 module _ {text : List ℕ} {at g w y p q n : ℕ} (c : Columns) (h : at ≤ length text)
     (a : CellAt text at (Some g) true p) (b : CellAt text p (Some w) true q) (e : CellAt text q (Some y) false n) where
   abbrev three : ℕ → Record
   three count = record { count = count; picks = record { grower = Some g; weight = Some w; oil_yield = Some y }; next = n }
 
-  pub short_three : in_order c ≡ true → ShortRecordIs text at c (Some (three c.count))
-  short_three i = record { is = go (ordered c i) }
+  pub short_three : c.count ≡ 3 → in_order c ≡ true → ShortRecordIs text at c (Some (three c.count))
+  short_three k i = record { is = go (ordered c k i) }
     where
       go : Ordered c → RecordIs text at c (Some (three c.count))
       go o =

@@ -70,9 +70,9 @@ RecordByCase text at c None = take_record (drop at text) ≡ none
 pub record RecordIs (text : List ℕ) (at : ℕ) (c : Columns) (r : Option Record) : Type 0 where
   pub is : RecordByCase text at c r
 
--- the columns of an export, in its order
+-- the three columns are the first, in the order of an export
 abbrev pub in_order : Columns → Bool
-in_order c = eqb c.count 3 && eqb c.grower 0 && eqb c.weight 1 && eqb c.oil_yield 2
+in_order c = eqb c.grower 0 && eqb c.weight 1 && eqb c.oil_yield 2
 
 -- a record of three numbers; nothing is said of anything else
 abbrev pub ShortRecordByCase : List ℕ → ℕ → Columns → Option Record → Type 0

@@ -122,11 +122,11 @@ fn any_record(text: &[u8], at: usize, c: Columns) -> Option<Record>
     }
 }
 
-// Whether the columns are an export's own, in its order.
+// Whether the three columns are the first, in the order of an export.
 fn in_order(c: Columns) -> bool
     ensures { result ≡ in_order c }
 {
-    c.count == 3 && c.grower == 0 && c.weight == 1 && c.oil_yield == 2
+    c.grower == 0 && c.weight == 1 && c.oil_yield == 2
 }
 
 // A record of three short numbers where the columns are an export's own, as an export writes it; none for any other. Its count is taken from
@@ -135,7 +135,7 @@ fn short_record(text: &[u8], at: usize, c: Columns) -> Option<Record>
     requires { at ≤ length text.now }
     ensures { ShortRecordIs text.now at c result }
 {
-    if !in_order(c) {
+    if c.count != 3 || !in_order(c) {
         return None;
     }
     let grower = csv_fields::short_before_comma(text, at, GROWER_DIGITS)?;

@@ -11,7 +11,8 @@ ghost use Rattle.sets.specs.Sized.{Sized};
 
 use model::Records;
 
-// A set that has passed checks 2 to 5: its block length, how many slots are used, and the records of all slots.
+// A set that has passed checks 2 to 5: its block length, how many slots are used, and the records of all slots. What it keeps of these checks is
+// the sizes that they let through.
 #[derive(Clone, Copy)]
 pub struct CheckedSet<'a> {
     pub block: u32,
