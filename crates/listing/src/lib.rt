@@ -60,13 +60,8 @@ fn check_listing(
     }
     let rules = rules_of(card, limits, n);
     let mut fits = [false; MOST_LISTED_BLOCKS];
-    permitted::mark(
-        checked.block,
-        checked.used,
-        checked.records.growers,
-        n,
-        &mut fits[..],
-    );
+    let growers = checked.records.growers;
+    permitted::mark(checked.block, checked.used, growers, n, &mut fits[..]);
     let choices = Choices {
         fits: &fits[..],
         rules,

@@ -80,13 +80,8 @@ pub fn plan(
     let mut fits = [false; BLOCK_LIMIT];
     let counts = PricedCounts { card, histograms };
     counts.add_up(n, &mut sums[..]);
-    permitted::mark(
-        checked.block,
-        checked.used,
-        checked.records.growers,
-        n,
-        &mut fits[..],
-    );
+    let growers = checked.records.growers;
+    permitted::mark(checked.block, checked.used, growers, n, &mut fits[..]);
     let task = Task {
         sums: Sums {
             places: &sums[..],
