@@ -84,14 +84,15 @@ pub fn spelled_at(text: &[u8], at: usize) -> u32
     v as u32
 }
 
-// Bytes at a cursor: where the text goes on.
+// Bytes at a cursor: where the text goes on. A loop becomes memcpy and `copy_from_slice` memmove, and the archive for C needs memcpy and memset alone.
 pub fn put_bytes(text: &mut [u8], at: usize, bytes: &[u8]) -> usize
     requires { at + length bytes.now ≤ length text.old }
     ensures { Wrote text.old at bytes.now text.new result }
 {
-    let e = at + bytes.len();
-    text[at..e].copy_from_slice(bytes);
-    e
+    for (i, &byte) in bytes.iter().enumerate() {
+        text[at + i] = byte;
+    }
+    at + bytes.len()
 }
 
 // A number right-justified in columns from a cursor, the sign just before its first digit.

@@ -83,9 +83,9 @@ fn choose(sums: Sums, a: usize, i: usize, k: usize, number: u64, row: &mut [u8])
 
 impl<'a> Choices<'a> {
     // Whether k chosen ends can go on: there may be one more, and the blocks a ..= i are no longer than a partition may be.
-    fn goes_on(self, k: usize, a: usize, i: usize) -> bool
+    fn goes_on(&self, k: usize, a: usize, i: usize) -> bool
         requires { (a ≤ i) × (i < 12) }
-        ensures { result ≡ ltb k self.entry.rules.most && leb (i + 1 - a) self.entry.rules.longest }
+        ensures { result ≡ ltb k self.now.rules.most && leb (i + 1 - a) self.now.rules.longest }
     {
         k < self.rules.most && i + 1 - a <= self.rules.longest
     }
@@ -96,6 +96,15 @@ impl<'a> Choices<'a> {
         ensures { LinesSize result.layouts result.bytes k
             (rests (ok_by self.entry.fits.now self.entry.rules.longest) self.entry.rules.most self.entry.rules.blocks k a i) }
     {
+        self.size_from(k, a, i)
+    }
+
+    // The recursion of `size_rest`. It borrows the choices, as `put_rest` does: a copy of them in each frame would take most of the stack.
+    fn size_from(&self, k: usize, a: usize, i: usize) -> Size
+        requires { Choosing self.now.rules.blocks k a i }
+        ensures { LinesSize result.layouts result.bytes k
+            (rests (ok_by self.now.fits.now self.now.rules.longest) self.now.rules.most self.now.rules.blocks k a i) }
+    {
         if !self.goes_on(k, a, i) {
             return Size::default();
         }
@@ -103,13 +112,13 @@ impl<'a> Choices<'a> {
             if i + 1 == self.rules.blocks {
                 return Size::default();
             }
-            return self.size_rest(k, a, i + 1);
+            return self.size_from(k, a, i + 1);
         }
         if i + 1 == self.rules.blocks {
             return Size::of_one(k + 1);
         }
-        let here = self.size_rest(k + 1, i + 1, i + 1);
-        let later = self.size_rest(k, a, i + 1);
+        let here = self.size_from(k + 1, i + 1, i + 1);
+        let later = self.size_from(k, a, i + 1);
         Size {
             layouts: here.layouts + later.layouts,
             bytes: here.bytes + later.bytes,
@@ -119,8 +128,8 @@ impl<'a> Choices<'a> {
     // The lines of the layouts that k chosen ends can go on to, at a byte of the text: the next partition begins at block a, its end is i or later. The
     // fields of the chosen ends are in front of the row, `number` is BASE and their part of the cost. Where the text goes on.
     fn put_rest(
-        self,
-        sums: Sums,
+        &self,
+        sums: &Sums,
         k: usize,
         a: usize,
         i: usize,
@@ -129,12 +138,12 @@ impl<'a> Choices<'a> {
         text: &mut [u8],
         at: usize,
     ) -> usize
-        requires blocks { self.rules.blocks ≤ sums.blocks }
-        requires choosing { Choosing self.rules.blocks k a i × Carrying k number row.old }
-        requires room { at + length (lines_after sums.places.now k a number (take (11 * k) row.old)
-            (rests (ok_by self.fits.now self.rules.longest) self.rules.most self.rules.blocks k a i)) ≤ length text.old }
-        ensures { PutLines sums.entry.places.now k a number
-            (rests (ok_by self.entry.fits.now self.entry.rules.longest) self.entry.rules.most self.entry.rules.blocks k a i)
+        requires blocks { self.now.rules.blocks ≤ sums.now.blocks }
+        requires choosing { Choosing self.now.rules.blocks k a i × Carrying k number row.old }
+        requires room { at + length (lines_after sums.now.places.now k a number (take (11 * k) row.old)
+            (rests (ok_by self.now.fits.now self.now.rules.longest) self.now.rules.most self.now.rules.blocks k a i)) ≤ length text.old }
+        ensures { PutLines sums.now.places.now k a number
+            (rests (ok_by self.now.fits.now self.now.rules.longest) self.now.rules.most self.now.rules.blocks k a i)
             row.old text.old at row.new text.new result }
     {
         if !self.goes_on(k, a, i) {
@@ -146,7 +155,7 @@ impl<'a> Choices<'a> {
             }
             return self.put_rest(sums, k, a, i + 1, number, row, text, at);
         }
-        let next = choose(sums, a, i, k, number, row);
+        let next = choose(*sums, a, i, k, number, row);
         if i + 1 == self.rules.blocks {
             return put_line(text, at, k + 1, next, row);
         }
@@ -163,6 +172,6 @@ impl<'a> Choices<'a> {
             (rests (ok_by self.entry.fits.now self.entry.rules.longest) self.entry.rules.most self.entry.rules.blocks 0 0 0)) text.old }
     {
         let mut row = [0u8; ROW];
-        self.put_rest(sums, 0, 0, 0, BASE, &mut row[..], text, 0);
+        self.put_rest(&sums, 0, 0, 0, BASE, &mut row[..], text, 0);
     }
 }

@@ -3,4 +3,4 @@ use Rattle.std.proofs.Common.{◌-◌}
 use Rattle.layout_lines.proofs.Choices.+put_rest.Given as goal
 
 abbrev pub decreases-put_rest : goal.decreases-put_rest
-decreases-put_rest l = l.self.rules.blocks - l.i
+decreases-put_rest l = l.self.now.rules.blocks - l.i
