@@ -1,5 +1,5 @@
 -- `histograms::counts_ok`: the length is tested first, and then each count.
-use Rattle.std.proofs.Common.{length, ◌∙◌}
+use Rattle.std.proofs.Common.{◌∙◌}
 use borrow.Author.Tests.{ne_eqb}
 use Rattle.model.specs.Bounds.{block_limit}
 use Rattle.histograms.proofs.Counts.{counts_other, counts_all}
@@ -9,4 +9,4 @@ pub returns-then-h-eq-HISTOGRAMS_SIZE : goal.returns-then-h-eq-HISTOGRAMS_SIZE
 returns-then-h-eq-HISTOGRAMS_SIZE c = c.within.ensures ∙ counts_all block_limit _ c.if-h-eq-HISTOGRAMS_SIZE.true
 
 pub returns-else-h-eq-HISTOGRAMS_SIZE : goal.returns-else-h-eq-HISTOGRAMS_SIZE
-returns-else-h-eq-HISTOGRAMS_SIZE c = let f = c.if-h-eq-HISTOGRAMS_SIZE.false in ne_eqb (length c.args.h.now) 640 f ∙ counts_other block_limit _ f
+returns-else-h-eq-HISTOGRAMS_SIZE c = let f = c.if-h-eq-HISTOGRAMS_SIZE.false in ne_eqb _ _ f ∙ counts_other block_limit _ f
