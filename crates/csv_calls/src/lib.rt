@@ -48,6 +48,7 @@ struct Checked {
 }
 
 // Whether a field is a name. One with a doubled quote is none, as no name holds a quote.
+#[tactic(auto, using(crate::proofs::NameLaws::same_is, crate::proofs::NameLaws::plain_name, crate::proofs::NameLaws::doubled_no_name))]
 fn is_name(text: &[u8], field: Field, name: &[u8]) -> bool
     requires { (field.from ≤ field.to) × (field.to ≤ length text.now) × (holds_quote name.now ≡ false) }
     ensures { IsName text.now field.from field.to field.clean name.now result }
