@@ -21,7 +21,7 @@ from_slot a s = take (length s - a) (drop a s)
 abbrev pub put_back : {A : Type 0} → ℕ → List A → List A → List A
 put_back a s l = take a s ++ (l ++ drop (length s - a) (drop a s))
 
-tail_part : {A : Type 0} (a : ℕ) (g : List A) → take (length g - a) (drop a g) ≡ drop a g
+pub tail_part : {A : Type 0} (a : ℕ) (g : List A) → take (length g - a) (drop a g) ≡ drop a g
 tail_part a g = take_all (length g - a) (drop a g) (omega (arith, length-drop a g))
 
 -- the first of the lengths from t on
@@ -50,7 +50,7 @@ from_length : (a : ℕ) (l : List ℕ) → length (from_slot a l) ≡ length l -
 from_length a l = simp (length-take, length-drop) (omega arith)
 
 -- the parts from a on of even slices are even
-from_even : (a : ℕ) (s : Slices) → Even s → Even (each_slice (from_slot a) s)
+pub from_even : (a : ℕ) (s : Slices) → Even s → Even (each_slice (from_slot a) s)
 from_even a s e =
     record {
       weights = from_length a s.weights ∙ ap (λ (k : ℕ). k - a) e.weights ∙ sym (from_length a s.growers);
